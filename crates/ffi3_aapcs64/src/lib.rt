@@ -11,9 +11,9 @@ ghost use Rattle.ffi3_types.specs.TreeOf.{tree_of};
 ghost use Rattle.ffi3_place_rules.specs.Standard.{Spot, plan_of, result_at};
 ghost use Rattle.ffi3_place_rules.specs.Doublewords.{doublewords};
 ghost use Rattle.ffi3_aapcs64_rules.specs.Aapcs64.{aapcs64, is_member, homogeneous, in_vectors, is_copied, passed, registers_needed, stack_size, first_general, stack_start, member_pieces, general_pieces, register_pieces, register_spot, stack_spot, register_start, register_end, in_registers, stack_end, taken_with, taken_after, untouched, spot_after, spots_after, result_from, result_spot_of};
-ghost use Rattle.ffi3_aapcs64_rules.specs.Ends.{IsPlacedByEnds};
-ghost use Rattle.ffi3_place_rules.specs.Alike.{GoesByLayout};
 ghost use Rattle.ffi3_place.specs.WithoutCopy.{without_copy};
+
+pub mod laws;
 
 pub use ffi3_aapcs64_rules::Kind;
 use ffi3_place::ends::{buffer_end, lay_copies, planned, start};
@@ -22,6 +22,7 @@ use ffi3_place::{Abi, Ext, Loc, Pieces, Place, Places, Plan, Res, SaveWord};
 use ffi3_place_rules::Taken;
 use ffi3_type_rules::round_up;
 use ffi3_types::{CheckedSig, CheckedType, FfiType, Fields, NoMemory, Sig, Target};
+pub use laws::placement_laws;
 use std::alloc::Global;
 use std::marker::Model;
 
@@ -573,12 +574,6 @@ fn place_result(alloc: Global, sig: &CheckedSig<'_>, end: u64) -> Result<Res, No
 }
 
 // ---- the standard
-
-/// Does nothing. Its contract says where everything stands in a call of the signature, by where the arguments before each end: an argument is in registers exactly where its own end at 8 or before, its first register and its first byte on the stack are the next behind such ends, and so are the places of copies and buffer. No other placing agrees with the ends. And that structs of equal layout are placed alike, as one with an array and one with its elements there.
-pub fn placement_laws(_sig: &Sig)
-    ensures ends { IsPlacedByEnds _sig.now }
-    ensures by_layout { GoesByLayout aapcs64 }
-{}
 
 /// The callee-saved general registers: x19 to x29.
 const SAVED_GENERAL: [Loc; 11] = [

@@ -20,7 +20,7 @@ use Rattle.ffi3_place_rules.proofs.Doublewords.{widening_suits, leaf_is_piece, d
 use Rattle.ffi3_place_rules.proofs.Filled.{doublewords_filled}
 use Rattle.ffi3_aapcs64_rules.specs.declared.Kind.{Kind}
 use Rattle.ffi3_aapcs64_rules.specs.declared.Kind.TheVariants.{Float, Double}
-use Rattle.ffi3_aapcs64_rules.specs.Aapcs64.{aapcs64, kind_of, is_kind, is_member, is_struct, in_vectors, is_copied, passed, registers_needed, first_general, member_pieces, general_pieces, register_pieces, register_spot, stack_spot, register_start, stack_start, in_registers, spot_after, spots_after, taken_with, untouched}
+use Rattle.ffi3_aapcs64_rules.specs.Aapcs64.{aapcs64, kind_of, is_kind, is_member, is_composite, in_vectors, is_copied, passed, registers_needed, first_general, member_pieces, general_pieces, register_pieces, register_spot, stack_spot, register_start, stack_start, in_registers, spot_after, spots_after, taken_with, untouched}
 
 -- ---- members fit a register
 
@@ -167,7 +167,7 @@ arguments_filled start end before (t ∷ ts) =
 -- what is copied is not homogeneous
 pub copied_not_vectors : (t : Tree) → is_copied t ≡ true → in_vectors t ≡ false
 copied_not_vectors t e =
-    not_true (in_vectors t) (and_left (not (in_vectors t)) (ltb 16 (size_of t)) (and_right (is_struct t) _ e))
+    not_true (in_vectors t) (and_left (not (in_vectors t)) (ltb 16 (size_of t)) (and_right (is_composite t) _ e))
 
 few_members_if : (n : ℕ) (b : Bool) (some : Option (Kind × ℕ)) → (ltb 0 n && leb n 4) ≡ b → is_some (cond b some None) ≡ true → n ≤ 4
 few_members_if n true some e h = leb-true n 4 (and_right (ltb 0 n) (leb n 4) e)

@@ -68,11 +68,11 @@ abbrev pub homogeneous : Tree → Option (Kind × ℕ)
 homogeneous (structure ts) = homogeneous_members (leaves_of (structure ts))
 homogeneous _ = None
 
--- structs; also whole arrays, which are neither arguments nor results, so that this says nothing of a call
-abbrev pub is_struct : Tree → Bool
-is_struct (structure ts) = true
-is_struct (array ts n) = true
-is_struct _ = false
+-- composite types: structs, and arrays, which are neither arguments nor results by themselves
+abbrev pub is_composite : Tree → Bool
+is_composite (structure ts) = true
+is_composite (array ts n) = true
+is_composite _ = false
 
 -- ---- stage B: what is passed
 
@@ -83,7 +83,7 @@ in_vectors t = is_some (homogeneous t)
 
 -- B.4: any other composite larger than 16 bytes is copied by the caller, and replaced by a pointer to the copy
 abbrev pub is_copied : Tree → Bool
-is_copied t = is_struct t && (not (in_vectors t) && nat_lt 16 (size_of t))
+is_copied t = is_composite t && (not (in_vectors t) && nat_lt 16 (size_of t))
 
 -- the argument after stage B
 abbrev pub passed : Tree → Tree

@@ -11,10 +11,10 @@ ghost use Rattle.ffi3_types.specs.TreeOf.{tree_of};
 ghost use Rattle.ffi3_place_rules.specs.Standard.{places_from, plan_of, result_at};
 ghost use Rattle.ffi3_amd64_rules.specs.declared.Class.{Class};
 ghost use Rattle.ffi3_amd64_rules.specs.declared.Class.TheVariants.{Integer, Sse};
-ghost use Rattle.ffi3_amd64_rules.specs.Amd64.{amd64, is_integer_leaf_in, is_integer_class, is_sse_class, is_struct, class_of, in_memory, integers, sses, register_pieces, classes, in_registers, stack_start, argument_pieces, taken_with, taken_after, taken_at_first, spots_after, result_spot_of};
+ghost use Rattle.ffi3_amd64_rules.specs.Amd64.{amd64, is_integer_leaf_in, is_integer_class, is_sse_class, is_aggregate, class_of, in_memory, integers, sses, register_pieces, classes, in_registers, stack_start, argument_pieces, taken_with, taken_after, taken_at_first, spots_after, result_spot_of};
 ghost use Rattle.ffi3_amd64.specs.Classes.{class_list, is_memory, one_if, register_at};
-ghost use Rattle.ffi3_amd64_rules.specs.Ends.{IsPlacedByEnds};
-ghost use Rattle.ffi3_place_rules.specs.Alike.{GoesByLayout};
+
+pub mod laws;
 
 pub use ffi3_amd64_rules::Class;
 use ffi3_place::ends::{buffer_end, planned, start};
@@ -23,6 +23,7 @@ use ffi3_place::{Abi, Loc, Pieces, Place, Places, Plan, Res, SaveWord};
 use ffi3_place_rules::Taken;
 use ffi3_type_rules::round_up;
 use ffi3_types::{CheckedSig, CheckedType, FfiType, NoMemory, Sig, Target};
+pub use laws::placement_laws;
 use std::alloc::Global;
 
 /// Whether leaf `i` is an integer or a pointer with a byte in the eightbyte.
@@ -163,7 +164,7 @@ fn class_from(has_integer: bool) -> Class
 }
 
 fn classes_of_struct(ty: &CheckedType<'_>) -> Classes
-    requires { is_struct ty.now ≡ true }
+    requires { is_aggregate ty.now ≡ true }
     ensures memory { is_memory result ≡ in_memory ty.now }
     ensures all { class_list result ≡ classes ty.now }
 {
@@ -409,12 +410,6 @@ fn place_result(
     let pieces = register_pieces(alloc, ty, found, 0, 0, &RESULT_REGISTERS)?;
     Ok(Res::Direct(pieces))
 }
-
-/// Does nothing. Its contract says by sums over all arguments which of them are in registers, and by where those before each end where arguments on the stack, copies, the buffer of a hidden result and the frame's end are; and that no other choice of arguments in registers agrees with the sums. (psABI AMD64 3.2.3) And that structs of equal layout are placed alike, as one with an array and one with its elements there.
-pub fn placement_laws(_sig: &Sig)
-    ensures ends { IsPlacedByEnds _sig.now }
-    ensures by_layout { GoesByLayout amd64 }
-{}
 
 /// The System V AMD64 calling standard. (psABI AMD64 3.2)
 pub struct Amd64;

@@ -14,7 +14,7 @@ use Rattle.ffi3_place_rules.specs.Alike.{AreAlike, same_type, same_layout, AllAl
 use Rattle.ffi3_place_rules.proofs.Alike.{plan_alike, size_alike, start_alike}
 use Rattle.ffi3_amd64_rules.specs.declared.Class.{Class}
 use Rattle.ffi3_amd64_rules.specs.declared.Class.TheVariants.{Integer, Sse}
-use Rattle.ffi3_amd64_rules.specs.Amd64.{is_integer_class, is_sse_class, is_integer_leaf_in, class_of, in_memory, classes_from, classes, integers, sses, argument_register, result_register, register_of, register_pieces, in_registers, stack_start, stack_end, taken_with, argument_pieces, spot_after, spots_after, taken_after, taken_at_first, result_spot_of, placing_of, amd64}
+use Rattle.ffi3_amd64_rules.specs.Amd64.{is_integer_class, is_sse_class, is_integer_leaf_in, class_of, in_memory, classes_from, classes, integers, sses, general_argument, result_register, register_of, register_pieces, in_registers, stack_start, stack_end, taken_with, argument_pieces, spot_after, spots_after, taken_after, taken_at_first, result_spot_of, placing_of, amd64}
 
 -- ---- structs
 
@@ -56,9 +56,9 @@ record ShowsTheSame (t u : Tree) : Type 0 where
 
 struct_result_alike : (ts us : Trees) → layout (structure ts) ≡ layout (structure us) → result_spot_of (structure ts) ≡ result_spot_of (structure us)
 struct_result_alike ts us e =
-    ap (λ b. cond b (in_buffer (G (argument_register 0))) (in_result_pieces (register_pieces result_register 0 0 (structure ts) [] (classes (structure ts))))) (struct_memory_alike ts us e)
-    ∙ ap (λ cs. cond (in_memory (structure us)) (in_buffer (G (argument_register 0))) (in_result_pieces (register_pieces result_register 0 0 (structure ts) [] cs))) (struct_classes_alike ts us e)
-    ∙ ap (λ ps. cond (in_memory (structure us)) (in_buffer (G (argument_register 0))) (in_result_pieces ps)) (struct_pieces_alike ts us e result_register 0 0 [] (classes (structure us)))
+    ap (λ b. cond b (in_buffer (G (general_argument 0))) (in_result_pieces (register_pieces result_register 0 0 (structure ts) [] (classes (structure ts))))) (struct_memory_alike ts us e)
+    ∙ ap (λ cs. cond (in_memory (structure us)) (in_buffer (G (general_argument 0))) (in_result_pieces (register_pieces result_register 0 0 (structure ts) [] cs))) (struct_classes_alike ts us e)
+    ∙ ap (λ ps. cond (in_memory (structure us)) (in_buffer (G (general_argument 0))) (in_result_pieces ps)) (struct_pieces_alike ts us e result_register 0 0 [] (classes (structure us)))
 
 shows : (t u : Tree) → AreAlike t u → ShowsTheSame t u
 shows t u same_type = record {
@@ -100,11 +100,11 @@ module _ (t u : Tree) (h : ShowsTheSame t u) (before : Taken) where
 
   pieces_alike : argument_pieces before t ≡ argument_pieces before u
   pieces_alike =
-      ap (λ b. cond b (register_pieces argument_register before.general before.vector t [] (classes t)) (stack_pieces (stack_start before.stack t) t)) registers_alike
-      ∙ ap (λ cs. cond (in_registers before u) (register_pieces argument_register before.general before.vector t [] cs) (stack_pieces (stack_start before.stack t) t)) h.word_classes
-      ∙ ap (λ ps. cond (in_registers before u) ps (stack_pieces (stack_start before.stack t) t)) (h.pieces argument_register before.general before.vector (classes u))
-      ∙ ap (λ n. cond (in_registers before u) (register_pieces argument_register before.general before.vector u [] (classes u)) (stack_pieces n t)) (h.begins before.stack)
-      ∙ ap (λ ps. cond (in_registers before u) (register_pieces argument_register before.general before.vector u [] (classes u)) ps) (h.stack (stack_start before.stack u))
+      ap (λ b. cond b (register_pieces general_argument before.general before.vector t [] (classes t)) (stack_pieces (stack_start before.stack t) t)) registers_alike
+      ∙ ap (λ cs. cond (in_registers before u) (register_pieces general_argument before.general before.vector t [] cs) (stack_pieces (stack_start before.stack t) t)) h.word_classes
+      ∙ ap (λ ps. cond (in_registers before u) ps (stack_pieces (stack_start before.stack t) t)) (h.pieces general_argument before.general before.vector (classes u))
+      ∙ ap (λ n. cond (in_registers before u) (register_pieces general_argument before.general before.vector u [] (classes u)) (stack_pieces n t)) (h.begins before.stack)
+      ∙ ap (λ ps. cond (in_registers before u) (register_pieces general_argument before.general before.vector u [] (classes u)) ps) (h.stack (stack_start before.stack u))
 
   spot_alike : spot_after before t ≡ spot_after before u
   spot_alike = ap in_pieces pieces_alike

@@ -16,7 +16,7 @@ use Rattle.ffi3_place_rules.proofs.Tests.{and_left, and_right, not_true}
 use Rattle.ffi3_place_rules.proofs.Covered.{covers_leaves, any_later}
 use Rattle.ffi3_place_rules.proofs.Doublewords.{widening_suits, doubleword_is_piece, stack_has_all}
 use Rattle.ffi3_amd64_rules.specs.declared.Class.{Class}
-use Rattle.ffi3_amd64_rules.specs.Amd64.{is_integer_class, is_sse_class, classes, classes_from, eightbytes, integers, sses, in_memory, argument_register, register_pieces, in_registers, stack_start, taken_with, argument_pieces, spots_after}
+use Rattle.ffi3_amd64_rules.specs.Amd64.{is_integer_class, is_sse_class, classes, classes_from, eightbytes, integers, sses, in_memory, general_argument, register_pieces, in_registers, stack_start, taken_with, argument_pieces, spots_after}
 
 module _ (general : ℕ → ℕ) (g f : ℕ) (t : Tree) where
   registers_carry : (o : ℕ) (earlier cs : List Class) → 8 * length earlier ≤ o → o < 8 * (length earlier + length cs) → o < size_of t → Any (Carries o) (register_pieces general g f t earlier cs)
@@ -78,8 +78,8 @@ fits_registers a t e =
 
 -- ---- arguments
 
-has_all_if : (a : Taken) (t : Tree) (b : Bool) → in_registers a t ≡ b → HaveAll t (cond b (register_pieces argument_register a.general a.vector t [] (classes t)) (stack_pieces (stack_start a.stack t) t))
-has_all_if a t true e = registers_have_all argument_register a.general a.vector t (classes t) (classes_when t (not_in_memory a t e))
+has_all_if : (a : Taken) (t : Tree) (b : Bool) → in_registers a t ≡ b → HaveAll t (cond b (register_pieces general_argument a.general a.vector t [] (classes t)) (stack_pieces (stack_start a.stack t) t))
+has_all_if a t true e = registers_have_all general_argument a.general a.vector t (classes t) (classes_when t (not_in_memory a t e))
 has_all_if a t false e = stack_has_all (stack_start a.stack t) t
 
 pub argument_has_all : (a : Taken) (t : Tree) → HaveAll t (argument_pieces a t)

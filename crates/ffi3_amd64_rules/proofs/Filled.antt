@@ -11,7 +11,7 @@ use Rattle.ffi3_place_rules.specs.Doublewords.{doublewords, widening, stack_piec
 use Rattle.ffi3_place_rules.specs.Sound.{is_narrow_integer, is_floating_place, IsFilled, PlacesAreFilled, ResultIsFilled}
 use Rattle.ffi3_place_rules.proofs.Filled.{doublewords_filled}
 use Rattle.ffi3_amd64_rules.specs.declared.Class.{Class}
-use Rattle.ffi3_amd64_rules.specs.Amd64.{in_memory, amd64, classes, argument_register, result_register, register_pieces, in_registers, stack_start, taken_with, spots_after, result_spot_of}
+use Rattle.ffi3_amd64_rules.specs.Amd64.{in_memory, amd64, classes, general_argument, result_register, register_pieces, in_registers, stack_start, taken_with, spots_after, result_spot_of}
 
 differ : (b : Bool) → b ≡ true → b ≡ false → ⊥
 differ b h k = cc
@@ -48,8 +48,8 @@ registers_filled general g f (scalar float) = free_filled (scalar float) general
 registers_filled general g f (scalar double) = free_filled (scalar double) general g f refl refl [] (classes (scalar double))
 registers_filled general g f (scalar pointer) = free_filled (scalar pointer) general g f refl refl [] (classes (scalar pointer))
 
-filled_if : (a : Taken) (t : Tree) (b : Bool) → AllByRecursion (IsFilled amd64 t) (cond b (register_pieces argument_register a.general a.vector t [] (classes t)) (stack_pieces (stack_start a.stack t) t))
-filled_if a t true = registers_filled argument_register a.general a.vector t
+filled_if : (a : Taken) (t : Tree) (b : Bool) → AllByRecursion (IsFilled amd64 t) (cond b (register_pieces general_argument a.general a.vector t [] (classes t)) (stack_pieces (stack_start a.stack t) t))
+filled_if a t true = registers_filled general_argument a.general a.vector t
 filled_if a t false = doublewords_filled amd64 t _ (λ j. refl) 0 (doublewords t)
 
 pub arguments_filled : (end : ℕ) (before : Taken) (ts : List Tree) → PlacesAreFilled amd64 ts (places_from amd64.copy_start end ts (spots_after before ts))
@@ -57,7 +57,7 @@ arguments_filled end before [] = tt
 arguments_filled end before (t ∷ ts) =
     (filled_if before t (in_registers before t), arguments_filled end (taken_with before t) ts)
 
-result_if : (t : Tree) (end : ℕ) (b : Bool) → ResultIsFilled amd64 t (result_at amd64.copy_start end t (cond b (in_buffer (G (argument_register 0))) (in_result_pieces (register_pieces result_register 0 0 t [] (classes t)))))
+result_if : (t : Tree) (end : ℕ) (b : Bool) → ResultIsFilled amd64 t (result_at amd64.copy_start end t (cond b (in_buffer (G (general_argument 0))) (in_result_pieces (register_pieces result_register 0 0 t [] (classes t)))))
 result_if t end true = tt
 result_if t end false = registers_filled result_register 0 0 t
 

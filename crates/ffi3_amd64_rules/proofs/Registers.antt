@@ -7,7 +7,7 @@ use Rattle.ffi3_place_rules.specs.Sound.{IsNoneOf, IsOneOf, closed_to_arguments,
 use Rattle.ffi3_place_rules.proofs.Chain.{Registers}
 use Rattle.ffi3_place_rules.proofs.Forbidden.{is_none_of, none_of, is_one_of, one_of}
 use Rattle.ffi3_place_rules.proofs.Tests.{each_of_two, each_of_eight}
-use Rattle.ffi3_amd64_rules.specs.Amd64.{amd64, argument_register, result_register, vector_register}
+use Rattle.ffi3_amd64_rules.specs.Amd64.{amd64, general_argument, result_register, vector_register}
 
 -- what holds at the first numbers
 each_of_six : (P : ℕ → Type 0) → P 0 → P 1 → P 2 → P 3 → P 4 → P 5 → (k : ℕ) → k < 6 → P k
@@ -24,26 +24,26 @@ each_of_six P a b c d e f (suc (suc (suc (suc (suc (suc k)))))) h = absurd (omeg
 abbrev number_of : ℕ → ℕ
 number_of r = get_or (9 ∷ 3 ∷ 2 ∷ 9 ∷ 9 ∷ 9 ∷ 1 ∷ 0 ∷ 4 ∷ 5 ∷ []) r 9
 
-argument_number : (k : ℕ) → k < 6 → number_of (argument_register k) ≡ k
-argument_number = each_of_six (λ k. number_of (argument_register k) ≡ k) refl refl refl refl refl refl
+argument_number : (k : ℕ) → k < 6 → number_of (general_argument k) ≡ k
+argument_number = each_of_six (λ k. number_of (general_argument k) ≡ k) refl refl refl refl refl refl
 
-pub argument_registers_apart : Registers argument_register vector_register 6 8
+pub argument_registers_apart : Registers general_argument vector_register 6 8
 argument_registers_apart = record {
   general_apart = λ j k h l e. absurd (apart j k h l e);
   floating_apart = λ j k h l e. absurd (omega (arith, e));
 }
   where
-    apart : (j k : ℕ) → j < k → k < 6 → argument_register j ≡ argument_register k → ⊥
+    apart : (j k : ℕ) → j < k → k < 6 → general_argument j ≡ general_argument k → ⊥
     apart j k h l e =
         let same : j ≡ k = sym (argument_number j (omega arith)) ∙ ap number_of e ∙ argument_number k l in
         omega (arith, same)
 
-pub argument_exists : (k : ℕ) → k < 6 → argument_register k < general_registers Amd64
-argument_exists = each_of_six (λ k. argument_register k < 16) (omega arith) (omega arith) (omega arith) (omega arith) (omega arith) (omega arith)
+pub argument_exists : (k : ℕ) → k < 6 → general_argument k < general_registers Amd64
+argument_exists = each_of_six (λ k. general_argument k < 16) (omega arith) (omega arith) (omega arith) (omega arith) (omega arith) (omega arith)
 
-pub argument_allowed : (k : ℕ) → k < 6 → IsNoneOf (closed_to_arguments amd64) (G (argument_register k))
+pub argument_allowed : (k : ℕ) → k < 6 → IsNoneOf (closed_to_arguments amd64) (G (general_argument k))
 argument_allowed k h =
-    none_of (closed_to_arguments amd64) (G (argument_register k)) (each_of_six (λ j. is_none_of (closed_to_arguments amd64) (G (argument_register j)) ≡ true) refl refl refl refl refl refl k h)
+    none_of (closed_to_arguments amd64) (G (general_argument k)) (each_of_six (λ j. is_none_of (closed_to_arguments amd64) (G (general_argument j)) ≡ true) refl refl refl refl refl refl k h)
 
 pub vector_allowed : (k : ℕ) → k < 8 → IsNoneOf (closed_to_arguments amd64) (F (vector_register k))
 vector_allowed k h = none_of (closed_to_arguments amd64) (F (vector_register k)) refl
@@ -51,9 +51,9 @@ vector_allowed k h = none_of (closed_to_arguments amd64) (F (vector_register k))
 pub stack_allowed : (n : ℕ) → IsNoneOf (closed_to_arguments amd64) (S n)
 stack_allowed n = none_of (closed_to_arguments amd64) (S n) refl
 
-pub argument_passes : (k : ℕ) → k < 6 → IsOneOf amd64.argument_registers (G (argument_register k))
+pub argument_passes : (k : ℕ) → k < 6 → IsOneOf amd64.argument_registers (G (general_argument k))
 argument_passes k h =
-    one_of amd64.argument_registers (G (argument_register k)) (each_of_six (λ j. is_one_of amd64.argument_registers (G (argument_register j)) ≡ true) refl refl refl refl refl refl k h)
+    one_of amd64.argument_registers (G (general_argument k)) (each_of_six (λ j. is_one_of amd64.argument_registers (G (general_argument j)) ≡ true) refl refl refl refl refl refl k h)
 
 pub vector_passes : (k : ℕ) → k < 8 → IsOneOf amd64.argument_registers (F (vector_register k))
 vector_passes k h =

@@ -11,7 +11,7 @@ use Rattle.ffi3_place_rules.specs.Sound.{AreRising, PlaceRises}
 use Rattle.ffi3_place_rules.proofs.Rising.{register_rises, general_not_stack, floating_not_stack, stack_rises}
 use Rattle.ffi3_amd64_rules.specs.declared.Class.{Class}
 use Rattle.ffi3_amd64_rules.specs.declared.Class.TheVariants.{Integer, Sse}
-use Rattle.ffi3_amd64_rules.specs.Amd64.{amd64, classes, argument_register, register_of, register_pieces, in_registers, stack_start, taken_with, spots_after}
+use Rattle.ffi3_amd64_rules.specs.Amd64.{amd64, classes, general_argument, register_of, register_pieces, in_registers, stack_start, taken_with, spots_after}
 
 not_stack : (general : ℕ → ℕ) (g f : ℕ) (earlier : List Class) (c : Class) (at : ℕ) → register_of general g f earlier c ≡ S at → ⊥
 not_stack general g f earlier Integer at e = general_not_stack _ at e
@@ -22,8 +22,8 @@ registers_rise general g f t earlier [] = tt
 registers_rise general g f t earlier (c ∷ cs) =
     (register_rises (doubleword (register_of general g f earlier c) (length earlier) (size_of t) (widening t)) (not_stack general g f earlier c) _, registers_rise general g f t (earlier ++ c ∷ []) cs)
 
-rising_if : (a : Taken) (t : Tree) (b : Bool) → AreRising (cond b (register_pieces argument_register a.general a.vector t [] (classes t)) (stack_pieces (stack_start a.stack t) t))
-rising_if a t true = registers_rise argument_register a.general a.vector t [] (classes t)
+rising_if : (a : Taken) (t : Tree) (b : Bool) → AreRising (cond b (register_pieces general_argument a.general a.vector t [] (classes t)) (stack_pieces (stack_start a.stack t) t))
+rising_if a t true = registers_rise general_argument a.general a.vector t [] (classes t)
 rising_if a t false = stack_rises (stack_start a.stack t) t
 
 pub arguments_rise : (end : ℕ) (before : Taken) (ts : List Tree) → AllByRecursion PlaceRises (places_from amd64.copy_start end ts (spots_after before ts))

@@ -21,7 +21,7 @@ use Rattle.ffi3_place_rules.proofs.Forbidden.{is_one_of, one_of}
 use Rattle.ffi3_place_rules.proofs.Determines.{determined}
 use Rattle.ffi3_amd64_rules.specs.declared.Class.{Class}
 use Rattle.ffi3_amd64_rules.specs.declared.Class.TheVariants.{Integer, Sse}
-use Rattle.ffi3_amd64_rules.specs.Amd64.{amd64, is_integer_class, is_sse_class, classes, integers, sses, in_memory, argument_register, vector_register, result_register, register_pieces, in_registers, stack_start, stack_end, taken_with, taken_after, taken_at_first, argument_pieces, spots_after, result_spot_of, placing_of}
+use Rattle.ffi3_amd64_rules.specs.Amd64.{amd64, is_integer_class, is_sse_class, classes, integers, sses, in_memory, general_argument, vector_register, result_register, register_pieces, in_registers, stack_start, stack_end, taken_with, taken_after, taken_at_first, argument_pieces, spots_after, result_spot_of, placing_of}
 use Rattle.ffi3_amd64_rules.proofs.Covered.{fits_registers, integers_few, sses_few, classes_when, registers_have_all, arguments_have_all}
 use Rattle.ffi3_amd64_rules.proofs.Filled.{arguments_filled, result_filled}
 use Rattle.ffi3_amd64_rules.proofs.Rising.{arguments_rise}
@@ -66,12 +66,12 @@ module _ (general : ℕ → ℕ) (generals vectors : ℕ) where
       )
 
 abbrev ArgumentsChain : Taken → List Loc → Taken → Type 0
-ArgumentsChain = Chain argument_register vector_register 6 8
+ArgumentsChain = Chain general_argument vector_register 6 8
 
 abbrev ChainIf : Taken → Tree → Bool → Type 0
 ChainIf a t b = ArgumentsChain a
     (piece_locs (cond b
-    (register_pieces argument_register a.general a.vector t [] (classes t))
+    (register_pieces general_argument a.general a.vector t [] (classes t))
     (stack_pieces (stack_start a.stack t) t)))
     (cond {A = Taken} b
     (record { general = a.general + integers t; vector = a.vector + sses t; stack = a.stack })
@@ -81,10 +81,10 @@ chain_if : (a : Taken) (t : Tree) (b : Bool) → in_registers a t ≡ b → Chai
 chain_if a t true e =
     let fits = fits_registers a t e in
     let start : AtMost a (at_eightbyte a []) = record { general = omega arith; vector = omega arith; stack = omega arith } in
-    chain_less argument_register vector_register 6 8 a (at_eightbyte a []) _ _ start
-    (register_chain argument_register 6 8 a t [] (classes t) (omega (arith, fits.0)) (omega (arith, fits.1)))
+    chain_less general_argument vector_register 6 8 a (at_eightbyte a []) _ _ start
+    (register_chain general_argument 6 8 a t [] (classes t) (omega (arith, fits.0)) (omega (arith, fits.1)))
 chain_if a t false e =
-    value_chain argument_register vector_register 6 8 a (stack_start a.stack t) t (record { general = a.general; vector = a.vector; stack = stack_end a.stack t }) (start-behind a.stack t) (omega arith) (omega arith) (omega arith)
+    value_chain general_argument vector_register 6 8 a (stack_start a.stack t) t (record { general = a.general; vector = a.vector; stack = stack_end a.stack t }) (start-behind a.stack t) (omega arith) (omega arith) (omega arith)
 
 argument_chain : (a : Taken) (t : Tree) → ArgumentsChain a (piece_locs (argument_pieces a t)) (taken_with a t)
 argument_chain a t = chain_if a t (in_registers a t) refl
@@ -92,7 +92,7 @@ argument_chain a t = chain_if a t (in_registers a t) refl
 places_chain : (end : ℕ) (a : Taken) (ts : List Tree) → ArgumentsChain a (flat_map place_locs (places_from amd64.copy_start end ts (spots_after a ts))) (taken_after a ts)
 places_chain end a [] = at_most_self a
 places_chain end a (t ∷ ts) =
-    chain_append argument_register vector_register 6 8 a (piece_locs (argument_pieces a t)) (taken_with a t) _ _
+    chain_append general_argument vector_register 6 8 a (piece_locs (argument_pieces a t)) (taken_with a t) _ _
     (argument_chain a t) (places_chain end (taken_with a t) ts)
 
 -- ---- the whole signature
@@ -103,7 +103,7 @@ untouched = record { general = 0; vector = 0; stack = 0 }
 abbrev taken_by_all : Signature → Taken
 taken_by_all s = taken_after (taken_at_first s.result_type) s.arguments
 
-hidden_if : (t : Tree) (end : ℕ) (b : Bool) → ArgumentsChain untouched (hidden_locs (result_at amd64.copy_start end t (cond b (in_buffer (G (argument_register 0))) (in_result_pieces (register_pieces result_register 0 0 t [] (classes t)))))) (record { general = cond b 1 0; vector = 0; stack = 0 })
+hidden_if : (t : Tree) (end : ℕ) (b : Bool) → ArgumentsChain untouched (hidden_locs (result_at amd64.copy_start end t (cond b (in_buffer (G (general_argument 0))) (in_result_pieces (register_pieces result_register 0 0 t [] (classes t)))))) (record { general = cond b 1 0; vector = 0; stack = 0 })
 hidden_if t end true =
     let one : AtMost untouched (record { general = 1; vector = 0; stack = 0 }) = record { general = omega arith; vector = omega arith; stack = omega arith } in
     (record { general = 1; vector = 0; stack = 0 }, (0, refl, omega arith, omega arith), (0, refl, omega arith), one, at_most_self (record { general = 1; vector = 0; stack = 0 }))
@@ -118,20 +118,20 @@ hidden_chain (array ts n) end = hidden_if (array ts n) end (in_memory (array ts 
 
 plan_chain : (s : Signature) → ArgumentsChain untouched (argument_locs (plan_of amd64 s)) (taken_by_all s)
 plan_chain s =
-    chain_append argument_register vector_register 6 8 untouched (hidden_locs (plan_of amd64 s).res) (taken_at_first s.result_type) _ _
+    chain_append general_argument vector_register 6 8 untouched (hidden_locs (plan_of amd64 s).res) (taken_at_first s.result_type) _ _
     (hidden_chain s.result_type (frame_copies_end amd64 s)) (places_chain (copies_start (placing_of s)) (taken_at_first s.result_type) s.arguments)
 
 plan_allowed : (s : Signature) → AllByRecursion (IsNoneOf (closed_to_arguments amd64)) (argument_locs (plan_of amd64 s))
 plan_allowed s =
-    chain_allowed argument_register vector_register 6 8 (closed_to_arguments amd64) argument_allowed vector_allowed stack_allowed untouched _ _ (plan_chain s)
+    chain_allowed general_argument vector_register 6 8 (closed_to_arguments amd64) argument_allowed vector_allowed stack_allowed untouched _ _ (plan_chain s)
 
 plan_passed : (s : Signature) → AllByRecursion (IsOnStackOrIn amd64.argument_registers) (argument_locs (plan_of amd64 s))
 plan_passed s =
-    chain_passed argument_register vector_register 6 8 amd64.argument_registers argument_passes vector_passes untouched _ _ (plan_chain s)
+    chain_passed general_argument vector_register 6 8 amd64.argument_registers argument_passes vector_passes untouched _ _ (plan_chain s)
 
 plan_lies_in : (s : Signature) → AllByRecursion (LiesIn Amd64 (placing_of s).stack_bytes) (argument_locs (plan_of amd64 s))
 plan_lies_in s =
-    chain_lies_in argument_register vector_register 6 8 Amd64 argument_exists (λ k h. omega arith) untouched _ _ (placing_of s).stack_bytes (omega arith) (plan_chain s)
+    chain_lies_in general_argument vector_register 6 8 Amd64 argument_exists (λ k h. omega arith) untouched _ _ (placing_of s).stack_bytes (omega arith) (plan_chain s)
 
 -- ---- the frame
 
@@ -140,14 +140,14 @@ framed s = up_to (taken_by_all s) (frame_of amd64 s)
 
 call_chain : (s : Signature) → ArgumentsChain untouched (call_locs s (plan_of amd64 s)) (framed s)
 call_chain s =
-    chain_append argument_register vector_register 6 8 untouched (argument_locs (plan_of amd64 s)) (taken_by_all s) _ (framed s) (plan_chain s) (frame_chain argument_register vector_register 6 8 amd64 start-behind s (taken_by_all s) (omega arith))
+    chain_append general_argument vector_register 6 8 untouched (argument_locs (plan_of amd64 s)) (taken_by_all s) _ (framed s) (plan_chain s) (frame_chain general_argument vector_register 6 8 amd64 start-behind s (taken_by_all s) (omega arith))
 
 plan_apart : (s : Signature) → AreApart (call_locs s (plan_of amd64 s))
-plan_apart s = chain_apart argument_register vector_register 6 8 argument_registers_apart untouched _ _ (call_chain s)
+plan_apart s = chain_apart general_argument vector_register 6 8 argument_registers_apart untouched _ _ (call_chain s)
 
 plan_in_frame : (s : Signature) → AllByRecursion (LiesIn Amd64 (frame_of amd64 s)) (call_locs s (plan_of amd64 s))
 plan_in_frame s =
-    chain_lies_in argument_register vector_register 6 8 Amd64 argument_exists (λ k h. omega arith) untouched _ (framed s) (frame_of amd64 s) (omega arith) (call_chain s)
+    chain_lies_in general_argument vector_register 6 8 Amd64 argument_exists (λ k h. omega arith) untouched _ (framed s) (frame_of amd64 s) (omega arith) (call_chain s)
 
 -- ---- the result
 
@@ -156,7 +156,7 @@ result_chain : (t : Tree) → Chain result_register vector_register 2 2 (at_eigh
 result_chain t =
     register_chain result_register 2 2 untouched t [] (classes t) (omega (arith, integers_few t)) (omega (arith, sses_few t))
 
-result_if : (P : List Loc → Type 0) → P [] → (t : Tree) → P (piece_locs (register_pieces result_register 0 0 t [] (classes t))) → (end : ℕ) (b : Bool) → P (result_locs (result_at amd64.copy_start end t (cond b (in_buffer (G (argument_register 0))) (in_result_pieces (register_pieces result_register 0 0 t [] (classes t))))))
+result_if : (P : List Loc → Type 0) → P [] → (t : Tree) → P (piece_locs (register_pieces result_register 0 0 t [] (classes t))) → (end : ℕ) (b : Bool) → P (result_locs (result_at amd64.copy_start end t (cond b (in_buffer (G (general_argument 0))) (in_result_pieces (register_pieces result_register 0 0 t [] (classes t))))))
 result_if P none t direct end true = none
 result_if P none t direct end false = direct
 
@@ -167,7 +167,7 @@ result_cases P none (left_out k) direct end = direct
 result_cases P none (structure ts) direct end = result_if P none (structure ts) direct end (in_memory (structure ts))
 result_cases P none (array ts n) direct end = result_if P none (array ts n) direct end (in_memory (array ts n))
 
-has_all_if : (t : Tree) (end : ℕ) (b : Bool) → in_memory t ≡ b → ResultHasAll t (result_at amd64.copy_start end t (cond b (in_buffer (G (argument_register 0))) (in_result_pieces (register_pieces result_register 0 0 t [] (classes t)))))
+has_all_if : (t : Tree) (end : ℕ) (b : Bool) → in_memory t ≡ b → ResultHasAll t (result_at amd64.copy_start end t (cond b (in_buffer (G (general_argument 0))) (in_result_pieces (register_pieces result_register 0 0 t [] (classes t)))))
 has_all_if t end true e = tt
 has_all_if t end false e = registers_have_all result_register 0 0 t (classes t) (classes_when t e)
 
@@ -218,7 +218,7 @@ result_loaded s =
     let t = s.result_type in
     result_cases (AllByRecursion (IsOneOf (result_loads Amd64))) tt t (chain_in result_register vector_register 2 2 (result_loads Amd64) (at_eightbyte untouched ([] ++ classes t)) refl (λ k h. in_results k (omega (arith, h, integers_few t))) (λ k h. in_vector_results k (omega (arith, h, sses_few t))) (at_eightbyte untouched []) _ (result_chain t)) (frame_copies_end amd64 s)
 
-hidden_saved_if : (t : Tree) (end : ℕ) (b : Bool) → AllByRecursion (IsOneOf (G 7 ∷ [])) (hidden_locs (result_at amd64.copy_start end t (cond b (in_buffer (G (argument_register 0))) (in_result_pieces (register_pieces result_register 0 0 t [] (classes t))))))
+hidden_saved_if : (t : Tree) (end : ℕ) (b : Bool) → AllByRecursion (IsOneOf (G 7 ∷ [])) (hidden_locs (result_at amd64.copy_start end t (cond b (in_buffer (G (general_argument 0))) (in_result_pieces (register_pieces result_register 0 0 t [] (classes t))))))
 hidden_saved_if t end true = (one_of (G 7 ∷ []) (G 7) refl, tt)
 hidden_saved_if t end false = tt
 

@@ -42,17 +42,17 @@ is_integer_leaf_in j l = lies_in_eightbyte j l && not (is_floating l.kind)
 abbrev pub class_of : Tree → ℕ → Class
 class_of t j = cond (list_any (is_integer_leaf_in j) (leaves_of t)) Integer Sse
 
--- structs; also whole arrays, which are neither arguments nor results, so that this says nothing of a call
-abbrev pub is_struct : Tree → Bool
-is_struct void = false
-is_struct (scalar s) = false
-is_struct (left_out k) = false
-is_struct (structure ts) = true
-is_struct (array ts n) = true
+-- aggregates: structs, and arrays, which are neither arguments nor results by themselves (Classification of aggregates)
+abbrev pub is_aggregate : Tree → Bool
+is_aggregate void = false
+is_aggregate (scalar s) = false
+is_aggregate (left_out k) = false
+is_aggregate (structure ts) = true
+is_aggregate (array ts n) = true
 
 -- class MEMORY: a struct over two eightbytes, none of which is SSEUP here (Classification of aggregates, step 5 (c): the post merger cleanup)
 abbrev pub in_memory : Tree → Bool
-in_memory t = is_struct t && nat_lt 16 (size_of t)
+in_memory t = is_aggregate t && nat_lt 16 (size_of t)
 
 -- how many eightbytes a value takes: its size rounded up (eightbyte is this standard's word for doubleword)
 abbrev pub eightbytes : Tree → ℕ
@@ -80,8 +80,8 @@ sses t = count_by is_sse_class (classes t)
 abbrev pub general_arguments : List ℕ
 general_arguments = 7 ∷ 6 ∷ 2 ∷ 1 ∷ 8 ∷ 9 ∷ []
 
-abbrev pub argument_register : ℕ → ℕ
-argument_register k = get_or general_arguments k 0
+abbrev pub general_argument : ℕ → ℕ
+general_argument k = get_or general_arguments k 0
 
 -- rax, rdx (Returning of Values, step 3)
 abbrev pub result_register : ℕ → ℕ
@@ -129,7 +129,7 @@ taken_with before t =
 abbrev pub argument_pieces : Taken → Tree → List Piece
 argument_pieces before t =
     cond (in_registers before t)
-    (register_pieces argument_register before.general before.vector t [] (classes t))
+    (register_pieces general_argument before.general before.vector t [] (classes t))
     (stack_pieces (stack_start before.stack t) t)
 
 -- no argument is passed by reference
@@ -156,7 +156,7 @@ taken_at_first result_type =
 abbrev pub result_spot_of : Tree → ResultSpot
 result_spot_of void = no_result
 result_spot_of t =
-    cond (in_memory t) (in_buffer (G (argument_register 0)))
+    cond (in_memory t) (in_buffer (G (general_argument 0)))
     (in_result_pieces (register_pieces result_register 0 0 t [] (classes t)))
 
 abbrev pub placing_of : Signature → Placing

@@ -129,7 +129,7 @@ risc_words fixed (t ∷ ts) before i small =
     let named = risc.is_fixed fixed i in
     let one = shape_words (named && risc.registers_suffice (risc.taken_at_start before named t) (risc.shape_of t)) (risc.shape_of t) (risc.integer_shape t) small.0.words small.0.integer_words in
     let first = even-near (risc.is_at_even_word named t before.words) before.words in
-    omega (arith, one, first, risc_words fixed ts (risc.taken_next before (risc.is_fixed fixed i) t) (i + 1) small.1)
+    omega (arith, one, first, risc_words fixed ts (risc.taken_with before (risc.is_fixed fixed i) t) (i + 1) small.1)
 
 -- ---- the three standards
 

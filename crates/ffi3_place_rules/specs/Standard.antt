@@ -82,32 +82,32 @@ start end t = least_multiple (max 8 (align_of t)) end
 
 -- an argument's place, where what stands before it in the frame ends at `end`
 abbrev pub place_at : (ℕ → Tree → ℕ) → ℕ → Tree → Spot → Place
-place_at start end t (in_pieces pieces) = Direct pieces
-place_at start end t (by_reference at) = ByRef at (start end t)
+place_at begin end t (in_pieces pieces) = Direct pieces
+place_at begin end t (by_reference at) = ByRef at (begin end t)
 
 -- where its copy ends, if it has one
 abbrev pub copy_end : (ℕ → Tree → ℕ) → ℕ → Tree → Spot → ℕ
-copy_end start end t (in_pieces pieces) = end
-copy_end start end t (by_reference at) = start end t + round8 (size_of t)
+copy_end begin end t (in_pieces pieces) = end
+copy_end begin end t (by_reference at) = begin end t + round8 (size_of t)
 
 abbrev pub places_from : (ℕ → Tree → ℕ) → ℕ → List Tree → List Spot → List Place
-places_from start end (t ∷ ts) (s ∷ ss) =
-    place_at start end t s ∷ places_from start (copy_end start end t s) ts ss
-places_from start end _ _ = []
+places_from begin end (t ∷ ts) (s ∷ ss) =
+    place_at begin end t s ∷ places_from begin (copy_end begin end t s) ts ss
+places_from begin end _ _ = []
 
 abbrev pub copies_end : (ℕ → Tree → ℕ) → ℕ → List Tree → List Spot → ℕ
-copies_end start end (t ∷ ts) (s ∷ ss) = copies_end start (copy_end start end t s) ts ss
-copies_end start end _ _ = end
+copies_end begin end (t ∷ ts) (s ∷ ss) = copies_end begin (copy_end begin end t s) ts ss
+copies_end begin end _ _ = end
 
 abbrev pub result_at : (ℕ → Tree → ℕ) → ℕ → Tree → ResultSpot → Res
-result_at start end t no_result = Nothing
-result_at start end t (in_result_pieces pieces) = DirectRes pieces
-result_at start end t (in_buffer at) = Hidden at (start end t)
+result_at begin end t no_result = Nothing
+result_at begin end t (in_result_pieces pieces) = DirectRes pieces
+result_at begin end t (in_buffer at) = Hidden at (begin end t)
 
 abbrev pub buffer_end : (ℕ → Tree → ℕ) → ℕ → Tree → ResultSpot → ℕ
-buffer_end start end t no_result = end
-buffer_end start end t (in_result_pieces pieces) = end
-buffer_end start end t (in_buffer at) = start end t + round8 (size_of t)
+buffer_end begin end t no_result = end
+buffer_end begin end t (in_result_pieces pieces) = end
+buffer_end begin end t (in_buffer at) = begin end t + round8 (size_of t)
 
 -- copies stand behind the stack arguments, the buffer behind the copies
 abbrev pub copies_start : Placing → ℕ

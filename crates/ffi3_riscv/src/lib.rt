@@ -10,7 +10,7 @@ ghost use Rattle.ffi3_type_rules.specs.Fault.{IsLaidOut};
 ghost use Rattle.ffi3_types.specs.TreeOf.{tree_of};
 ghost use Rattle.ffi3_place_rules.specs.Standard.{result_at, plan_of};
 ghost use Rattle.ffi3_place_rules.specs.Doublewords.{doublewords};
-ghost use Rattle.ffi3_riscv_rules.specs.Riscv.{riscv, is_word_integer, shape_of_two, shape_of_leaves, shape_of, words_of, floats_of, registers_suffice, passed_as, word, extension, boxing, argument_register, floating_register, floating_piece, integer_piece, word_pieces, spot_of, is_fixed, is_at_even_word, first_word, taken_at_start, taken_by_shape, taken_at_first, shape_after, taken_by_all, placing_of, result_shape, result_spot_of, stack_of};
+ghost use Rattle.ffi3_riscv_rules.specs.Riscv.{riscv, is_word_integer, shape_of_two, shape_of_leaves, shape_of, words_of, floats_of, registers_suffice, passed_as, word, extension, boxing, integer_register, floating_register, floating_piece, integer_piece, word_pieces, spot_of, is_fixed, is_at_even_word, first_word, taken_at_start, taken_by_shape, taken_at_first, shape_after, taken_by_all, placing_of, result_shape, result_spot_of, stack_of};
 ghost use Rattle.ffi3_riscv_rules.specs.declared.Shape.{Shape};
 ghost use Rattle.ffi3_riscv_rules.specs.declared.Shape.TheVariants.{OneF, Words, ByRef};
 ghost use Rattle.ffi3_riscv_rules.proofs.Shapes.{Suits, HasRoom};
@@ -70,7 +70,7 @@ fn shape_of_one(leaf: &FfiType, otherwise: Shape) -> Shape
     }
 }
 
-/// How one with two leaves is.
+/// How a value with two leaves is passed, if `otherwise` is how it is by the integer convention.
 fn shape_of_two(first: &FfiType, second: &FfiType, otherwise: Shape) -> Shape
     requires { words_of otherwise ≤ 2 }
     ensures value { (s u : Scalar) → tree_of first.now ≡ scalar s → tree_of second.now ≡ scalar u → result ≡ shape_of_two otherwise s u }
@@ -89,7 +89,7 @@ fn shape_of_two(first: &FfiType, second: &FfiType, otherwise: Shape) -> Shape
     }
 }
 
-/// The same of a struct or an array, by its leaves.
+/// How a struct or an array is passed by its leaves, if `otherwise` is how it is by the integer convention.
 fn shape_of_leaves(ty: &CheckedType<'_>, otherwise: Shape) -> Shape
     requires { words_of otherwise ≤ 2 }
     ensures value { result ≡ shape_of_leaves otherwise (leaves_of ty.now) }
@@ -119,7 +119,7 @@ struct Found {
     align: u64,
 }
 
-/// A scalar is its own only leaf.
+/// Finds of a type how it is passed, its size and its alignment. A scalar is its own only leaf.
 fn found_of(ty: &CheckedType<'_>) -> Found
     ensures is { IsFound ty.now result }
     ensures small { words_of result.shape ≤ 2 }
@@ -237,15 +237,15 @@ fn first_word(fixed: bool, found: Found, end: u64) -> u64
 }
 
 /// What is taken where an argument begins, behind others.
-fn taken_at_start(end: TakenWords, fixed: bool, found: Found) -> TakenWords
-    requires { end.words ≤ 16 * MOST_ARGUMENTS }
-    ensures value { (t : Tree) → IsFound t found → result ≡ taken_at_start end fixed t }
-    ensures near { result.words ≤ end.words + 1 }
-    ensures same { result.floats ≡ end.floats }
+fn taken_at_start(taken: TakenWords, fixed: bool, found: Found) -> TakenWords
+    requires { taken.words ≤ 16 * MOST_ARGUMENTS }
+    ensures value { (t : Tree) → IsFound t found → result ≡ taken_at_start taken fixed t }
+    ensures near { result.words ≤ taken.words + 1 }
+    ensures same { result.floats ≡ taken.floats }
 {
     TakenWords {
-        words: first_word(fixed, found, end.words),
-        floats: end.floats,
+        words: first_word(fixed, found, taken.words),
+        floats: taken.floats,
     }
 }
 
@@ -263,9 +263,9 @@ fn taken_by_shape(before: TakenWords, shape: Shape) -> TakenWords
 }
 
 /// The number of integer register a`k`: a0 to a7 are 10 to 17.
-fn argument_register(k: u64) -> u8
+fn integer_register(k: u64) -> u8
     requires { k ≤ 7 }
-    ensures { result ≡ argument_register k }
+    ensures { result ≡ integer_register k }
 {
     10 + k as u8
 }
@@ -276,7 +276,7 @@ fn word(k: u64) -> Loc
     ensures { result ≡ word k }
 {
     if k < 8 {
-        Loc::G(argument_register(k))
+        Loc::G(integer_register(k))
     } else {
         Loc::S((8 * (k - 8)) as u32)
     }
@@ -349,7 +349,7 @@ fn integer_piece(ty: &CheckedType<'_>, i: u32, number: u64) -> Piece
     requires few { number ≤ 7 }
     ensures { result ≡ integer_piece number (leaf_at ty.now i) }
 {
-    leaf_piece(ty, i, Loc::G(argument_register(number)), Ext::Free)
+    leaf_piece(ty, i, Loc::G(integer_register(number)), Ext::Free)
 }
 
 /// Where a value of a shape stands, behind others. A copy has no place in the frame yet.
@@ -433,14 +433,14 @@ struct Passed {
     shape: Shape,
 }
 
-/// How argument `i` is passed, behind others that take `end`.
-fn passed_after(sig: &CheckedSig<'_>, i: u32, end: TakenWords) -> Passed
+/// How argument `i` is passed, behind others that take `taken`.
+fn passed_after(sig: &CheckedSig<'_>, i: u32, taken: TakenWords) -> Passed
     requires in_range { i < length sig.now.arguments }
-    requires few { end.floats ≤ 8 }
-    requires low { end.words ≤ 3 * MOST_ARGUMENTS + 1 }
-    ensures before { result.before ≡ taken_at_start end (is_fixed sig.now.fixed i) (tree_at sig.now.arguments i) }
-    ensures shape { result.shape ≡ shape_after end (is_fixed sig.now.fixed i) (tree_at sig.now.arguments i) }
-    ensures near { result.before.words ≤ end.words + 1 }
+    requires few { taken.floats ≤ 8 }
+    requires low { taken.words ≤ 3 * MOST_ARGUMENTS + 1 }
+    ensures before { result.before ≡ taken_at_start taken (is_fixed sig.now.fixed i) (tree_at sig.now.arguments i) }
+    ensures shape { result.shape ≡ shape_after taken (is_fixed sig.now.fixed i) (tree_at sig.now.arguments i) }
+    ensures near { result.before.words ≤ taken.words + 1 }
     ensures few { result.before.floats ≤ 8 }
     ensures small { words_of result.shape ≤ 2 }
     ensures free { result.before.floats + floats_of result.shape ≤ 8 }
@@ -449,7 +449,7 @@ fn passed_after(sig: &CheckedSig<'_>, i: u32, end: TakenWords) -> Passed
 {
     let fixed = is_fixed(sig, i);
     let found = found_of(&sig.arg(i));
-    let before = taken_at_start(end, fixed, found);
+    let before = taken_at_start(taken, fixed, found);
     Passed {
         before,
         shape: passed_as(before, fixed, found),
@@ -483,16 +483,16 @@ fn place_all(alloc: Global, sig: &CheckedSig<'_>, returned: Shape) -> Result<Pla
     ensures taken { IfOk result (λ p. p.taken ≡ taken_by_all sig.now) }
     ensures low { IfOk result (λ p. p.taken.words ≤ 3 * MOST_ARGUMENTS + 1) }
 {
-    let mut end = taken_at_first(returned);
+    let mut taken = taken_at_first(returned);
     let mut places = Places::with_capacity(alloc, sig.count() as usize)?;
     for i in 0..sig.count() {
-        let passed = passed_after(sig, i, end);
+        let passed = passed_after(sig, i, taken);
         // no type is held across a `?`, where each way out would drop it
         let place = place_of(alloc, passed.before, &sig.arg(i), passed.shape);
         places.push(place?)?;
-        end = taken_by_shape(passed.before, passed.shape);
+        taken = taken_by_shape(passed.before, passed.shape);
     }
-    Ok(Placed { places, taken: end })
+    Ok(Placed { places, taken })
 }
 
 /// A result's place is that of an argument. What stands before its buffer ends `end` bytes from the frame's start.

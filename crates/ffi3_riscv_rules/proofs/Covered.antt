@@ -15,7 +15,7 @@ use Rattle.ffi3_place_rules.proofs.Doublewords.{filling_suits, leaf_is_piece, do
 use Rattle.ffi3_riscv_rules.specs.declared.Shape.{Shape}
 use Rattle.ffi3_riscv_rules.specs.declared.Shape.TheVariants.{OneF, TwoF, FI, IF, Words, ByRef}
 use Rattle.ffi3_riscv_rules.specs.declared.TakenWords.{TakenWords}
-use Rattle.ffi3_riscv_rules.specs.Riscv.{word, extension, boxing, argument_register, floating_register, floating_piece, integer_piece, word_pieces, spot_of, is_fixed, taken_at_start, shape_after, spot_after, taken_with, spots_after}
+use Rattle.ffi3_riscv_rules.specs.Riscv.{word, extension, boxing, integer_register, floating_register, floating_piece, integer_piece, word_pieces, spot_of, is_fixed, taken_at_start, shape_after, spot_after, taken_with, spots_after}
 use Rattle.ffi3_riscv_rules.proofs.Shapes.{Suits, HasSmall, leaf, passed_suits, passed_small}
 
 -- ---- doublewords
@@ -36,7 +36,7 @@ floating_piece_of t f l small h =
 
 integer_piece_of : (t : Tree) (w : ℕ) (l : Leaf) → scalar_size l.kind ≤ 8 → EndsIn (size_of t) l → IsPieceOf t (integer_piece w l)
 integer_piece_of t w l small h =
-    leaf_is_piece t (G (argument_register w)) Free l small h tt
+    leaf_is_piece t (G (integer_register w)) Free l small h tt
 
 -- the piece has the bytes of the leaf
 abbrev HasLeaf : Leaf → Piece → Type 0

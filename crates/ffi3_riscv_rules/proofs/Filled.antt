@@ -14,7 +14,7 @@ use Rattle.ffi3_place_rules.proofs.Filled.{doublewords_filled}
 use Rattle.ffi3_riscv_rules.specs.declared.Shape.{Shape}
 use Rattle.ffi3_riscv_rules.specs.declared.Shape.TheVariants.{OneF, TwoF, FI, IF, Words, ByRef}
 use Rattle.ffi3_riscv_rules.specs.declared.TakenWords.{TakenWords}
-use Rattle.ffi3_riscv_rules.specs.Riscv.{riscv, argument_register, word, boxing, floating_piece, integer_piece, spot_of, is_fixed, taken_at_start, shape_after, spot_after, taken_with, spots_after}
+use Rattle.ffi3_riscv_rules.specs.Riscv.{riscv, integer_register, word, boxing, floating_piece, integer_piece, spot_of, is_fixed, taken_at_start, shape_after, spot_after, taken_with, spots_after}
 use Rattle.ffi3_riscv_rules.proofs.Shapes.{Suits, HasFloats, passed_suits, passed_floats}
 
 -- ---- values that are no lone narrow integer
@@ -72,10 +72,10 @@ module _ (t : Tree) (wide : is_narrow_integer t ≡ true → ⊥) where
   integer_filled : (w : ℕ) (l : Leaf) → IsFilled riscv t (integer_piece w l)
   integer_filled w l = record { narrow = λ n. absurd (wide n); single = λ h e. absurd (in_general h) }
     where
-      in_general : is_floating_place (G (argument_register w)) ≡ true → ⊥
+      in_general : is_floating_place (G (integer_register w)) ≡ true → ⊥
       in_general h = cc
 
-word_if : (w : ℕ) (b : Bool) → is_floating_place (cond {A = Loc} b (G (argument_register w)) (S (8 * (w - 8)))) ≡ false
+word_if : (w : ℕ) (b : Bool) → is_floating_place (cond {A = Loc} b (G (integer_register w)) (S (8 * (w - 8)))) ≡ false
 word_if w true = refl
 word_if w false = refl
 

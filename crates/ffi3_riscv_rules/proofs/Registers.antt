@@ -9,15 +9,15 @@ use Rattle.ffi3_place_rules.specs.Sound.{IsNoneOf, IsOneOf, closed_to_arguments,
 use Rattle.ffi3_place_rules.proofs.Tests.{each_of_eight}
 use Rattle.ffi3_place_rules.proofs.Chain.{Registers}
 use Rattle.ffi3_place_rules.proofs.Forbidden.{is_none_of, none_of, each_none_of, is_one_of, one_of}
-use Rattle.ffi3_riscv_rules.specs.Riscv.{riscv, argument_register, floating_register}
+use Rattle.ffi3_riscv_rules.specs.Riscv.{riscv, integer_register, floating_register}
 
-pub all_registers : Registers argument_register floating_register 8 8
+pub all_registers : Registers integer_register floating_register 8 8
 all_registers = record {
   general_apart = λ j k h l e. absurd (omega (arith, e));
   floating_apart = λ j k h l e. absurd (omega (arith, e));
 }
 
-pub argument_exists : (k : ℕ) → k < 8 → argument_register k < general_registers isa.Riscv
+pub argument_exists : (k : ℕ) → k < 8 → integer_register k < general_registers isa.Riscv
 argument_exists k h = omega (arith, h)
 
 pub floating_exists : (k : ℕ) → k < 8 → floating_register k < floating_registers isa.Riscv
@@ -33,8 +33,8 @@ eight_allowed others register e =
     let h = each_none_of others (eight register) e in
     each_of_eight (λ j. IsNoneOf others (register j)) h.0 h.1.0 h.1.1.0 h.1.1.1.0 h.1.1.1.1.0 h.1.1.1.1.1.0 h.1.1.1.1.1.1.0 h.1.1.1.1.1.1.1.0
 
-pub argument_allowed : (k : ℕ) → k < 8 → IsNoneOf (closed_to_arguments riscv) (G (argument_register k))
-argument_allowed = eight_allowed (closed_to_arguments riscv) (λ k. G (argument_register k)) refl
+pub argument_allowed : (k : ℕ) → k < 8 → IsNoneOf (closed_to_arguments riscv) (G (integer_register k))
+argument_allowed = eight_allowed (closed_to_arguments riscv) (λ k. G (integer_register k)) refl
 
 pub floating_allowed : (k : ℕ) → k < 8 → IsNoneOf (closed_to_arguments riscv) (F (floating_register k))
 floating_allowed = eight_allowed (closed_to_arguments riscv) (λ k. F (floating_register k)) refl
@@ -42,16 +42,16 @@ floating_allowed = eight_allowed (closed_to_arguments riscv) (λ k. F (floating_
 pub stack_allowed : (n : ℕ) → IsNoneOf (closed_to_arguments riscv) (S n)
 stack_allowed n = none_of (closed_to_arguments riscv) (S n) refl
 
-pub argument_passes : (k : ℕ) → k < 8 → IsOneOf riscv.argument_registers (G (argument_register k))
+pub argument_passes : (k : ℕ) → k < 8 → IsOneOf riscv.argument_registers (G (integer_register k))
 argument_passes k h =
-    one_of riscv.argument_registers (G (argument_register k)) (each_of_eight (λ j. is_one_of riscv.argument_registers (G (argument_register j)) ≡ true) refl refl refl refl refl refl refl refl k h)
+    one_of riscv.argument_registers (G (integer_register k)) (each_of_eight (λ j. is_one_of riscv.argument_registers (G (integer_register j)) ≡ true) refl refl refl refl refl refl refl refl k h)
 
 pub floating_passes : (k : ℕ) → k < 8 → IsOneOf riscv.argument_registers (F (floating_register k))
 floating_passes k h =
     one_of riscv.argument_registers (F (floating_register k)) (each_of_eight (λ j. is_one_of riscv.argument_registers (F (floating_register j)) ≡ true) refl refl refl refl refl refl refl refl k h)
 
-pub result_allowed_general : (k : ℕ) → k < 8 → IsNoneOf (closed_to_results riscv) (G (argument_register k))
-result_allowed_general = eight_allowed (closed_to_results riscv) (λ k. G (argument_register k)) refl
+pub result_allowed_general : (k : ℕ) → k < 8 → IsNoneOf (closed_to_results riscv) (G (integer_register k))
+result_allowed_general = eight_allowed (closed_to_results riscv) (λ k. G (integer_register k)) refl
 
 pub result_allowed_floating : (k : ℕ) → k < 8 → IsNoneOf (closed_to_results riscv) (F (floating_register k))
 result_allowed_floating = eight_allowed (closed_to_results riscv) (λ k. F (floating_register k)) refl

@@ -14,12 +14,12 @@ use Rattle.ffi3_place_rules.proofs.Rising.{PlacesRise, register_rises, general_n
 use Rattle.ffi3_riscv_rules.specs.declared.Shape.{Shape}
 use Rattle.ffi3_riscv_rules.specs.declared.Shape.TheVariants.{OneF, TwoF, FI, IF, Words, ByRef}
 use Rattle.ffi3_riscv_rules.specs.declared.TakenWords.{TakenWords}
-use Rattle.ffi3_riscv_rules.specs.Riscv.{argument_register, floating_register, floating_piece, integer_piece, word, word_pieces, extension, spot_of, is_fixed, taken_at_start, shape_after, spot_after, taken_with, spots_after}
+use Rattle.ffi3_riscv_rules.specs.Riscv.{integer_register, floating_register, floating_piece, integer_piece, word, word_pieces, extension, spot_of, is_fixed, taken_at_start, shape_after, spot_after, taken_with, spots_after}
 
 -- ---- the stream of words
 
-word_at_if : (w at : ℕ) (b : Bool) → ltb w 8 ≡ b → cond {A = Loc} b (G (argument_register w)) (S (8 * (w - 8))) ≡ S at → (8 ≤ w) × (8 * (w - 8) ≡ at)
-word_at_if w at true e there = absurd (general_not_stack (argument_register w) at there)
+word_at_if : (w at : ℕ) (b : Bool) → ltb w 8 ≡ b → cond {A = Loc} b (G (integer_register w)) (S (8 * (w - 8))) ≡ S at → (8 ≤ w) × (8 * (w - 8) ≡ at)
+word_at_if w at true e there = absurd (general_not_stack (integer_register w) at there)
 word_at_if w at false e there = (ltb-false w 8 e, stack_at (8 * (w - 8)) at there)
 
 word_at : (w at : ℕ) → word w ≡ S at → (8 ≤ w) × (8 * (w - 8) ≡ at)
@@ -47,7 +47,7 @@ spot_rises start copies before t TwoF =
 spot_rises start copies before t FI =
     pair_rises (floating_piece before.floats (leaf_at t 0)) (integer_piece before.words (leaf_at t 1)) (floating_not_stack (floating_register before.floats))
 spot_rises start copies before t IF =
-    pair_rises (integer_piece before.words (leaf_at t 0)) (floating_piece before.floats (leaf_at t 1)) (general_not_stack (argument_register before.words))
+    pair_rises (integer_piece before.words (leaf_at t 0)) (floating_piece before.floats (leaf_at t 1)) (general_not_stack (integer_register before.words))
 spot_rises start copies before t (Words n) = words_rise before.words t n
 spot_rises start copies before t ByRef = tt
 

@@ -24,7 +24,7 @@ use Rattle.ffi3_place_rules.proofs.Determines.{determined}
 use Rattle.ffi3_riscv_rules.specs.declared.Shape.{Shape}
 use Rattle.ffi3_riscv_rules.specs.declared.Shape.TheVariants.{OneF, TwoF, FI, IF, Words, ByRef}
 use Rattle.ffi3_riscv_rules.specs.declared.TakenWords.{TakenWords}
-use Rattle.ffi3_riscv_rules.specs.Riscv.{riscv, argument_register, floating_register, word, words_of, floats_of, extension, word_pieces, spot_of, is_at_even_word, first_word, is_fixed, taken_by_shape, taken_at_start, shape_after, spot_after, taken_with, taken_after, taken_at_first, taken_by_all, untouched, spots_after, result_shape, result_from, result_spot_of, is_by_reference, placing_of}
+use Rattle.ffi3_riscv_rules.specs.Riscv.{riscv, integer_register, floating_register, word, words_of, floats_of, extension, word_pieces, spot_of, is_at_even_word, first_word, is_fixed, taken_by_shape, taken_at_start, shape_after, spot_after, taken_with, taken_after, taken_at_first, taken_by_all, untouched, spots_after, result_shape, result_from, result_spot_of, is_by_reference, placing_of}
 use Rattle.ffi3_riscv_rules.proofs.Shapes.{HasRoom, passed_has_room, passed_few, passed_suits, passed_small, passed_floats}
 use Rattle.ffi3_riscv_rules.proofs.Covered.{spot_has_all, arguments_have_all}
 use Rattle.ffi3_riscv_rules.proofs.Filled.{spot_filled, arguments_filled}
@@ -40,27 +40,27 @@ abbrev taken : TakenWords → Taken
 taken used = taken_of used.words used.floats
 
 abbrev WordsChain : Taken → List Loc → Taken → Type 0
-WordsChain = Chain argument_register floating_register 8 8
+WordsChain = Chain integer_register floating_register 8 8
 
 abbrev IsFrom : Taken → Loc → Type 0
-IsFrom = From argument_register floating_register 8 8
+IsFrom = From integer_register floating_register 8 8
 
 abbrev IsUntil : Taken → Loc → Type 0
-IsUntil = Until argument_register floating_register 8 8
+IsUntil = Until integer_register floating_register 8 8
 
 more_words : (w v f g : ℕ) → w ≤ v → f ≤ g → AtMost (taken_of w f) (taken_of v g)
 more_words w v f g h k = record { general = h; vector = k; stack = omega (arith, h) }
 
 -- ---- the stream of words
 
-word_from_if : (w f : ℕ) (b : Bool) → ltb w 8 ≡ b → IsFrom (taken_of w f) (cond {A = Loc} b (G (argument_register w)) (S (8 * (w - 8))))
+word_from_if : (w f : ℕ) (b : Bool) → ltb w 8 ≡ b → IsFrom (taken_of w f) (cond {A = Loc} b (G (integer_register w)) (S (8 * (w - 8))))
 word_from_if w f true e = (w, refl, omega arith, ltb-true w 8 e)
 word_from_if w f false e = omega arith
 
 word_from : (w f : ℕ) → IsFrom (taken_of w f) (word w)
 word_from w f = word_from_if w f (ltb w 8) refl
 
-word_until_if : (w f : ℕ) (b : Bool) → ltb w 8 ≡ b → IsUntil (taken_of (w + 1) f) (cond {A = Loc} b (G (argument_register w)) (S (8 * (w - 8))))
+word_until_if : (w f : ℕ) (b : Bool) → ltb w 8 ≡ b → IsUntil (taken_of (w + 1) f) (cond {A = Loc} b (G (integer_register w)) (S (8 * (w - 8))))
 word_until_if w f true e = (w, refl, omega arith)
 word_until_if w f false e = omega (arith, ltb-false w 8 e)
 
@@ -90,7 +90,7 @@ floating_first w f ls b room rest = (
   rest,
 )
 
-general_first : (w f : ℕ) (ls : List Loc) (b : Taken) → w + 1 ≤ 8 → WordsChain (taken_of (w + 1) f) ls b → WordsChain (taken_of w f) (G (argument_register w) ∷ ls) b
+general_first : (w f : ℕ) (ls : List Loc) (b : Taken) → w + 1 ≤ 8 → WordsChain (taken_of (w + 1) f) ls b → WordsChain (taken_of w f) (G (integer_register w) ∷ ls) b
 general_first w f ls b room rest = (
   taken_of (w + 1) f,
   (w, refl, omega arith, omega (arith, room)),
@@ -107,7 +107,7 @@ spot_chain start copies before t TwoF room =
     (floating_first before.words (before.floats + 1) [] _ (omega (arith, room))
     (more_words before.words (before.words + 0) (before.floats + 1 + 1) (before.floats + 2) (omega arith) (omega arith)))
 spot_chain start copies before t FI room =
-    floating_first before.words before.floats (G (argument_register before.words) ∷ []) (taken_of (before.words + 1) (before.floats + 1)) room.0
+    floating_first before.words before.floats (G (integer_register before.words) ∷ []) (taken_of (before.words + 1) (before.floats + 1)) room.0
     (general_first before.words (before.floats + 1) [] _ room.1
     (more_words (before.words + 1) (before.words + 1) (before.floats + 1) (before.floats + 1) (omega arith) (omega arith)))
 spot_chain start copies before t IF room =
@@ -140,13 +140,13 @@ taken_at_start-behind end fixed t = more_words end.words (first_word fixed t end
 argument_chain : (start : ℕ → Tree → ℕ) (copies : ℕ) (end : TakenWords) (fixed : Bool) (t : Tree) → WordsChain (taken end) (place_locs (place_at start copies t (spot_after end fixed t))) (taken (taken_with end fixed t))
 argument_chain start copies end fixed t =
     let before = taken_at_start end fixed t in
-    chain_less argument_register floating_register 8 8 (taken end) (taken before) _ _ (taken_at_start-behind end fixed t) (spot_chain start copies before t (shape_after end fixed t) (passed_has_room before fixed t))
+    chain_less integer_register floating_register 8 8 (taken end) (taken before) _ _ (taken_at_start-behind end fixed t) (spot_chain start copies before t (shape_after end fixed t) (passed_has_room before fixed t))
 
 places_chain : (start : ℕ → Tree → ℕ) (copies : ℕ) (fixed : Option ℕ) (end : TakenWords) (i : ℕ) (ts : List Tree) → WordsChain (taken end) (flat_map place_locs (places_from start copies ts (spots_after fixed end i ts))) (taken (taken_after fixed end i ts))
 places_chain start copies fixed end i [] = at_most_self (taken end)
 places_chain start copies fixed end i (t ∷ ts) =
     let named = is_fixed fixed i in
-    chain_append argument_register floating_register 8 8 (taken end) (place_locs (place_at start copies t (spot_after end named t))) (taken (taken_with end named t)) _ _
+    chain_append integer_register floating_register 8 8 (taken end) (place_locs (place_at start copies t (spot_after end named t))) (taken (taken_with end named t)) _ _
     (argument_chain start copies end named t) (places_chain start (copy_end start copies t (spot_after end named t)) fixed (taken_with end named t) (i + 1) ts)
 
 -- ---- the whole signature
@@ -177,20 +177,20 @@ hidden_chain t buffer =
 
 plan_chain : (s : Signature) → WordsChain (taken untouched) (argument_locs (plan_of riscv s)) (taken (taken_by_all s))
 plan_chain s =
-    chain_append argument_register floating_register 8 8 (taken untouched) (hidden_locs (plan_of riscv s).res) (taken (taken_at_first s.result_type)) _ _
+    chain_append integer_register floating_register 8 8 (taken untouched) (hidden_locs (plan_of riscv s).res) (taken (taken_at_first s.result_type)) _ _
     (hidden_chain s.result_type (frame_copies_end riscv s)) (places_chain riscv.copy_start (copies_start (placing_of s)) s.fixed (taken_at_first s.result_type) 0 s.arguments)
 
 plan_allowed : (s : Signature) → AllByRecursion (IsNoneOf (closed_to_arguments riscv)) (argument_locs (plan_of riscv s))
 plan_allowed s =
-    chain_allowed argument_register floating_register 8 8 (closed_to_arguments riscv) argument_allowed floating_allowed stack_allowed (taken untouched) _ _ (plan_chain s)
+    chain_allowed integer_register floating_register 8 8 (closed_to_arguments riscv) argument_allowed floating_allowed stack_allowed (taken untouched) _ _ (plan_chain s)
 
 plan_passed : (s : Signature) → AllByRecursion (IsOnStackOrIn riscv.argument_registers) (argument_locs (plan_of riscv s))
 plan_passed s =
-    chain_passed argument_register floating_register 8 8 riscv.argument_registers argument_passes floating_passes (taken untouched) _ _ (plan_chain s)
+    chain_passed integer_register floating_register 8 8 riscv.argument_registers argument_passes floating_passes (taken untouched) _ _ (plan_chain s)
 
 plan_lies_in : (s : Signature) → AllByRecursion (LiesIn isa.Riscv (placing_of s).stack_bytes) (argument_locs (plan_of riscv s))
 plan_lies_in s =
-    chain_lies_in argument_register floating_register 8 8 isa.Riscv argument_exists floating_exists (taken untouched) _ _ (placing_of s).stack_bytes (omega arith) (plan_chain s)
+    chain_lies_in integer_register floating_register 8 8 isa.Riscv argument_exists floating_exists (taken untouched) _ _ (placing_of s).stack_bytes (omega arith) (plan_chain s)
 
 -- ---- the frame
 
@@ -199,14 +199,14 @@ framed s = up_to (taken (taken_by_all s)) (frame_of riscv s)
 
 call_chain : (s : Signature) → WordsChain (taken untouched) (call_locs s (plan_of riscv s)) (framed s)
 call_chain s =
-    chain_append argument_register floating_register 8 8 (taken untouched) (argument_locs (plan_of riscv s)) (taken (taken_by_all s)) _ (framed s) (plan_chain s) (frame_chain argument_register floating_register 8 8 riscv start-behind s (taken (taken_by_all s)) (omega arith))
+    chain_append integer_register floating_register 8 8 (taken untouched) (argument_locs (plan_of riscv s)) (taken (taken_by_all s)) _ (framed s) (plan_chain s) (frame_chain integer_register floating_register 8 8 riscv start-behind s (taken (taken_by_all s)) (omega arith))
 
 plan_apart : (s : Signature) → AreApart (call_locs s (plan_of riscv s))
-plan_apart s = chain_apart argument_register floating_register 8 8 all_registers (taken untouched) _ _ (call_chain s)
+plan_apart s = chain_apart integer_register floating_register 8 8 all_registers (taken untouched) _ _ (call_chain s)
 
 plan_in_frame : (s : Signature) → AllByRecursion (LiesIn isa.Riscv (frame_of riscv s)) (call_locs s (plan_of riscv s))
 plan_in_frame s =
-    chain_lies_in argument_register floating_register 8 8 isa.Riscv argument_exists floating_exists (taken untouched) _ (framed s) (frame_of riscv s) (omega arith) (call_chain s)
+    chain_lies_in integer_register floating_register 8 8 isa.Riscv argument_exists floating_exists (taken untouched) _ (framed s) (frame_of riscv s) (omega arith) (call_chain s)
 
 -- ---- the result
 
@@ -238,15 +238,15 @@ module _ (t : Tree) (buffer : ℕ) where
   no_stack w h = omega (arith, h)
 
   result_apart : AreApart (result_locs (result_at riscv.copy_start buffer t (result_spot_of t)))
-  result_apart = result_is AreApart tt (chain_apart argument_register floating_register 8 8 all_registers (taken untouched) _ _ result_chain)
+  result_apart = result_is AreApart tt (chain_apart integer_register floating_register 8 8 all_registers (taken untouched) _ _ result_chain)
 
   result_in_registers : AllByRecursion (LiesIn isa.Riscv 0) (result_locs (result_at riscv.copy_start buffer t (result_spot_of t)))
   result_in_registers =
-      result_is (AllByRecursion (LiesIn isa.Riscv 0)) tt (chain_lies_in argument_register floating_register 8 8 isa.Riscv argument_exists floating_exists (taken untouched) _ _ 0 (no_stack (words_of shape) (passed_few untouched true t)) result_chain)
+      result_is (AllByRecursion (LiesIn isa.Riscv 0)) tt (chain_lies_in integer_register floating_register 8 8 isa.Riscv argument_exists floating_exists (taken untouched) _ _ 0 (no_stack (words_of shape) (passed_few untouched true t)) result_chain)
 
   result_allowed : AllByRecursion (IsNoneOf (closed_to_results riscv)) (result_locs (result_at riscv.copy_start buffer t (result_spot_of t)))
   result_allowed =
-      result_is (AllByRecursion (IsNoneOf (closed_to_results riscv))) tt (chain_allowed argument_register floating_register 8 8 (closed_to_results riscv) result_allowed_general result_allowed_floating result_allowed_stack (taken untouched) _ _ result_chain)
+      result_is (AllByRecursion (IsNoneOf (closed_to_results riscv))) tt (chain_allowed integer_register floating_register 8 8 (closed_to_results riscv) result_allowed_general result_allowed_floating result_allowed_stack (taken untouched) _ _ result_chain)
 
   result_has_all : ResultHasAll t (result_at riscv.copy_start buffer t (result_spot_of t))
   result_has_all =
@@ -285,9 +285,9 @@ determines s = determined riscv s (sound s).has_all (sound s).result_has_all
 
 -- ---- the result, by the stubs
 
-in_results : (k : ℕ) → k < 2 → IsOneOf (result_loads isa.Riscv) (G (argument_register k))
+in_results : (k : ℕ) → k < 2 → IsOneOf (result_loads isa.Riscv) (G (integer_register k))
 in_results k h =
-    one_of (result_loads isa.Riscv) (G (argument_register k)) (each_of_two (λ j. is_one_of (result_loads isa.Riscv) (G (argument_register j)) ≡ true) refl refl k h)
+    one_of (result_loads isa.Riscv) (G (integer_register k)) (each_of_two (λ j. is_one_of (result_loads isa.Riscv) (G (integer_register j)) ≡ true) refl refl k h)
 
 in_floating_results : (k : ℕ) → k < 2 → IsOneOf (result_loads isa.Riscv) (F (floating_register k))
 in_floating_results k h =
@@ -310,7 +310,7 @@ result_loaded s =
     let shape = result_shape t in
     let words = passed_few untouched true t in
     let floats = few_floats shape in
-    result_is t (frame_copies_end riscv s) (AllByRecursion (IsOneOf (result_loads isa.Riscv))) tt (chain_in argument_register floating_register 8 8 (result_loads isa.Riscv) (taken (taken_by_shape untouched shape)) (no_stack_taken (words_of shape) words) (λ k h. in_results k (omega (arith, h, words))) (λ k h. in_floating_results k (omega (arith, h, floats))) (taken untouched) _ (result_chain t (frame_copies_end riscv s)))
+    result_is t (frame_copies_end riscv s) (AllByRecursion (IsOneOf (result_loads isa.Riscv))) tt (chain_in integer_register floating_register 8 8 (result_loads isa.Riscv) (taken (taken_by_shape untouched shape)) (no_stack_taken (words_of shape) words) (λ k h. in_results k (omega (arith, h, words))) (λ k h. in_floating_results k (omega (arith, h, floats))) (taken untouched) _ (result_chain t (frame_copies_end riscv s)))
 
 hidden_saved_if : (t : Tree) (buffer : ℕ) (shape : Shape) → AllByRecursion (IsOneOf (G 10 ∷ [])) (hidden_locs (result_at riscv.copy_start buffer t (result_from (spot_of untouched t shape))))
 hidden_saved_if t buffer OneF = tt

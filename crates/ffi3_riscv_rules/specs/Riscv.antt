@@ -88,8 +88,8 @@ passed_as before fixed t =
 -- ---- places
 
 -- a0 to a7 ("Integer Register Convention")
-abbrev pub argument_register : ℕ → ℕ
-argument_register k = 10 + k
+abbrev pub integer_register : ℕ → ℕ
+integer_register k = 10 + k
 
 -- fa0 to fa7 ("Floating-point Register Convention")
 abbrev pub floating_register : ℕ → ℕ
@@ -98,7 +98,7 @@ floating_register k = 10 + k
 -- Word k of the stream of integer words: a0 to a7, and then the stack from offset 0 on. ("Integer Calling Convention", on a value of which the first XLEN bits are passed in the last register and the rest on the stack, and on the first argument on the stack)
 abbrev pub word : ℕ → Loc
 word k =
-    cond {A = Loc} (nat_lt k 8) (G (argument_register k)) (S (8 * (k - 8)))
+    cond {A = Loc} (nat_lt k 8) (G (integer_register k)) (S (8 * (k - 8)))
 
 -- An integer narrower than XLEN is widened by its sign to 32 bits, then sign-extended. ("Integer Calling Convention", on scalars of at most XLEN bits)
 abbrev pub extension : Tree → Ext
@@ -125,7 +125,7 @@ floating_piece f l = leaf_piece (F (floating_register f)) (boxing l.kind) l
 
 -- The integer of a struct of one floating-point real and one integer is passed "without extending the integer to XLEN bits". ("Hardware Floating-point Calling Convention")
 abbrev pub integer_piece : ℕ → Leaf → Piece
-integer_piece w l = leaf_piece (G (argument_register w)) Free l
+integer_piece w l = leaf_piece (G (integer_register w)) Free l
 
 -- so many doublewords of a value, in one word of the stream each, where w is the number of the first
 abbrev pub word_pieces : ℕ → Tree → ℕ → List Piece
@@ -163,8 +163,8 @@ first_word fixed t end =
 
 -- what is taken where an argument begins, behind others
 abbrev pub taken_at_start : TakenWords → Bool → Tree → TakenWords
-taken_at_start end fixed t =
-    record { words = first_word fixed t end.words; floats = end.floats }
+taken_at_start taken fixed t =
+    record { words = first_word fixed t taken.words; floats = taken.floats }
 
 -- what is taken once a value of this shape is placed behind what was taken before
 abbrev pub taken_by_shape : TakenWords → Shape → TakenWords
@@ -172,26 +172,26 @@ taken_by_shape before shape =
     record { words = before.words + words_of shape; floats = before.floats + floats_of shape }
 
 -- how an argument is passed behind others, where it stands, and what is taken after it
-module _ (end : TakenWords) (fixed : Bool) (t : Tree) where
+module _ (taken : TakenWords) (fixed : Bool) (t : Tree) where
   abbrev pub shape_after : Shape
-  shape_after = passed_as (taken_at_start end fixed t) fixed t
+  shape_after = passed_as (taken_at_start taken fixed t) fixed t
 
   abbrev pub spot_after : Spot
-  spot_after = spot_of (taken_at_start end fixed t) t shape_after
+  spot_after = spot_of (taken_at_start taken fixed t) t shape_after
 
   abbrev pub taken_with : TakenWords
-  taken_with = taken_by_shape (taken_at_start end fixed t) shape_after
+  taken_with = taken_by_shape (taken_at_start taken fixed t) shape_after
 
 -- the arguments from number i on
 abbrev pub spots_after : Option ℕ → TakenWords → ℕ → List Tree → List Spot
-spots_after fixed end i [] = []
-spots_after fixed end i (t ∷ ts) =
-    spot_after end (is_fixed fixed i) t ∷ spots_after fixed (taken_with end (is_fixed fixed i) t) (i + 1) ts
+spots_after fixed taken i [] = []
+spots_after fixed taken i (t ∷ ts) =
+    spot_after taken (is_fixed fixed i) t ∷ spots_after fixed (taken_with taken (is_fixed fixed i) t) (i + 1) ts
 
 abbrev pub taken_after : Option ℕ → TakenWords → ℕ → List Tree → TakenWords
-taken_after fixed end i [] = end
-taken_after fixed end i (t ∷ ts) =
-    taken_after fixed (taken_with end (is_fixed fixed i) t) (i + 1) ts
+taken_after fixed taken i [] = taken
+taken_after fixed taken i (t ∷ ts) =
+    taken_after fixed (taken_with taken (is_fixed fixed i) t) (i + 1) ts
 
 -- ---- results
 

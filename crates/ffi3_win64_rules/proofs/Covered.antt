@@ -10,7 +10,7 @@ use Rattle.ffi3_place_rules.specs.Standard.{in_pieces, by_reference, place_at, p
 use Rattle.ffi3_place_rules.specs.Doublewords.{widening}
 use Rattle.ffi3_place_rules.specs.Sound.{IsExtended, IsPieceOf, HaveAll, PlaceHasAll, PlacesHaveAll}
 use Rattle.ffi3_place_rules.proofs.Covered.{covers_leaves}
-use Rattle.ffi3_win64_rules.specs.Win64.{is_whole_size, is_copied, is_floating_type, argument_register, position_place, floating_places, whole, whole_in, argument_pieces, spot_at, spots_from}
+use Rattle.ffi3_win64_rules.specs.Win64.{is_whole_size, is_copied, is_floating_type, general_argument, position_place, floating_places, whole, whole_in, argument_pieces, spot_at, spots_from}
 
 -- ---- what is not copied has at most eight bytes
 
@@ -54,7 +54,7 @@ whole_has_all t h l ls = record {
 -- ---- arguments
 
 pieces_have_all_if : (variadic : Bool) (p : ℕ) (t : Tree) (b : Bool) → is_copied t ≡ false → HaveAll t (whole_in t (cond b (floating_places variadic p) (position_place p ∷ [])))
-pieces_have_all_if true p t true h = whole_has_all t h (G (argument_register p)) (F p ∷ [])
+pieces_have_all_if true p t true h = whole_has_all t h (G (general_argument p)) (F p ∷ [])
 pieces_have_all_if false p t true h = whole_has_all t h (F p) []
 pieces_have_all_if variadic p t false h = whole_has_all t h (position_place p) []
 

@@ -8,7 +8,7 @@ use Rattle.ffi3_place_rules.specs.declared.Ext.TheVariants.{Widen}
 use Rattle.ffi3_place_rules.specs.Standard.{in_pieces, by_reference, place_at, places_from, copy_end}
 use Rattle.ffi3_place_rules.specs.Sound.{is_floating_place, IsFilled, PlaceIsFilled, PlacesAreFilled}
 use Rattle.ffi3_place_rules.proofs.Filled.{narrow_filling}
-use Rattle.ffi3_win64_rules.specs.Win64.{win64, is_copied, is_floating_type, argument_register, position_place, floating_places, whole, whole_in, argument_pieces, result_place, spot_at, spots_from}
+use Rattle.ffi3_win64_rules.specs.Win64.{win64, is_copied, is_floating_type, general_argument, position_place, floating_places, whole, whole_in, argument_pieces, result_place, spot_at, spots_from}
 
 differ : (b : Bool) → b ≡ true → b ≡ false → ⊥
 differ b h k = cc
@@ -44,14 +44,14 @@ floating_filled (array ts n) at e = cc
 position_is_plain : (p : ℕ) → is_floating_place (position_place p) ≡ false
 position_is_plain p = by_test (ltb p 4)
   where
-    by_test : (b : Bool) → is_floating_place (cond b (G (argument_register p)) (S (8 * p))) ≡ false
+    by_test : (b : Bool) → is_floating_place (cond b (G (general_argument p)) (S (8 * p))) ≡ false
     by_test true = refl
     by_test false = refl
 
 -- ---- arguments
 
 pieces_filled_if : (variadic : Bool) (p : ℕ) (t : Tree) (f l : Bool) → is_floating_type t ≡ f → AllByRecursion (IsFilled win64 t) (whole_in t (cond (f && l) (floating_places variadic p) (position_place p ∷ [])))
-pieces_filled_if true p t true true e = (floating_filled t (G (argument_register p)) e, (floating_filled t (F p) e, tt))
+pieces_filled_if true p t true true e = (floating_filled t (G (general_argument p)) e, (floating_filled t (F p) e, tt))
 pieces_filled_if false p t true true e = (floating_filled t (F p) e, tt)
 pieces_filled_if variadic p t true false e = (plain_filled t (position_place p) (position_is_plain p), tt)
 pieces_filled_if variadic p t false l e = (plain_filled t (position_place p) (position_is_plain p), tt)

@@ -17,14 +17,14 @@ use Rattle.ffi3_place_rules.proofs.Forbidden.{none_of}
 use Rattle.ffi3_place_rules.proofs.Frame.{up_to, frame_chain}
 use Rattle.ffi3_place_rules.proofs.Aligned.{frame_is_aligned, need_is_aligned}
 use Rattle.ffi3_place_rules.proofs.Determines.{determined}
-use Rattle.ffi3_win64_rules.specs.Win64.{win64, is_copied, is_floating_type, argument_register, position_place, floating_places, whole, whole_in, argument_pieces, spot_at, spots_from, first_position, result_place, result_spot_of, stack_of, placing_of}
+use Rattle.ffi3_win64_rules.specs.Win64.{win64, is_copied, is_floating_type, general_argument, position_place, floating_places, whole, whole_in, argument_pieces, spot_at, spots_from, first_position, result_place, result_spot_of, stack_of, placing_of}
 use Rattle.ffi3_win64_rules.proofs.Covered.{whole_has_all, arguments_have_all}
 use Rattle.ffi3_win64_rules.proofs.Filled.{arguments_filled, result_filled}
 use Rattle.ffi3_win64_rules.proofs.Rising.{arguments_rise}
 use Rattle.ffi3_win64_rules.proofs.Registers.{numbered, registers, argument_exists, argument_allowed, vector_allowed, stack_allowed, argument_passes, vector_passes}
 
 abbrev PlacesChain : Taken → List Loc → Taken → Type 0
-PlacesChain = Chain argument_register numbered 4 4
+PlacesChain = Chain general_argument numbered 4 4
 
 -- what the positions before number p have
 abbrev before_position : ℕ → Taken
@@ -35,7 +35,7 @@ more p q h = record { general = h; vector = h; stack = omega (arith, h) }
 
 -- ---- one argument, in its position
 
-place_chain_if : (p : ℕ) (b : Bool) → ltb p 4 ≡ b → PlacesChain (before_position p) (cond b (G (argument_register p)) (S (8 * p)) ∷ []) (before_position (p + 1))
+place_chain_if : (p : ℕ) (b : Bool) → ltb p 4 ≡ b → PlacesChain (before_position p) (cond b (G (general_argument p)) (S (8 * p)) ∷ []) (before_position (p + 1))
 place_chain_if p true e =
     (before_position (p + 1), (p, refl, omega arith, ltb-true p 4 e), (p, refl, omega arith), more p (p + 1) (omega arith), at_most_self (before_position (p + 1)))
 place_chain_if p false e =
@@ -70,7 +70,7 @@ module _ (start : ℕ → Tree → ℕ) (variadic : Bool) where
   places_chain : (end p q : ℕ) (ts : List Tree) → p + length ts ≤ q → PlacesChain (before_position p) (flat_map place_locs (places_from start end ts (spots_from variadic p ts))) (before_position q)
   places_chain end p q [] h = more p q (omega (arith, h))
   places_chain end p q (t ∷ ts) h =
-      chain_append argument_register numbered 4 4 (before_position p) (place_locs (place_at start end t (spot_at variadic p t))) (before_position (p + 1)) _ (before_position q)
+      chain_append general_argument numbered 4 4 (before_position p) (place_locs (place_at start end t (spot_at variadic p t))) (before_position (p + 1)) _ (before_position q)
       (spot_chain_if end p t (is_copied t)) (places_chain (copy_end start end t (spot_at variadic p t)) (p + 1) q ts (omega (arith, h)))
 
 -- ---- where a result stands
@@ -109,7 +109,7 @@ all_positions s = before_position (positions s)
 
 plan_chain : (s : Signature) → PlacesChain (before_position 0) (argument_locs (plan_of win64 s)) (all_positions s)
 plan_chain s =
-    chain_append argument_register numbered 4 4 (before_position 0) (hidden_locs (plan_of win64 s).res) (before_position (first_position s.result_type)) _ (all_positions s)
+    chain_append general_argument numbered 4 4 (before_position 0) (hidden_locs (plan_of win64 s).res) (before_position (first_position s.result_type)) _ (all_positions s)
     (hidden_chain s) (places_chain win64.copy_start (is_some s.fixed) (copies_start (placing_of s)) (first_position s.result_type) (positions s) s.arguments (omega arith))
 
 -- each position has its eight bytes of stack
@@ -118,15 +118,15 @@ enough n = omega arith
 
 plan_allowed : (s : Signature) → AllByRecursion (IsNoneOf (closed_to_arguments win64)) (argument_locs (plan_of win64 s))
 plan_allowed s =
-    chain_allowed argument_register numbered 4 4 (closed_to_arguments win64) argument_allowed vector_allowed stack_allowed (before_position 0) _ _ (plan_chain s)
+    chain_allowed general_argument numbered 4 4 (closed_to_arguments win64) argument_allowed vector_allowed stack_allowed (before_position 0) _ _ (plan_chain s)
 
 plan_passed : (s : Signature) → AllByRecursion (IsOnStackOrIn win64.argument_registers) (argument_locs (plan_of win64 s))
 plan_passed s =
-    chain_passed argument_register numbered 4 4 win64.argument_registers argument_passes vector_passes (before_position 0) _ _ (plan_chain s)
+    chain_passed general_argument numbered 4 4 win64.argument_registers argument_passes vector_passes (before_position 0) _ _ (plan_chain s)
 
 plan_lies_in : (s : Signature) → AllByRecursion (LiesIn (isa_of win64.target) (placing_of s).stack_bytes) (argument_locs (plan_of win64 s))
 plan_lies_in s =
-    chain_lies_in argument_register numbered 4 4 (isa_of win64.target) argument_exists (λ k h. omega arith) (before_position 0) _ _ (placing_of s).stack_bytes (enough (positions s)) (plan_chain s)
+    chain_lies_in general_argument numbered 4 4 (isa_of win64.target) argument_exists (λ k h. omega arith) (before_position 0) _ _ (placing_of s).stack_bytes (enough (positions s)) (plan_chain s)
 
 -- ---- the frame
 
@@ -135,16 +135,16 @@ framed s = up_to (all_positions s) (frame_of win64 s)
 
 call_chain : (s : Signature) → PlacesChain (before_position 0) (call_locs s (plan_of win64 s)) (framed s)
 call_chain s =
-    chain_append argument_register numbered 4 4 (before_position 0) (argument_locs (plan_of win64 s)) (all_positions s) _ (framed s) (plan_chain s)
-    (frame_chain argument_register numbered 4 4 win64 (λ end t. least_multiple-above 16 end) s (all_positions s) (enough (positions s)))
+    chain_append general_argument numbered 4 4 (before_position 0) (argument_locs (plan_of win64 s)) (all_positions s) _ (framed s) (plan_chain s)
+    (frame_chain general_argument numbered 4 4 win64 (λ end t. least_multiple-above 16 end) s (all_positions s) (enough (positions s)))
 
 plan_apart : (s : Signature) → AreApart (call_locs s (plan_of win64 s))
 plan_apart s =
-    chain_apart argument_register numbered 4 4 registers (before_position 0) _ _ (call_chain s)
+    chain_apart general_argument numbered 4 4 registers (before_position 0) _ _ (call_chain s)
 
 plan_in_frame : (s : Signature) → AllByRecursion (LiesIn (isa_of win64.target) (frame_of win64 s)) (call_locs s (plan_of win64 s))
 plan_in_frame s =
-    chain_lies_in argument_register numbered 4 4 (isa_of win64.target) argument_exists (λ k h. omega arith) (before_position 0) _ (framed s) (frame_of win64 s) (omega arith) (call_chain s)
+    chain_lies_in general_argument numbered 4 4 (isa_of win64.target) argument_exists (λ k h. omega arith) (before_position 0) _ (framed s) (frame_of win64 s) (omega arith) (call_chain s)
 
 -- ---- the result
 

@@ -40,16 +40,16 @@ is_floating_type _ = false
 abbrev pub general_arguments : List ℕ
 general_arguments = 1 ∷ 2 ∷ 8 ∷ 9 ∷ []
 
-abbrev pub argument_register : ℕ → ℕ
-argument_register p = get_or general_arguments p 0
+abbrev pub general_argument : ℕ → ℕ
+general_argument p = get_or general_arguments p 0
 
 -- The general register of a position. The fifth argument and those after it are passed on the stack, each in eight bytes, behind the space for the first four. ("Parameter passing"; "Calling convention defaults": after the shadow store)
 abbrev pub position_place : ℕ → Loc
-position_place p = cond (nat_lt p 4) (G (argument_register p)) (S (8 * p))
+position_place p = cond (nat_lt p 4) (G (general_argument p)) (S (8 * p))
 
 -- A float or a double in the first four positions is passed in xmm0 to xmm3, depending on the position. ("Parameter passing") Of a function with variable arguments both the integer register and the floating-point register must contain the value. ("Varargs". That the named arguments are passed so too, and that the integer register comes first, is this library's rule.)
 abbrev pub floating_places : Bool → ℕ → List Loc
-floating_places variadic p = cond variadic (G (argument_register p) ∷ F p ∷ []) (F p ∷ [])
+floating_places variadic p = cond variadic (G (general_argument p) ∷ F p ∷ []) (F p ∷ [])
 
 -- the places of an argument that is passed as it is
 abbrev pub argument_places : Bool → ℕ → Tree → List Loc

@@ -66,7 +66,7 @@ pub fn read_words(alloc: Global, words: Vec<String>) -> Result<Request, WordsFau
         return Err(WordsFault::NoMemory);
     };
     match command.try_get_matches_from(words.as_slice()) {
-        Ok(matches) => match request_of(&matches) {
+        Ok(matches) => match asked(&matches) {
             Some(request) => Ok(request),
             None => Err(no_numbers(alloc)),
         },
@@ -75,11 +75,11 @@ pub fn read_words(alloc: Global, words: Vec<String>) -> Result<Request, WordsFau
 }
 
 // What the matches ask for.
-fn request_of(matches: &ArgMatches<'_>) -> Option<Request>
+fn asked(matches: &ArgMatches<'_>) -> Option<Request>
     ensures { result ≡ asked (subcommand_rows_of matches.now) }
 {
     let (name, options) = matches.subcommand()?;
-    named(
+    request_of(
         name,
         options.get_str("target"),
         options.get_str("trace"),
@@ -89,7 +89,7 @@ fn request_of(matches: &ArgMatches<'_>) -> Option<Request>
 }
 
 // What a command asks for, with its target, its flag and its numbers.
-fn named(
+fn request_of(
     name: &str,
     target: Option<&str>,
     trace: Option<&str>,

@@ -14,10 +14,10 @@ loop-i-preserved c =
     let inside = subst (λ n. i < n) c.count-i-end.ensures.value c.loop-i-test.true in
     let begins = c.passed_after-passed.ensures.before in
     let passed = c.passed_after-passed.ensures.shape in
-    let taken = c.taken_by_shape-end.ensures in
+    let taken = c.taken_by_shape-taken.ensures in
     record {
       few = omega (arith, ap (λ u. u.floats) taken, c.passed_after-passed.ensures.free);
       low = omega (arith, ap (λ u. u.words) taken, c.passed_after-passed.ensures.small, c.passed_after-passed.ensures.near, c.loop-i.invariant.low);
-      taken = taken_turn s.fixed c.loop-i.end from _ i s.arguments t shape inside refl begins passed taken _ c.loop-i.invariant.taken;
-      done = places_turn s.fixed c.loop-i.end from _ i s.arguments t shape inside refl begins passed taken without_copy c.loop-i.places _ _ _ (rw c.arg.ensures at c.in_ok-place.ensures) c.in_ok-push.ensures.ok c.loop-i.invariant.done;
+      taken = taken_turn s.fixed c.loop-i.taken from _ i s.arguments t shape inside refl begins passed taken _ c.loop-i.invariant.taken;
+      done = places_turn s.fixed c.loop-i.taken from _ i s.arguments t shape inside refl begins passed taken without_copy c.loop-i.places _ _ _ (rw c.arg.ensures at c.in_ok-place.ensures) c.in_ok-push.ensures.ok c.loop-i.invariant.done;
     }

@@ -13,11 +13,11 @@ returns-in-Some-clause-takes c =
     let parsed = c.in-Ok-try_get_matches_from.ensures in
     let fine : fault_of a words ≡ [] = ap (fault_of a) (sym same) ∙ parsed.kinds (free a c.in-Ok.ensures) in
     let met : subcommand_rows_of m ≡ subcommand_of a words = (parsed.matches (simple a c.in-Ok.ensures)).1 ∙ ap (subcommand_of a) same in
-    taken_as a c.in-Ok.ensures words m fine met c.in-Some.request (sym c.request_of.ensures ∙ c.in-Some.is)
+    taken_as a c.in-Ok.ensures words m fine met c.in-Some.request (sym c.asked.ensures ∙ c.in-Some.is)
 
 pub returns-in-Some-clause-in_range : goal.returns-in-Some-clause-in_range
 returns-in-Some-clause-in_range c =
-    in_range (subcommand_rows_of c.in-Ok-try_get_matches_from.matches) c.in-Some.request (sym c.request_of.ensures ∙ c.in-Some.is)
+    in_range (subcommand_rows_of c.in-Ok-try_get_matches_from.matches) c.in-Some.request (sym c.asked.ensures ∙ c.in-Some.is)
 
 pub returns-in-Some-clause-stated : goal.returns-in-Some-clause-stated
 returns-in-Some-clause-stated c r stated =
@@ -28,7 +28,7 @@ returns-in-Some-clause-stated c r stated =
     let parsed = c.in-Ok-try_get_matches_from.ensures in
     let fine : fault_of a words ≡ [] = ap (fault_of a) (sym same) ∙ parsed.kinds (free a c.in-Ok.ensures) in
     let met : subcommand_rows_of m ≡ subcommand_of a words = (parsed.matches (simple a c.in-Ok.ensures)).1 ∙ ap (subcommand_of a) same in
-    (stated_as a c.in-Ok.ensures words m fine met c.in-Some.request r (sym c.request_of.ensures ∙ c.in-Some.is) stated, tt)
+    (stated_as a c.in-Ok.ensures words m fine met c.in-Some.request r (sym c.asked.ensures ∙ c.in-Some.is) stated, tt)
 
 pub returns-in-Some-clause-one : goal.returns-in-Some-clause-one
 returns-in-Some-clause-one c r takes =
@@ -39,7 +39,7 @@ returns-in-Some-clause-one c r takes =
     let parsed = c.in-Ok-try_get_matches_from.ensures in
     let fine : fault_of a words ≡ [] = ap (fault_of a) (sym same) ∙ parsed.kinds (free a c.in-Ok.ensures) in
     let met : subcommand_rows_of m ≡ subcommand_of a words = (parsed.matches (simple a c.in-Ok.ensures)).1 ∙ ap (subcommand_of a) same in
-    (one_as a c.in-Ok.ensures words m fine met c.in-Some.request r (sym c.request_of.ensures ∙ c.in-Some.is) takes, tt)
+    (one_as a c.in-Ok.ensures words m fine met c.in-Some.request r (sym c.asked.ensures ∙ c.in-Some.is) takes, tt)
 
 pub returns-in-Ok-try_get_matches_from-clause-refused : goal.returns-in-Ok-try_get_matches_from-clause-refused
 returns-in-Ok-try_get_matches_from-clause-refused c =
@@ -50,7 +50,7 @@ returns-in-Ok-try_get_matches_from-clause-refused c =
     let parsed = c.in-Ok-try_get_matches_from.ensures in
     let fine : fault_of a words ≡ [] = ap (fault_of a) (sym same) ∙ parsed.kinds (free a c.in-Ok.ensures) in
     let met : subcommand_rows_of m ≡ subcommand_of a words = (parsed.matches (simple a c.in-Ok.ensures)).1 ∙ ap (subcommand_of a) same in
-    refused_for_numbers a c.in-Ok.ensures words m fine met c.no_numbers.result (sym c.request_of.ensures ∙ c.in-None.is)
+    refused_for_numbers a c.in-Ok.ensures words m fine met c.no_numbers.result (sym c.asked.ensures ∙ c.in-None.is)
 
 pub returns-in-Ok-try_get_matches_from-clause-one : goal.returns-in-Ok-try_get_matches_from-clause-one
 returns-in-Ok-try_get_matches_from-clause-one c r takes =
@@ -61,7 +61,7 @@ returns-in-Ok-try_get_matches_from-clause-one c r takes =
     let parsed = c.in-Ok-try_get_matches_from.ensures in
     let fine : fault_of a words ≡ [] = ap (fault_of a) (sym same) ∙ parsed.kinds (free a c.in-Ok.ensures) in
     let met : subcommand_rows_of m ≡ subcommand_of a words = (parsed.matches (simple a c.in-Ok.ensures)).1 ∙ ap (subcommand_of a) same in
-    absurd (none_taken a c.in-Ok.ensures words m fine met r (sym c.request_of.ensures ∙ c.in-None.is) takes)
+    absurd (none_taken a c.in-Ok.ensures words m fine met r (sym c.asked.ensures ∙ c.in-None.is) takes)
 
 pub returns-in-Ok-try_get_matches_from-clause-stated : goal.returns-in-Ok-try_get_matches_from-clause-stated
 returns-in-Ok-try_get_matches_from-clause-stated c r stated =
@@ -72,7 +72,7 @@ returns-in-Ok-try_get_matches_from-clause-stated c r stated =
     let parsed = c.in-Ok-try_get_matches_from.ensures in
     let fine : fault_of a words ≡ [] = ap (fault_of a) (sym same) ∙ parsed.kinds (free a c.in-Ok.ensures) in
     let met : subcommand_rows_of m ≡ subcommand_of a words = (parsed.matches (simple a c.in-Ok.ensures)).1 ∙ ap (subcommand_of a) same in
-    absurd (none_stated a c.in-Ok.ensures words m fine met r (sym c.request_of.ensures ∙ c.in-None.is) stated)
+    absurd (none_stated a c.in-Ok.ensures words m fine met r (sym c.asked.ensures ∙ c.in-None.is) stated)
 
 pub returns-clause-refused : goal.returns-clause-refused
 returns-clause-refused c =

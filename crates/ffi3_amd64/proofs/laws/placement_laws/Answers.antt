@@ -1,6 +1,6 @@
 use Rattle.ffi3_amd64_rules.proofs.Alike.{goes_by_layout}
 use Rattle.ffi3_amd64_rules.proofs.Ends.{call_by_ends}
-use Rattle.ffi3_amd64.proofs.placement_laws.Goals as goal
+use Rattle.ffi3_amd64.proofs.laws.placement_laws.Goals as goal
 
 pub returns-clause-ends : goal.returns-clause-ends
 returns-clause-ends c = call_by_ends c.args._sig.now

@@ -1,6 +1,6 @@
 use Rattle.ffi3_aapcs64_rules.proofs.Alike.{goes_by_layout}
 use Rattle.ffi3_aapcs64_rules.proofs.Ends.{by_ends}
-use Rattle.ffi3_aapcs64.proofs.placement_laws.Goals as goal
+use Rattle.ffi3_aapcs64.proofs.laws.placement_laws.Goals as goal
 
 pub returns-clause-ends : goal.returns-clause-ends
 returns-clause-ends c = by_ends c.args._sig.now

@@ -1,0 +1,16 @@
+// What the places of every call keep, for callers to cite.
+ghost use Rattle.ffi3_place_rules.specs.Alike.{GoesByLayout};
+ghost use Rattle.ffi3_aapcs64_rules.specs.Aapcs64.{aapcs64};
+ghost use Rattle.ffi3_aapcs64_rules.specs.Ends.{IsPlacedByEnds};
+
+use ffi3_types::Sig;
+
+/// Does nothing. Its contract says where everything stands in a call of the signature, by where the
+/// arguments before each end: an argument is in registers exactly where these would end at 8 or
+/// before; its first register, or its first byte on the stack, is the next behind such ends, and so
+/// are the places of copies and buffer. No other placing agrees with the ends. And that structs of equal
+/// layout are placed alike, as one with an array and one with its elements there.
+pub fn placement_laws(_sig: &Sig)
+    ensures ends { IsPlacedByEnds _sig.now }
+    ensures by_layout { GoesByLayout aapcs64 }
+{}
