@@ -1,7 +1,7 @@
 -- Nodes without a fault are types: each node has enough of them behind it.
 use Rattle.std.proofs.Common.{◌≡◌, ℕ, zero, suc, ◌+◌, ◌-◌, ◌<◌, ◌≤◌, Bool, cond, not, ◌&&◌, List, [], ◌∷◌, ◌++◌, take, drop, length, get_or, ap, sym, ◌∙◌, refl, arith, subst, append_assoc, append-nil, length-append}
 use Rattle.std.proofs.lemmas.List.{drop_more, drop_all}
-use Rattle.std.proofs.lemmas.Bool.{leb-true, lt-leb, ne_eqb}
+use Rattle.std.proofs.lemmas.Bool.{leb-true}
 use Rattle.std.specs.Prelude.{IfOk, Result, Ok, Err, Option, Some, None, slice_get, nat_le, ◌==◌, true, false}
 use Rattle.ffi3_type_rules.specs.Tree.{Tree, struct_of, array_of, array as array_tree, trees_of}
 use Rattle.ffi3_type_rules.specs.Signature.{Signature}

@@ -1,12 +1,12 @@
 -- The fold over the nodes of a type leaves open what was open, with one fewer wanted.
-use Rattle.std.proofs.Common.{◌≡◌, ◌⊎◌, inl, inr, ℕ, zero, suc, ◌+◌, ◌-◌, ◌<◌, ◌≤◌, ◌&&◌, Bool, true, false, not, cond, List, [], ◌∷◌, ◌++◌, length, ap, sym, ◌∙◌, refl, arith, subst, append_assoc, append-nil}
+use Rattle.std.proofs.Common.{◌≡◌, ◌⊎◌, inl, inr, ℕ, zero, suc, ◌+◌, ◌-◌, ◌<◌, ◌≤◌, ◌&&◌, Bool, true, false, not, cond, List, [], ◌∷◌, ◌++◌, length, ap, ◌∙◌, refl, arith, subst, append_assoc}
 use Rattle.std.proofs.lemmas.Bool.{ne_eqb, le-leb, lt-leb}
-use Rattle.std.specs.Prelude.{Option, Some, None, slice_get, nat_le, nat_lt, ◌==◌}
-use Rattle.ffi3_type_rules.specs.Tree.{Tree, struct_of, array_of}
+use Rattle.std.specs.Prelude.{Option, Some, None, slice_get, nat_le, ◌==◌}
+use Rattle.ffi3_type_rules.specs.Tree.{Tree}
 use Rattle.ffi3_nodes.specs.declared.Node.{Node}
 use Rattle.ffi3_nodes.specs.declared.TheConstants.{STRUCT, ARRAY, DEEPEST}
 use Rattle.ffi3_nodes.specs.Nodes.{node, leaves, IsWritten, leaf, structure, array, AreWritten, none, one_more}
-use Rattle.ffi3_nodes.specs.Faults.{NodeFault, ended, unknown_kind, bad_count, too_deep, begun, closed, opened, open_after, is_kind, has_count, fault_at, fault_at_end, fault_from, or_else}
+use Rattle.ffi3_nodes.specs.Faults.{NodeFault, unknown_kind, bad_count, too_deep, begun, closed, opened, open_after, has_count, fault_at, fault_from, or_else}
 
 -- Nodes at the front of others are passed: the first fault is that of the others, behind them, or the nesting is too deep.
 pub data Passes (ks : List ℕ) (at : ℕ) (all : List Node) (left : List ℕ) (rest : List Node) : Type 0 where

@@ -1,5 +1,5 @@
 -- The first types of a list, whose last item is the first of them, taken one after another.
-use Rattle.std.proofs.Common.{◌≡◌, ℕ, zero, suc, ◌+◌, ◌<◌, ◌≤◌, List, [], ◌∷◌, ◌++◌, take, drop, length, reverse, ap, sym, ◌∙◌, refl, arith, append_assoc, append-nil}
+use Rattle.std.proofs.Common.{◌≡◌, ℕ, zero, suc, ◌+◌, List, [], ◌∷◌, ◌++◌, take, drop, length, reverse, ap, sym, ◌∙◌, refl, arith, append_assoc}
 use Rattle.ffi3_type_rules.specs.Tree.{Tree}
 use Rattle.ffi3_nodes.proofs.Opening.{last_first}
 

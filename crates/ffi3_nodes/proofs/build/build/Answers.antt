@@ -1,5 +1,4 @@
-use Rattle.std.proofs.Common.{◌≡◌, ◌+◌, ◌-◌, ◌<◌, length, drop, subst, sym, arith}
-use Rattle.std.specs.Prelude.{slice_index_or}
+use Rattle.std.proofs.Common.{◌≡◌, ◌+◌, ◌-◌, ◌<◌, length, drop, subst, arith}
 use Rattle.ffi3_nodes.specs.Nodes.{AreWritten}
 use Rattle.ffi3_nodes.proofs.Building.{written_at_end, node_fits}
 use Rattle.ffi3_nodes.proofs.build.build.Goals as goal

@@ -1,8 +1,5 @@
-use Rattle.std.proofs.Common.{◌≡◌, ℕ, List, [], ◌∷◌, ◌∙◌, take, drop, refl, ap, sym, subst}
-use Rattle.std.specs.Prelude.{IfOk}
+use Rattle.std.proofs.Common.{◌∷◌, ◌∙◌, drop, ap, sym, subst}
 use Rattle.ffi3_type_rules.specs.Tree.{struct_of, array, trees_of}
-use Rattle.ffi3_types.specs.TreeOf.{tree_of}
-use Rattle.ffi3_nodes.specs.declared.Node.{Node}
 use Rattle.ffi3_nodes.specs.Nodes.{AreWritten}
 use Rattle.ffi3_nodes.proofs.Building.{leaf_first, first_struct, first_array, below_struct}
 use Rattle.ffi3_nodes.proofs.build.first_type.Goals as goal

@@ -1,5 +1,4 @@
-use Rattle.std.proofs.Common.{◌≡◌, ◌+◌, ◌≤◌, ◌∷◌, length, ap, arith}
-use Rattle.ffi3_types.specs.TreeOf.{tree_of}
+use Rattle.std.proofs.Common.{length, ap, arith}
 use Rattle.ffi3_nodes.proofs.Building.{few_types}
 use Rattle.ffi3_nodes.proofs.signature.signature.Goals as goal
 
