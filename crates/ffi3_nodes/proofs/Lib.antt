@@ -1,0 +1,5 @@
+pub mod Passing
+pub mod Unique
+pub mod Building
+pub mod Opening
+pub mod Taking

@@ -1,0 +1,43 @@
+-- What the reader answers, in the words of the definitions.
+use Rattle.std.specs.Prelude.{◌≡◌, ℕ, ◌^◌, ◌<◌, ◌≤◌, ⊤, List, Option, Some, length}
+use Rattle.ffi3_type_rules.specs.Signature.{Signature, IsFirstSignatureFault}
+use Rattle.ffi3_types.specs.SignatureFaultOf.{signature_fault_of}
+use Rattle.ffi3_type_rules.specs.Tree.{Tree}
+use Rattle.ffi3_nodes.specs.declared.Node.{Node}
+use Rattle.ffi3_nodes.specs.declared.TheConstants.{STRUCT, ARRAY}
+use Rattle.ffi3_nodes.specs.declared.scan.NodeFault as code
+use Rattle.ffi3_nodes.specs.declared.scan.NodeFault.TheVariants.{Ended, UnknownKind, BadCount, TooDeep}
+use Rattle.ffi3_nodes.specs.Faults.{NodeFault, ended, unknown_kind, bad_count, too_deep, first_node_fault}
+use Rattle.ffi3_nodes.specs.Nodes.{IsSignatureOf}
+use Rattle.ffi3_nodes.specs.declared.signature.Refused.{Refused}
+use Rattle.ffi3_nodes.specs.declared.signature.Refused.TheVariants.{TooLong, Nodes, Sig, NoMemory}
+
+abbrev pub node_fault_of : code.NodeFault → NodeFault
+node_fault_of Ended = ended
+node_fault_of (UnknownKind at) = unknown_kind at
+node_fault_of (BadCount at) = bad_count at
+node_fault_of (TooDeep at) = too_deep at
+
+-- WHY NODES ARE NO SIGNATURE THAT CAN BE CALLED: too many, none of a signature, or of one that has this first fault. Memory alone is free.
+abbrev pub IsRefused : List Node → Option ℕ → Refused → Type 0
+IsRefused ns fixed TooLong = 2 ^ 32 ≤ length ns
+IsRefused ns fixed (Nodes f) = first_node_fault ns ≡ Some (node_fault_of f)
+IsRefused ns fixed (Sig f) = (s : Signature) × IsSignatureOf ns fixed s × IsFirstSignatureFault s (signature_fault_of f)
+IsRefused ns fixed NoMemory = ⊤
+
+-- Each refusal of nodes but that they are too deep says that no signature has them.
+abbrev pub IsOfNone : List Node → Refused → Type 0
+IsOfNone ns TooLong = ⊤
+IsOfNone ns (Nodes Ended) = (fixed : Option ℕ) (s : Signature) → IsSignatureOf ns fixed s → ⊥
+IsOfNone ns (Nodes (UnknownKind at)) = (fixed : Option ℕ) (s : Signature) → IsSignatureOf ns fixed s → ⊥
+IsOfNone ns (Nodes (BadCount at)) = (fixed : Option ℕ) (s : Signature) → IsSignatureOf ns fixed s → ⊥
+IsOfNone ns (Nodes (TooDeep at)) = ⊤
+IsOfNone ns (Sig f) = ⊤
+IsOfNone ns NoMemory = ⊤
+
+-- a node before these types, in nodes without a fault
+pub record Fits (n : Node) (ts : List Tree) : Type 0 where
+  pub known : n.kind ≤ ARRAY
+  pub plain : n.kind < STRUCT → n.count ≡ 0
+  pub elements : n.kind ≡ STRUCT → n.count ≤ length ts
+  pub element : n.kind ≡ ARRAY → 1 ≤ length ts

@@ -1,0 +1,40 @@
+//! Types and signatures as data: a flat array of nodes, in preorder.
+#![tactic(auto)]
+
+mod build;
+mod open;
+mod scan;
+mod signature;
+
+pub use scan::NodeFault;
+pub use signature::{Refused, read_signature};
+
+/// A node: C's `struct ffi3_node`.
+#[repr(C)]
+#[derive(Clone, Copy, Debug)]
+pub struct Node {
+    /// A scalar's kind, or one of those below.
+    pub kind: u32,
+    /// Of a struct how many elements follow; of an array how many it has of the one type that follows; of another 0.
+    pub count: u32,
+}
+
+/// No value: as a result alone.
+pub const VOID: u32 = 13;
+/// `float _Complex`: as the struct of two that the standards say.
+pub const COMPLEX_FLOAT: u32 = 14;
+/// `double _Complex`.
+pub const COMPLEX_DOUBLE: u32 = 15;
+/// `long double`, which is left out.
+pub const LONG_DOUBLE: u32 = 16;
+/// `long double _Complex`, which is left out.
+pub const COMPLEX_LONG_DOUBLE: u32 = 17;
+/// A vector of a machine's instructions, which is left out.
+pub const VECTOR: u32 = 18;
+/// A struct.
+pub const STRUCT: u32 = 19;
+/// An array, as an element.
+pub const ARRAY: u32 = 20;
+
+/// Structs and arrays stand at most so many deep in one another.
+pub const DEEPEST: u32 = 16;
