@@ -343,6 +343,7 @@ impl Abi for Win64 {
     ghost use Rattle.std.specs.Prelude.{refl};
     ghost use Rattle.std.proofs.lemmas.Bool.{ltb-true};
     ghost use Rattle.ffi3_win64_rules.proofs.Agrees.{agrees as agrees_with_machine};
+    ghost use Rattle.ffi3_win64_rules.proofs.Alike.{goes_by_layout};
     ghost use Rattle.ffi3_win64_rules.proofs.ByStubs.{by_stubs as without_stubs, result_by_stubs as result_without_stubs};
     ghost use Rattle.ffi3_win64_rules.proofs.Sound.{sound as every_law, determines};
 
@@ -367,4 +368,6 @@ impl Abi for Win64 {
     ghost sound = { every_law };
 
     ghost determined = { determines };
+
+    ghost by_layout = { goes_by_layout };
 }
