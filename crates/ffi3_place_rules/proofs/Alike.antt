@@ -1,13 +1,14 @@
 -- A plan goes by layouts where the standard's placing and its starts of copies do.
-use Rattle.std.proofs.Common.{◌≡◌, ℕ, ◌+◌, max, List, [], ◌∷◌, fold, refl, ap, ◌∙◌}
+use Rattle.std.proofs.Common.{◌≡◌, ℕ, ◌+◌, max, List, [], ◌∷◌, ◌++◌, fold, refl, ap, ◌∙◌}
 use Rattle.std.specs.List.{sum_by}
-use Rattle.ffi3_type_rules.specs.Tree.{Tree}
-use Rattle.ffi3_type_rules.specs.Layout.{size_of, least_multiple}
+use Rattle.ffi3_type_rules.specs.Tree.{Tree, structure, trees_of}
+use Rattle.ffi3_type_rules.specs.Layout.{layout, layouts, struct_layout, array_layout, size_of, least_multiple}
 use Rattle.ffi3_type_rules.specs.Signature.{Signature}
 use Rattle.ffi3_place_rules.specs.declared.Place.TheVariants.{ByRef}
 use Rattle.ffi3_place_rules.specs.declared.Res.TheVariants.{Hidden}
 use Rattle.ffi3_place_rules.specs.Standard.{Standard, Spot, in_pieces, by_reference, ResultSpot, no_result, in_result_pieces, in_buffer, Placing, round8, round16, start, place_at, copy_end, places_from, copies_end, result_at, buffer_end, copies_start, frame_copies_end, frame_of, block_bytes, need_of, plan_of}
-use Rattle.ffi3_place_rules.specs.Alike.{AreAlike, same_type, same_layout, AllAlike, SignaturesAreAlike}
+use Rattle.ffi3_place_rules.specs.Alike.{AreAlike, same_type, same_layout, AllAlike, SignaturesAreAlike, GoesByLayout, HasElementsForArray, in_place, inside, inside_array, AreAlikeButForArrays, no_difference, elements_for_array, AllAlikeButForArrays, PlacesArraysAsElements}
+use Rattle.ffi3_type_rules.proofs.Arrays.{array_is_its_elements}
 
 pub size_alike : (t u : Tree) → AreAlike t u → size_of t ≡ size_of u
 size_alike t u same_type = refl
@@ -85,3 +86,33 @@ plan_alike std starts s r h e =
       block = block i;
       vectors = vectors i;
     }
+
+-- ---- an array in a struct, and as many elements in its place
+
+layouts_with : (xs ys : List Tree) (t u : Tree) → layout t ≡ layout u → layouts (trees_of (xs ++ t ∷ ys)) ≡ layouts (trees_of (xs ++ u ∷ ys))
+layouts_with [] ys t u e = ap (λ l. l ∷ layouts (trees_of ys)) e
+layouts_with (x ∷ xs) ys t u e = ap (λ ls. layout x ∷ ls) (layouts_with xs ys t u e)
+
+elements_for_array_alike : (t u : Tree) → HasElementsForArray t u → layout t ≡ layout u
+elements_for_array_alike t u (in_place xs ys e n h) = array_is_its_elements xs ys e n h
+elements_for_array_alike t u (inside xs ys {t = x} {u = y} h) =
+    ap struct_layout (layouts_with xs ys x y (elements_for_array_alike x y h))
+elements_for_array_alike t u (inside_array n {t = x} {u = y} h) =
+    ap (λ l. array_layout l n) (elements_for_array_alike x y h)
+
+but_for_arrays : (t u : Tree) → AreAlikeButForArrays t u → AreAlike t u
+but_for_arrays t u no_difference = same_type
+but_for_arrays t u (elements_for_array {ts = ts} {us = us} h) =
+    same_layout (elements_for_array_alike (structure ts) (structure us) h)
+
+all_but_for_arrays : (ts us : List Tree) → AllAlikeButForArrays ts us → AllAlike ts us
+all_but_for_arrays [] [] h = h
+all_but_for_arrays [] (u ∷ us) h = absurd h
+all_but_for_arrays (t ∷ ts) [] h = absurd h
+all_but_for_arrays (t ∷ ts) (u ∷ us) h =
+    (but_for_arrays t u h.0, all_but_for_arrays ts us h.1)
+
+-- a standard that goes by layout places arrays as their elements
+pub arrays_as_elements : (std : Standard) → GoesByLayout std → PlacesArraysAsElements std
+arrays_as_elements std by_layout s r h =
+    by_layout s r (record { result_type = but_for_arrays s.result_type r.result_type h.result_type; arguments = all_but_for_arrays s.arguments r.arguments h.arguments; fixed = h.fixed })

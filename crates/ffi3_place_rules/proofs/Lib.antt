@@ -13,6 +13,8 @@ pub mod Elements
 pub mod Worked
 pub mod Ends
 pub mod Copies
+pub mod Items
+pub mod Framed
 pub mod Planned
 pub mod Alike
 mod Area

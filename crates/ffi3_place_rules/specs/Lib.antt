@@ -11,5 +11,6 @@ pub mod Agrees
 pub mod Doublewords
 pub mod Sums
 pub mod Copies
+pub mod Framed
 pub mod Planned
 pub mod ByStubs

@@ -14,6 +14,7 @@ use Rattle.ffi3_place_rules.specs.declared.Res.{Res}
 use Rattle.ffi3_place_rules.specs.declared.Res.TheVariants.{Nothing, Direct as DirectRes, Hidden}
 use Rattle.ffi3_place_rules.specs.declared.Plan.{Plan}
 use Rattle.ffi3_place_rules.specs.Standard.{in_result_pieces, in_buffer, in_pieces, by_reference, place_at, places_from, copy_end, copies_end, result_at, buffer_end, copies_start, frame_copies_end, plan_of, round8, round16}
+use Rattle.ffi3_place_rules.proofs.Items.{same_items}
 use Rattle.ffi3_win64_rules.specs.Win64.{win64, is_copied, position_place, floating_places, argument_pieces, whole, whole_in, result_place, result_spot_of, spot_at, spots_from, first_position, placing_of}
 use Rattle.ffi3_win64_rules.specs.Positions.{position, copies_before, buffer_bytes, IsByPosition, IsPlacedByPosition}
 use Rattle.ffi3_win64_rules.proofs.Sound.{result_cases}
@@ -136,16 +137,6 @@ same_result t d h a b none_a direct_a hidden_a none_b direct_b hidden_b =
         by_copied (structure ts) (is_copied (structure ts)) refl (λ e. cc) da ha db hb
     cases (array ts n) na da ha nb db hb =
         by_copied (array ts n) (is_copied (array ts n)) refl (λ e. cc) da ha db hb
-
--- two lists with the same items
-same_items : (xs ys : List Place) → length xs ≡ length ys → ((i : ℕ) → i < length xs → slice_get xs i ≡ slice_get ys i) → xs ≡ ys
-same_items [] [] e h = refl
-same_items [] (y ∷ ys) e h = absurd (omega (arith, e))
-same_items (x ∷ xs) [] e h = absurd (omega (arith, e))
-same_items (x ∷ xs) (y ∷ ys) e h =
-    let first : x ≡ y = cc (h 0 (omega arith)) in
-    let rest : xs ≡ ys = same_items xs ys (omega (arith, e)) (λ i below. h (suc i) (omega arith)) in
-    λ i. first i ∷ rest i
 
 -- ---- all of a call
 
