@@ -18,7 +18,7 @@ pub mod laws;
 
 pub use ffi3_amd64_rules::Class;
 use ffi3_place::ends::{buffer_end, planned, start};
-use ffi3_place::parts::{doubleword, is_floating, one_piece, stack_pieces, two_pieces, widening};
+use ffi3_place::parts::{doubleword, one_piece, stack_pieces, two_pieces, widening};
 use ffi3_place::{Abi, Loc, Pieces, Place, Places, Plan, Res, SaveWord};
 use ffi3_place_rules::Taken;
 use ffi3_type_rules::round_up;
@@ -34,7 +34,7 @@ fn is_integer_leaf_in(ty: &CheckedType<'_>, i: u32, eightbyte: u32) -> bool
     let leaf = ty.leaf(i);
     let size = leaf.kind.size();
     let start = 8 * eightbyte as u64;
-    leaf.at < start + 8 && start < leaf.at + size && !is_floating(&leaf.kind)
+    leaf.at < start + 8 && start < leaf.at + size && !leaf.kind.is_floating()
 }
 
 /// The class of an eightbyte of a value that is passed in registers: INTEGER where an integer or a pointer lies in it, otherwise SSE. (psABI AMD64 3.2.3)
@@ -75,7 +75,7 @@ fn with_leaf(before: Integers, ty: &CheckedType<'_>, i: u32) -> Integers
 {
     let leaf = ty.leaf(i);
     let size = leaf.kind.size();
-    let is_integer = !is_floating(&leaf.kind);
+    let is_integer = !leaf.kind.is_floating();
     Integers {
         first: before.first || (leaf.at < 8 && 0 < leaf.at + size && is_integer),
         second: before.second || (leaf.at < 16 && 8 < leaf.at + size && is_integer),

@@ -15,6 +15,8 @@ mod regions;
 #[cfg(test)]
 mod runs;
 #[cfg(test)]
+mod shapes;
+#[cfg(test)]
 mod slots;
 #[cfg(test)]
 mod stub_bytes;

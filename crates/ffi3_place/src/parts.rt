@@ -2,9 +2,7 @@
 ghost use Rattle.std.specs.Prelude.{◌≡◌, ◌<◌, ◌≤◌, ◌*◌, [], ◌∷◌, length, IfOk};
 ghost use Rattle.std.specs.List.{sum_by};
 ghost use Rattle.ffi3_type_rules.specs.declared.limits.TheConstants.{ARGUMENT_BYTES, LARGEST_TYPE};
-ghost use Rattle.ffi3_type_rules.specs.Tree.{Scalar, scalar};
 ghost use Rattle.ffi3_type_rules.specs.Layout.{size_of, leaves_of, leaf_at};
-ghost use Rattle.ffi3_type_rules.specs.Integer.{is_floating};
 ghost use Rattle.ffi3_types.specs.TreeOf.{tree_of};
 ghost use Rattle.ffi3_place_rules.specs.Standard.{doubleword, round8};
 ghost use Rattle.ffi3_place_rules.specs.Doublewords.{doublewords, filling, widening, stack_pieces, leaf_piece};
@@ -37,13 +35,6 @@ pub fn doublewords(ty: &CheckedType<'_>) -> u64
     ensures few { 8 * result ≤ LARGEST_TYPE }
 {
     (ty.size() + 7) / 8
-}
-
-/// Whether a scalar is a float or a double.
-pub fn is_floating(kind: &FfiType) -> bool
-    ensures { (s : Scalar) → tree_of kind.now ≡ scalar s → result ≡ is_floating s }
-{
-    matches!(kind, FfiType::Float | FfiType::Double)
 }
 
 /// What fills the rest of a value's places: `narrow` above a lone integer of fewer than 8 bytes, and anything above all else.

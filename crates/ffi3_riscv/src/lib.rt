@@ -20,7 +20,7 @@ ghost use Rattle.ffi3_riscv.specs.Found.{IsFound};
 pub mod laws;
 
 use ffi3_place::ends::{buffer_end, lay_copies, planned, start};
-use ffi3_place::parts::{doubleword, filling, is_floating, leaf_piece, one_piece, two_pieces};
+use ffi3_place::parts::{doubleword, filling, leaf_piece, one_piece, two_pieces};
 use ffi3_place::{Abi, Ext, Loc, Piece, Pieces, Place, Places, Plan, Res, SaveWord};
 pub use ffi3_riscv_rules::Shape;
 use ffi3_riscv_rules::TakenWords;
@@ -63,7 +63,7 @@ fn shape_of_one(leaf: &FfiType, otherwise: Shape) -> Shape
     ensures value { (s : Scalar) → tree_of leaf.now ≡ scalar s → result ≡ cond {A = Shape} (is_floating s) OneF otherwise }
     ensures small { words_of result ≤ 2 }
 {
-    if is_floating(leaf) {
+    if leaf.is_floating() {
         Shape::OneF
     } else {
         otherwise
@@ -76,8 +76,8 @@ fn shape_of_two(first: &FfiType, second: &FfiType, otherwise: Shape) -> Shape
     ensures value { (s u : Scalar) → tree_of first.now ≡ scalar s → tree_of second.now ≡ scalar u → result ≡ shape_of_two otherwise s u }
     ensures small { words_of result ≤ 2 }
 {
-    let first_floats = is_floating(first);
-    let second_floats = is_floating(second);
+    let first_floats = first.is_floating();
+    let second_floats = second.is_floating();
     if first_floats && second_floats {
         Shape::TwoF
     } else if first_floats && is_word_integer(second) {

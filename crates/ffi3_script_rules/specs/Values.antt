@@ -11,7 +11,7 @@ use Rattle.serde_json.specs.Data.{no_members, member, Num}
 use Rattle.serde_json.specs.Find.{as_number, as_u64, as_str, as_integer}
 use Rattle.serde_json.specs.Events.{items_len}
 use Rattle.ffi3_type_rules.specs.declared.Role.TheVariants.{AsArgument}
-use Rattle.ffi3_type_rules.specs.Tree.{Tree, scalar, structure, no_trees, tree, elements_of, Scalar, u128, s128}
+use Rattle.ffi3_type_rules.specs.Tree.{Tree, scalar, structure, no_trees, tree, elements_of, Scalar}
 use Rattle.ffi3_type_rules.specs.Tree.{pointer}
 use Rattle.ffi3_type_rules.specs.Tree as types
 pub use Rattle.ffi3_type_rules.specs.Integer.{is_integer_type, is_floating_type}
@@ -99,10 +99,27 @@ read_written s None path = fault path bad_integer
 read_written s (Some z) path = read_integer s (Some z) path
 
 -- the integers of 128 bits
+abbrev pub is_wide : Scalar → Bool
+is_wide types.u8 = false
+is_wide types.s8 = false
+is_wide types.u16 = false
+is_wide types.s16 = false
+is_wide types.u32 = false
+is_wide types.s32 = false
+is_wide types.u64 = false
+is_wide types.s64 = false
+is_wide types.u128 = true
+is_wide types.s128 = true
+is_wide types.float = false
+is_wide types.double = false
+is_wide types.pointer = false
+
 abbrev pub is_wide_type : Tree → Bool
-is_wide_type (scalar u128) = true
-is_wide_type (scalar s128) = true
-is_wide_type _ = false
+is_wide_type types.void = false
+is_wide_type (scalar s) = is_wide s
+is_wide_type (types.left_out k) = false
+is_wide_type (structure ts) = false
+is_wide_type (types.array ts n) = false
 
 -- the bytes of a float or double in memory order, two hexadecimal digits each
 abbrev pub read_floating : Tree → List ℕ → JsonPath → Read Expression

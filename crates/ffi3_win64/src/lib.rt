@@ -6,7 +6,7 @@ ghost use Rattle.ffi3_type_rules.specs.declared.limits.TheConstants.{ARGUMENT_BY
 ghost use Rattle.ffi3_type_rules.specs.Tree.{Tree};
 ghost use Rattle.ffi3_types.specs.TreeOf.{tree_of};
 ghost use Rattle.ffi3_place_rules.specs.Standard.{places_from, place_at, copies_end, result_at, plan_of};
-ghost use Rattle.ffi3_win64_rules.specs.Win64.{win64, is_whole_size, is_copied, is_floating_type, position_place, floating_places, whole, whole_in, argument_pieces, spot_at, spots_from, first_position, result_place, result_spot_of, stack_of, copy_start};
+ghost use Rattle.ffi3_win64_rules.specs.Win64.{win64, is_whole_size, is_copied, position_place, floating_places, whole, whole_in, argument_pieces, spot_at, spots_from, first_position, result_place, result_spot_of, stack_of, copy_start};
 
 pub mod laws;
 
@@ -32,13 +32,6 @@ fn is_copied(ty: &CheckedType<'_>) -> bool
     ensures { result ≡ is_copied ty.now }
 {
     !is_whole_size(ty.size())
-}
-
-/// Whether a type is a float or a double.
-fn is_floating_type(ty: &FfiType) -> bool
-    ensures { result ≡ is_floating_type (tree_of ty.now) }
-{
-    matches!(ty, FfiType::Float | FfiType::Double)
 }
 
 // ---- positions
@@ -102,7 +95,7 @@ fn argument_pieces(
     requires few { p ≤ MOST_ARGUMENTS }
     ensures { IfOk result (λ ps. ps ≡ argument_pieces variadic p ty.now) }
 {
-    if is_floating_type(ty.as_type()) && p < 4 {
+    if ty.as_type().is_floating() && p < 4 {
         floating_pieces(alloc, variadic, p, ty)
     } else {
         one_piece(alloc, whole(ty, position_place(p)))
@@ -203,7 +196,7 @@ fn stack_of(positions: u64) -> u64
 fn result_place(ty: &FfiType) -> Loc
     ensures { result ≡ result_place (tree_of ty.now) }
 {
-    if is_floating_type(ty) {
+    if ty.is_floating() {
         Loc::F(0)
     } else {
         Loc::G(0)

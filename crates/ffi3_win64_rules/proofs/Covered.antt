@@ -4,13 +4,14 @@ use Rattle.std.specs.List.{AllByRecursion}
 use Rattle.std.proofs.lemmas.Bool.Decides.{nat_tests}
 use Rattle.ffi3_type_rules.specs.Tree.{Tree, void, scalar, left_out, structure, array, Scalar, u8, s8, u16, s16, u32, s32}
 use Rattle.ffi3_type_rules.specs.Layout.{size_of}
+use Rattle.ffi3_type_rules.specs.Integer.{is_floating_type}
 use Rattle.ffi3_place_rules.specs.declared.Loc.{Loc}
 use Rattle.ffi3_place_rules.specs.declared.Loc.TheVariants.{G, F}
 use Rattle.ffi3_place_rules.specs.Standard.{in_pieces, by_reference, place_at, places_from, copy_end}
 use Rattle.ffi3_place_rules.specs.Doublewords.{widening}
 use Rattle.ffi3_place_rules.specs.Sound.{IsExtended, IsPieceOf, HaveAll, PlaceHasAll, PlacesHaveAll}
 use Rattle.ffi3_place_rules.proofs.Covered.{covers_leaves}
-use Rattle.ffi3_win64_rules.specs.Win64.{is_whole_size, is_copied, is_floating_type, general_argument, position_place, floating_places, whole, whole_in, argument_pieces, spot_at, spots_from}
+use Rattle.ffi3_win64_rules.specs.Win64.{is_whole_size, is_copied, general_argument, position_place, floating_places, whole, whole_in, argument_pieces, spot_at, spots_from}
 
 -- ---- what is not copied has at most eight bytes
 

@@ -2,13 +2,14 @@
 use Rattle.std.proofs.Common.{◌≡◌, ℕ, ◌+◌, ◌*◌, Bool, true, false, ◌&&◌, ltb, cond, List, [], ◌∷◌, refl}
 use Rattle.std.specs.List.{AllByRecursion}
 use Rattle.ffi3_type_rules.specs.Tree.{Tree, void, scalar, left_out, structure, array, Scalar, u8, s8, u16, s16, u32, s32, u64, s64, u128, s128, float, double, pointer}
+use Rattle.ffi3_type_rules.specs.Integer.{is_floating_type}
 use Rattle.ffi3_place_rules.specs.declared.Loc.{Loc}
 use Rattle.ffi3_place_rules.specs.declared.Loc.TheVariants.{G, F, S}
 use Rattle.ffi3_place_rules.specs.declared.Ext.TheVariants.{Widen}
 use Rattle.ffi3_place_rules.specs.Standard.{in_pieces, by_reference, place_at, places_from, copy_end}
 use Rattle.ffi3_place_rules.specs.Sound.{is_floating_place, IsFilled, PlaceIsFilled, PlacesAreFilled}
 use Rattle.ffi3_place_rules.proofs.Filled.{narrow_filling}
-use Rattle.ffi3_win64_rules.specs.Win64.{win64, is_copied, is_floating_type, general_argument, position_place, floating_places, whole, whole_in, argument_pieces, result_place, spot_at, spots_from}
+use Rattle.ffi3_win64_rules.specs.Win64.{win64, is_copied, general_argument, position_place, floating_places, whole, whole_in, argument_pieces, result_place, spot_at, spots_from}
 
 differ : (b : Bool) → b ≡ true → b ≡ false → ⊥
 differ b h k = cc

@@ -5,6 +5,7 @@ use Rattle.std.proofs.lemmas.Bool.{lt-ltb}
 use Rattle.ffi3_type_rules.specs.Tree.{Tree, void, scalar, left_out, structure, array, tree_at}
 use Rattle.ffi3_type_rules.specs.Layout.{size_of, least_multiple}
 use Rattle.ffi3_type_rules.specs.Signature.{Signature}
+use Rattle.ffi3_type_rules.specs.Integer.{is_floating_type}
 use Rattle.ffi3_place_rules.specs.declared.Loc.{Loc}
 use Rattle.ffi3_place_rules.specs.declared.Piece.{Piece}
 use Rattle.ffi3_place_rules.specs.declared.Place.{Place}
@@ -14,7 +15,7 @@ use Rattle.ffi3_place_rules.specs.declared.Res.TheVariants.{Nothing, Direct as D
 use Rattle.ffi3_place_rules.specs.declared.Plan.{Plan}
 use Rattle.ffi3_place_rules.specs.Standard.{in_result_pieces, in_buffer, in_pieces, by_reference, place_at, places_from, copy_end, copies_end, result_at, buffer_end, copies_start, frame_copies_end, plan_of, round8, round16}
 use Rattle.ffi3_place_rules.proofs.Items.{same_items}
-use Rattle.ffi3_win64_rules.specs.Win64.{win64, is_copied, is_floating_type, position_place, floating_places, argument_pieces, whole, whole_in, result_place, result_spot_of, spot_at, spots_from, first_position, placing_of}
+use Rattle.ffi3_win64_rules.specs.Win64.{win64, is_copied, position_place, floating_places, argument_pieces, whole, whole_in, result_place, result_spot_of, spot_at, spots_from, first_position, placing_of}
 use Rattle.ffi3_win64_rules.specs.Positions.{position, copies_before, buffer_bytes, IsByPosition, IsPlacedByPosition}
 use Rattle.ffi3_win64_rules.proofs.Sound.{result_cases}
 

@@ -7,6 +7,7 @@ use Rattle.ffi3_type_rules.specs.Isa.{isa_of}
 use Rattle.ffi3_type_rules.specs.Tree.{Tree, void, scalar, left_out, structure, array}
 use Rattle.ffi3_type_rules.specs.Signature.{Signature}
 use Rattle.ffi3_type_rules.proofs.Layouts.{least_multiple-above}
+use Rattle.ffi3_type_rules.specs.Integer.{is_floating_type}
 use Rattle.ffi3_place_rules.specs.declared.Loc.{Loc}
 use Rattle.ffi3_place_rules.specs.declared.Loc.TheVariants.{G, F, S}
 use Rattle.ffi3_place_rules.specs.declared.Taken.{Taken}
@@ -17,7 +18,7 @@ use Rattle.ffi3_place_rules.proofs.Forbidden.{none_of}
 use Rattle.ffi3_place_rules.proofs.Frame.{up_to, frame_chain}
 use Rattle.ffi3_place_rules.proofs.Aligned.{frame_is_aligned, need_is_aligned}
 use Rattle.ffi3_place_rules.proofs.Determines.{determined}
-use Rattle.ffi3_win64_rules.specs.Win64.{win64, is_copied, is_floating_type, general_argument, position_place, floating_places, whole, whole_in, argument_pieces, spot_at, spots_from, first_position, result_place, result_spot_of, stack_of, placing_of}
+use Rattle.ffi3_win64_rules.specs.Win64.{win64, is_copied, general_argument, position_place, floating_places, whole, whole_in, argument_pieces, spot_at, spots_from, first_position, result_place, result_spot_of, stack_of, placing_of}
 use Rattle.ffi3_win64_rules.proofs.Covered.{whole_has_all, arguments_have_all}
 use Rattle.ffi3_win64_rules.proofs.Filled.{arguments_filled, result_filled}
 use Rattle.ffi3_win64_rules.proofs.Rising.{arguments_rise}

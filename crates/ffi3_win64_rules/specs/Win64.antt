@@ -1,12 +1,12 @@
 -- Where the arguments and the result of a call stand by the Microsoft x64 calling convention. (Microsoft, "x64 calling convention": each rule names its section, "Calling convention defaults", "Parameter passing", "Varargs", "Return values" or "Caller/callee saved registers"; the stack also "x64 stack usage", "Stack allocation". Integer names keep the sizes that they have on the other targets: `ulong` and `slong` have 64 bits, where Windows' `long` has 32)
-use Rattle.std.specs.Prelude.{ℕ, ◌+◌, ◌*◌, ◌==◌, ◌||◌, Bool, false, not, ◌&&◌, cond, nat_lt, max, List, [], ◌∷◌, ◌++◌}
+use Rattle.std.specs.Prelude.{ℕ, ◌+◌, ◌*◌, ◌==◌, ◌||◌, Bool, not, ◌&&◌, cond, nat_lt, max, List, [], ◌∷◌, ◌++◌}
 use Rattle.std.specs.Prelude.{map, get_or, length, Some, None, is_some}
 use Rattle.ffi3_type_rules.specs.declared.Target.TheVariants as target
 use Rattle.ffi3_type_rules.specs.declared.Isa.{Isa}
 use Rattle.ffi3_type_rules.specs.Isa.{isa_of}
-use Rattle.ffi3_type_rules.specs.Tree.{Tree, void, scalar}
+use Rattle.ffi3_type_rules.specs.Tree.{Tree, void}
 use Rattle.ffi3_type_rules.specs.Layout.{size_of}
-use Rattle.ffi3_type_rules.specs.Integer.{is_floating}
+use Rattle.ffi3_type_rules.specs.Integer.{is_floating_type}
 use Rattle.ffi3_type_rules.specs.Signature.{Signature}
 use Rattle.ffi3_place_rules.specs.declared.Loc.{Loc}
 use Rattle.ffi3_place_rules.specs.declared.Loc.TheVariants.{G, F, S}
@@ -29,10 +29,6 @@ is_whole_size n = n == 0 || n == 1 || n == 2 || n == 4 || n == 8
 -- An argument that doesn't fit in 8 bytes, or isn't 1, 2, 4 or 8 bytes, is passed by reference: a pointer to memory that the caller allocates. So are 16-byte arguments, among them a 128-bit integer. ("Calling convention defaults"; "Parameter passing", on structs of other sizes. Microsoft's document names no such integer: that it goes by its size is this library's rule.)
 abbrev pub is_copied : Tree → Bool
 is_copied t = not (is_whole_size (size_of t))
-
-abbrev pub is_floating_type : Tree → Bool
-is_floating_type (scalar s) = is_floating s
-is_floating_type _ = false
 
 -- ---- positions: there is a strict one-to-one correspondence between the arguments of a call and the registers used for them, and a single argument is never spread across several. ("Calling convention defaults")
 
