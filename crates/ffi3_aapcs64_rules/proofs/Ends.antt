@@ -1,18 +1,23 @@
--- What the arguments before a number have taken ends where the steps over the whole list end, and the ends leave no choice.
+-- What the arguments before a number have taken ends where the steps over the whole list end; so the plan of a call is by the ends, and no other plan is.
 use Rattle.std.proofs.Common.{◌≡◌, ℕ, zero, suc, ◌+◌, ◌<◌, ◌≤◌, Bool, true, false, cond, leb, List, [], ◌∷◌, take, length, ap, subst, sym, inl, inr, ◌∙◌, refl, arith}
 use Rattle.std.specs.Prelude.{Some, slice_get}
 use Rattle.std.proofs.lemmas.Bool.{cases_lt}
 use Rattle.std.proofs.lemmas.Bool.Decides.{nat_tests}
-use Rattle.ffi3_type_rules.specs.Tree.{Tree, tree_at}
+use Rattle.ffi3_type_rules.specs.Tree.{Tree, void, scalar, left_out, structure, array, tree_at}
 use Rattle.ffi3_type_rules.specs.Signature.{Signature}
+use Rattle.ffi3_place_rules.specs.declared.Loc.TheVariants.{G}
+use Rattle.ffi3_place_rules.specs.declared.Piece.{Piece}
+use Rattle.ffi3_place_rules.specs.declared.Plan.{Plan}
 use Rattle.ffi3_place_rules.specs.declared.Taken.{Taken}
-use Rattle.ffi3_place_rules.specs.Standard.{Spot}
+use Rattle.ffi3_place_rules.specs.Standard.{in_pieces, by_reference, in_result_pieces, in_buffer, plan_of}
 use Rattle.ffi3_place_rules.specs.Sums.{sum_below}
-use Rattle.ffi3_aapcs64_rules.specs.Aapcs64.{aapcs64, in_vectors, passed, registers_needed, register_spot, stack_spot, taken_with, taken_after, untouched, spot_after, spots_after, placing_of}
-use Rattle.ffi3_aapcs64_rules.specs.Ends.{vectors, general_start, general_step, general_before, vector_before, first_of, is_in_registers, stack_at, stack_before, ArePlacedByEnds, IsOnlyPlacing, NoneFitsLater, IsPlacedByEnds}
+use Rattle.ffi3_place_rules.specs.Framed.{IsFramedByEnds}
+use Rattle.ffi3_aapcs64_rules.specs.Aapcs64.{aapcs64, in_vectors, is_copied, passed, registers_needed, register_pieces, taken_with, taken_after, untouched, spot_after, spots_after, result_from, result_spot_of, placing_of}
+use Rattle.ffi3_aapcs64_rules.specs.Ends.{result_of, vectors, general_start, general_step, general_before, vector_before, stack_before, spot_of, IsByEnds, NoneFitsLater, IsPlacedByEnds}
 use Rattle.ffi3_type_rules.specs.Layout.{align_of}
-use Rattle.ffi3_place_rules.proofs.Copies.{copies_by_ends}
+use Rattle.ffi3_place_rules.proofs.Framed.{framed_by_ends, framed_once}
 use Rattle.ffi3_place_rules.proofs.Ends.{even-behind, ends_rise}
+use Rattle.ffi3_aapcs64_rules.proofs.Covered.{first_spot}
 
 -- what the arguments before number i take
 abbrev pub taken_before : Signature → ℕ → Taken
@@ -83,15 +88,23 @@ kind_rises false false v g w k e hv hg = hg
 kind_rises true false v g w k e hv hg = cc
 kind_rises false true v g w k e hv hg = cc
 
--- two lists with the same items
-same_items : (xs ys : List Spot) → length xs ≡ length ys → ((i : ℕ) → i < length xs → slice_get xs i ≡ slice_get ys i) → xs ≡ ys
-same_items [] [] e h = refl
-same_items [] (y ∷ ys) e h = absurd (omega (arith, e))
-same_items (x ∷ xs) [] e h = absurd (omega (arith, e))
-same_items (x ∷ xs) (y ∷ ys) e h =
-    let first : x ≡ y = cc (h 0 (omega arith)) in
-    let rest : xs ≡ ys = same_items xs ys (omega (arith, e)) (λ i below. h (suc i) (omega arith)) in
-    λ i. first i ∷ rest i
+-- ---- a result
+
+from_if : (b : Bool) (pieces : List Piece) → result_from (cond b (by_reference (G 0)) (in_pieces pieces)) ≡ cond b (in_buffer (G 8)) (in_result_pieces pieces)
+from_if true pieces = refl
+from_if false pieces = refl
+
+from_first : (t : Tree) → result_from (spot_after untouched t) ≡ cond (is_copied t) (in_buffer (G 8)) (in_result_pieces (register_pieces 0 t))
+from_first t = ap result_from (first_spot t) ∙ from_if (is_copied t) (register_pieces 0 t)
+
+result_is : (t : Tree) → result_spot_of t ≡ result_of t
+result_is void = refl
+result_is (scalar k) = from_first (scalar k)
+result_is (left_out k) = from_first (left_out k)
+result_is (structure ts) = from_first (structure ts)
+result_is (array ts n) = from_first (array ts n)
+
+-- ---- all of a call
 
 module _ (s : Signature) where
   abbrev ends_before : ℕ → Taken
@@ -108,35 +121,23 @@ module _ (s : Signature) where
       taken_next untouched s.arguments i (omega arith) ∙ ap (λ a. taken_with a t) before ∙ more
 
   -- the place of each argument is that of the ends
-  spot_by_ends : (i : ℕ) → i < length s.arguments → slice_get (placing_of s).arguments i ≡ Some (spot_after (ends_before i) (tree_at s.arguments i))
+  spot_by_ends : (i : ℕ) → i < length s.arguments → slice_get (placing_of s).arguments i ≡ Some (spot_of s i)
   spot_by_ends i h =
       spot_at untouched s.arguments i h ∙ ap (λ a. Some (spot_after a (tree_at s.arguments i))) (ends_are_taken i (omega arith))
 
-  -- an argument's place by whether it is in registers
-  abbrev SpotIf : ℕ → Bool → Spot
-  SpotIf i b =
-      cond b (register_spot (first_of s i) (tree_at s.arguments i)) (stack_spot (stack_at s i (stack_before s i)) (tree_at s.arguments i))
+  stack_by_ends : (placing_of s).stack_bytes ≡ stack_before s (length s.arguments)
+  stack_by_ends =
+      ap (λ a. a.stack) (sym (taken_all untouched s.arguments) ∙ ends_are_taken (length s.arguments) (omega arith))
 
-  pub placed_by_ends : ArePlacedByEnds s (placing_of s).arguments (placing_of s).stack_bytes
-  placed_by_ends = record {
-    one_each = spots_length untouched s.arguments;
-    in_registers = λ i h e. spot_by_ends i h ∙ ap (λ b. Some (SpotIf i b)) e;
-    on_stack = λ i h e. spot_by_ends i h ∙ ap (λ b. Some (SpotIf i b)) e;
-    stack_total = ap (λ a. a.stack) (sym (taken_all untouched s.arguments) ∙ ends_are_taken (length s.arguments) (omega arith));
-  }
+  pub placed_by_ends : IsByEnds s (plan_of aapcs64 s)
+  placed_by_ends =
+      let framed = framed_by_ends aapcs64 s (spot_of s) (spots_length untouched s.arguments) spot_by_ends in
+      let by_result = subst (λ r. IsFramedByEnds aapcs64 s (spot_of s) r (placing_of s).stack_bytes 0 (plan_of aapcs64 s)) (result_is s.result_type) framed in
+      subst (λ n. IsFramedByEnds aapcs64 s (spot_of s) (result_of s.result_type) n 0 (plan_of aapcs64 s)) stack_by_ends by_result
 
-  -- ---- the ends leave no choice
-
-  same_spot : (xs : List Spot) (n : ℕ) → ArePlacedByEnds s xs n → (i : ℕ) → i < length s.arguments → (b : Bool) → is_in_registers s i ≡ b → slice_get xs i ≡ slice_get (placing_of s).arguments i
-  same_spot xs n placed i h true e =
-      placed.in_registers i h e ∙ sym (placed_by_ends.in_registers i h e)
-  same_spot xs n placed i h false e =
-      placed.on_stack i h e ∙ sym (placed_by_ends.on_stack i h e)
-
-  pub only : IsOnlyPlacing s
-  only xs n placed =
-      let spots = same_items xs (placing_of s).arguments (placed.one_each ∙ sym placed_by_ends.one_each) (λ i h. same_spot xs n placed i (subst (λ k. i < k) placed.one_each h) (is_in_registers s i) refl) in
-      (spots, placed.stack_total ∙ sym placed_by_ends.stack_total)
+  pub only : (p : Plan) → IsByEnds s p → p ≡ plan_of aapcs64 s
+  only p by =
+      framed_once aapcs64 s (spot_of s) (spot_of s) (λ i h. refl) (stack_before s (length s.arguments)) (result_of s.result_type) 0 p (plan_of aapcs64 s) by placed_by_ends
 
   generals_rise : (i j : ℕ) → i ≤ j → general_before s i ≤ general_before s j
   generals_rise =
@@ -159,5 +160,4 @@ module _ (s : Signature) where
     placed = placed_by_ends;
     only = only;
     none_fits_later = none_fits_later;
-    frame = copies_by_ends aapcs64 s (spots_length untouched s.arguments);
   }

@@ -1,12 +1,21 @@
--- The places of a call by where the arguments before each end, over the whole list of arguments. (Arm AAPCS64, IHI 0055, "Parameter passing rules", stage C)
-use Rattle.std.specs.Prelude.{◌≡◌, ℕ, ◌+◌, ◌<◌, ◌≤◌, Bool, true, false, cond, nat_le, List, length, Some, slice_get}
-use Rattle.ffi3_type_rules.specs.Tree.{Tree, tree_at}
+-- The plan of a call by where the arguments before each end, over the whole list of arguments. (Arm AAPCS64, IHI 0055, "Parameter passing rules", stage C, and "Result return")
+use Rattle.std.specs.Prelude.{◌≡◌, ℕ, ◌+◌, ◌<◌, ◌≤◌, Bool, false, cond, nat_le, length}
+use Rattle.ffi3_type_rules.specs.Tree.{Tree, void, tree_at}
 use Rattle.ffi3_type_rules.specs.Signature.{Signature}
-use Rattle.ffi3_place_rules.specs.Standard.{Spot}
+use Rattle.ffi3_place_rules.specs.declared.Loc.TheVariants.{G}
+use Rattle.ffi3_place_rules.specs.declared.Plan.{Plan}
+use Rattle.ffi3_place_rules.specs.Standard.{Spot, ResultSpot, no_result, in_result_pieces, in_buffer, plan_of}
 use Rattle.ffi3_place_rules.specs.Sums.{sum_below, end_below}
-use Rattle.ffi3_place_rules.specs.Copies.{CopiesByEnds}
-use Rattle.ffi3_aapcs64_rules.specs.Aapcs64.{aapcs64, in_vectors, passed, registers_needed, stack_size, first_general}
-use Rattle.ffi3_aapcs64_rules.specs.Aapcs64.{stack_start, register_spot, stack_spot, placing_of}
+use Rattle.ffi3_place_rules.specs.Framed.{IsFramedByEnds}
+use Rattle.ffi3_aapcs64_rules.specs.Aapcs64.{aapcs64, in_vectors, is_copied, passed, registers_needed, stack_size}
+use Rattle.ffi3_aapcs64_rules.specs.Aapcs64.{first_general, stack_start, register_pieces, register_spot, stack_spot}
+
+-- ---- a result ("Result return")
+
+-- in the registers of a first argument, from number 0 of their kind on; where that would be copied, in a buffer of the caller, whose address is in x8
+abbrev pub result_of : Tree → ResultSpot
+result_of void = no_result
+result_of t = cond (is_copied t) (in_buffer (G 8)) (in_result_pieces (register_pieces 0 t))
 
 -- ---- arguments
 
@@ -52,20 +61,17 @@ module _ (s : Signature) where
   abbrev pub stack_before : ℕ → ℕ
   stack_before i = end_below stack_step 0 i
 
-  -- THE ENDS PLACE THE ARGUMENTS: each in registers, or on the stack, behind the end of those before it.
-  pub record ArePlacedByEnds (spots : List Spot) (stack_bytes : ℕ) : Type 0 where
-    pub one_each : length spots ≡ length s.arguments
-    pub in_registers : (i : ℕ) → i < length s.arguments → is_in_registers i ≡ true
-        → slice_get spots i ≡ Some (register_spot (first_of i) (tree_at s.arguments i))
-    pub on_stack : (i : ℕ) → i < length s.arguments → is_in_registers i ≡ false
-        → slice_get spots i ≡ Some (stack_spot (stack_at i (stack_before i)) (tree_at s.arguments i))
-    pub stack_total : stack_bytes ≡ stack_before (length s.arguments)
+  -- where argument i, or the address of its copy, stands: in registers, or on the stack, behind the end of those before it
+  abbrev pub spot_of : ℕ → Spot
+  spot_of i =
+      cond (is_in_registers i)
+      (register_spot (first_of i) (tree_at s.arguments i))
+      (stack_spot (stack_at i (stack_before i)) (tree_at s.arguments i))
 
-  -- no other places and no other number of stack bytes are those of the ends
-  abbrev pub IsOnlyPlacing : Type 0
-  IsOnlyPlacing =
-      (spots : List Spot) (stack_bytes : ℕ) → ArePlacedByEnds spots stack_bytes
-      → (spots ≡ (placing_of s).arguments) × (stack_bytes ≡ (placing_of s).stack_bytes)
+  -- a plan by the ends: so its arguments stand, with the copies behind all of them on the stack, and so its result; vector registers are not counted
+  abbrev pub IsByEnds : Plan → Type 0
+  IsByEnds p =
+      IsFramedByEnds aapcs64 s spot_of (result_of s.result_type) (stack_before (length s.arguments)) 0 p
 
   -- once an argument does not fit, no later one of its kind is in registers (C.3, C.13)
   abbrev pub NoneFitsLater : Type 0
@@ -75,10 +81,8 @@ module _ (s : Signature) where
       → is_in_registers i ≡ false
       → is_in_registers j ≡ false
 
--- ---- THE ENDS PLACE A CALL
-
+-- THE ENDS PLACE A CALL: its plan is by the ends, and no other plan is.
 pub record IsPlacedByEnds (s : Signature) : Type 0 where
-  pub placed : ArePlacedByEnds s (placing_of s).arguments (placing_of s).stack_bytes
-  pub only : IsOnlyPlacing s
+  pub placed : IsByEnds s (plan_of aapcs64 s)
+  pub only : (p : Plan) → IsByEnds s p → p ≡ plan_of aapcs64 s
   pub none_fits_later : NoneFitsLater s
-  pub frame : CopiesByEnds aapcs64 s
