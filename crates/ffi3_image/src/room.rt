@@ -19,15 +19,15 @@ use ffi3_place::{Abi, Res};
 use std::alloc::Global;
 
 // Whether so many bytes from the stack pointer on end below 2^64, and at least so many are there.
-fn check_room(alloc: Global, image: &Image, reach: u64, least: u64) -> Result<(), ImageFault>
-    ensures ok { IfOk result (λ u. check_room reach least (image_of image.now) ≡ read tt) }
-    ensures err { IfErr result (Tells (λ p r. check_room reach least (image_of image.now) ≡ object.fault p r)) }
-    ensures below { IfOk result (λ u. image.now.sp + reach < 2 ^ 64) }
+fn check_room(alloc: Global, image: &Image, least: u64) -> Result<(), ImageFault>
+    ensures ok { IfOk result (λ u. check_room least (image_of image.now) ≡ read tt) }
+    ensures err { IfErr result (Tells (λ p r. check_room least (image_of image.now) ≡ object.fault p r)) }
+    ensures below { IfOk result (λ u. image.now.sp + least < 2 ^ 64) }
     ensures enough { IfOk result (λ u. least ≤ length image.now.stack) }
 {
     let start = Where::new(alloc);
     let root = JsonPath::from(&start);
-    if image.sp > u64::MAX - reach {
+    if image.sp > u64::MAX - least {
         return Err(bad_as_in_scripts(alloc, &root.key("sp"), Reason::OutOfRange));
     }
     let there = image.stack.len() as u64;
@@ -61,12 +61,10 @@ pub fn room_for_explain<A: Abi>(
     ensures below { IfOk result (λ u. image.now.sp + A.standard.link + frame_of A.standard cif.now < 2 ^ 64) }
     ensures enough { IfOk result (λ u. A.standard.link + frame_of A.standard cif.now ≤ length image.now.stack) }
 {
-    let whole = whole_call(cif);
-    check_room(alloc, image, whole, whole)
+    check_room(alloc, image, whole_call(cif))
 }
 
-/// Whether an image has the places of all arguments, as `arguments` looks at them, and its whole frame would end below
-/// 2^64.
+/// Whether an image has the return address and the places of all arguments, as `arguments` looks at them, below 2^64.
 pub fn room_for_arguments<A: Abi>(
     alloc: Global,
     image: &Image,
@@ -76,7 +74,7 @@ pub fn room_for_arguments<A: Abi>(
     ensures err { IfErr result (Tells (λ p r. check_room_for ByStandard A.standard cif.now (image_of image.now) ≡ object.fault p r)) }
     ensures enough { IfOk result (λ u. least_stack A.standard cif.now ≤ length image.now.stack) }
 {
-    check_room(alloc, image, whole_call(cif), least_stack(cif))
+    check_room(alloc, image, least_stack(cif))
 }
 
 /// The address of a hidden result's buffer, where there is one, of an image that has room for `explain`.

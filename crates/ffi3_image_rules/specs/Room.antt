@@ -10,9 +10,9 @@ use Rattle.ffi3_image_rules.specs.declared.Question.TheVariants.{Explained, BySt
 use Rattle.ffi3_image_rules.specs.Object.{Read, read, fault, as_in_scripts, too_short, root}
 
 -- so many bytes from the stack pointer on end below 2^64, and at least so many are there
-abbrev pub check_room : (reach least : ℕ) → Image → Read ⊤
-check_room reach least m =
-    cond (nat_lt (m.sp + reach) (2 ^ 64))
+abbrev pub check_room : ℕ → Image → Read ⊤
+check_room least m =
+    cond (nat_lt (m.sp + least) (2 ^ 64))
     (cond (nat_le least (length m.stack)) (read tt)
     (fault (under root (codes "stack")) (too_short (length m.stack) least)))
     (fault (under root (codes "sp")) (as_in_scripts out_of_range))
@@ -21,12 +21,11 @@ check_room reach least m =
 abbrev pub whole_call : Standard → Signature → ℕ
 whole_call std s = std.link + frame_of std s
 
--- what a question needs: the whole frame, or the places of the arguments
+-- what a question needs: the whole frame, or as far as the places of the arguments reach, since a compiler's caller may have its copies elsewhere
 abbrev pub least_for : Question → Standard → Signature → ℕ
 least_for Explained std s = whole_call std s
 least_for ByStandard std s = least_stack std s
 
 -- THE IMAGE HAS ROOM for the question
 abbrev pub check_room_for : Question → Standard → Signature → Image → Read ⊤
-check_room_for question std s m =
-    check_room (whole_call std s) (least_for question std s) m
+check_room_for question std s m = check_room (least_for question std s) m
