@@ -235,17 +235,13 @@ zero_if true b = refl
 zero_if false true = refl
 zero_if false false = refl
 
-first_at_zero : (t : Tree) → register_start untouched t ≡ 0
+pub first_at_zero : (t : Tree) → register_start untouched t ≡ 0
 first_at_zero t = zero_if (in_vectors t) (leb 16 (align_of (passed t)))
 
 -- and is in registers
 few_fit : (n m : ℕ) → m ≡ 0 → n ≤ 4 → leb (m + n) 8 ≡ true
 few_fit n m e h = grind (arith, nat_tests)
 
-first_fits : (t : Tree) → in_registers untouched t ≡ true
+pub first_fits : (t : Tree) → in_registers untouched t ≡ true
 first_fits t =
     few_fit (registers_needed t) (register_start untouched t) (first_at_zero t) (few_needed t)
-
-pub first_spot : (t : Tree) → spot_after untouched t ≡ register_spot 0 t
-first_spot t =
-    ap (λ b. cond b (register_spot (register_start untouched t) t) (stack_spot (stack_start 0 (passed t)) t)) (first_fits t) ∙ ap (λ n. register_spot n t) (first_at_zero t)

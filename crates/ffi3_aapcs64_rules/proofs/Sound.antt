@@ -1,5 +1,5 @@
 -- The places of a signature are a chain, so no two share a register or a byte of stack; and they have all of the values, which they therefore determine.
-use Rattle.std.proofs.Common.{◌≡◌, ℕ, zero, suc, ◌+◌, ◌<◌, ◌≤◌, Bool, true, false, cond, leb, List, [], ◌∷◌, ◌++◌, subst, ap, sym, refl, arith}
+use Rattle.std.proofs.Common.{◌≡◌, ℕ, zero, suc, ◌+◌, ◌<◌, ◌≤◌, Bool, true, false, cond, leb, List, [], ◌∷◌, ◌++◌, subst, ap, sym, ◌∙◌, refl, arith}
 use Rattle.std.specs.List.{AllByRecursion, flat_map}
 use Rattle.ffi3_type_rules.specs.declared.Isa.TheVariants.{Aarch64}
 use Rattle.ffi3_type_rules.specs.Isa.{isa_of}
@@ -22,8 +22,8 @@ use Rattle.ffi3_place_rules.proofs.Aligned.{frame_is_aligned, need_is_aligned}
 use Rattle.ffi3_place_rules.proofs.Tests.{each_of_two, each_weaker}
 use Rattle.ffi3_place_rules.proofs.Forbidden.{is_one_of, one_of}
 use Rattle.ffi3_place_rules.proofs.Determines.{determined}
-use Rattle.ffi3_aapcs64_rules.specs.Aapcs64.{aapcs64, in_vectors, is_copied, passed, first_general, stack_start, member_pieces, general_pieces, register_pieces, in_registers, taken_with, taken_after, untouched, spot_after, spots_after, result_from, result_spot_of, placing_of}
-use Rattle.ffi3_aapcs64_rules.proofs.Covered.{registers_have_all, arguments_have_all, registers_filled, arguments_filled, copied_not_vectors, few_members, few_doublewords, NeedBy, StartBy, fits_by, first_spot, pointer_rounded}
+use Rattle.ffi3_aapcs64_rules.specs.Aapcs64.{aapcs64, in_vectors, is_copied, passed, first_general, register_start, stack_start, member_pieces, general_pieces, register_pieces, register_spot, stack_spot, in_registers, taken_with, taken_after, untouched, spot_after, spots_after, result_from, result_spot_of, placing_of}
+use Rattle.ffi3_aapcs64_rules.proofs.Covered.{registers_have_all, arguments_have_all, registers_filled, arguments_filled, copied_not_vectors, few_members, few_doublewords, NeedBy, StartBy, fits_by, first_at_zero, first_fits, pointer_rounded}
 use Rattle.ffi3_aapcs64_rules.proofs.Rising.{arguments_rise}
 use Rattle.ffi3_aapcs64_rules.proofs.Registers.{numbered, all_registers, argument_allowed, vector_allowed, stack_allowed, hidden_allowed, argument_passes, vector_passes, hidden_passes, argument_not_hidden, result_allowed_general, result_allowed_vector, result_allowed_stack}
 
@@ -134,8 +134,13 @@ call_chain s =
 
 -- ---- where a result stands
 
+-- a first argument is in registers, from number 0 on
+as_first : (t : Tree) → result_from (spot_after untouched t) ≡ result_from (register_spot 0 t)
+as_first t =
+    ap (λ b. result_from (cond b (register_spot (register_start untouched t) t) (stack_spot (stack_start 0 (passed t)) t))) (first_fits t) ∙ ap (λ n. result_from (register_spot n t)) (first_at_zero t)
+
 -- cases on where a result stands
-result_cases : (P : ResultSpot → Type 0) (t : Tree) → (t ≡ void → P not_passed) → (is_copied t ≡ true → P (in_buffer (G 8))) → (is_copied t ≡ false → P (in_result_pieces (register_pieces 0 t))) → P (result_spot_of t)
+pub result_cases : (P : ResultSpot → Type 0) (t : Tree) → (t ≡ void → P not_passed) → (is_copied t ≡ true → P (in_buffer (G 8))) → (is_copied t ≡ false → P (in_result_pieces (register_pieces 0 t))) → P (result_spot_of t)
 result_cases P t none hidden direct = cases t none hidden direct
   where
     by_copied : (u : Tree) (b : Bool) → is_copied u ≡ b → (is_copied u ≡ true → P (in_buffer (G 8))) → (is_copied u ≡ false → P (in_result_pieces (register_pieces 0 u))) → P (result_from (cond b (by_reference (G 0)) (in_pieces (register_pieces 0 u))))
@@ -144,7 +149,7 @@ result_cases P t none hidden direct = cases t none hidden direct
 
     placed : (u : Tree) → (is_copied u ≡ true → P (in_buffer (G 8))) → (is_copied u ≡ false → P (in_result_pieces (register_pieces 0 u))) → P (result_from (spot_after untouched u))
     placed u hidden direct =
-        subst P (sym (ap result_from (first_spot u))) (by_copied u (is_copied u) refl hidden direct)
+        subst P (sym (as_first u)) (by_copied u (is_copied u) refl hidden direct)
 
     cases : (u : Tree) → (u ≡ void → P not_passed) → (is_copied u ≡ true → P (in_buffer (G 8))) → (is_copied u ≡ false → P (in_result_pieces (register_pieces 0 u))) → P (result_spot_of u)
     cases void none hidden direct = none refl

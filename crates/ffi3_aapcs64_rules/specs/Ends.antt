@@ -1,23 +1,20 @@
--- The plan of a call by where the arguments before each end, over the whole list of arguments. (Arm AAPCS64, IHI 0055, "Parameter passing rules", stage C, and "Result return")
-use Rattle.std.specs.Prelude.{◌≡◌, ℕ, ◌+◌, ◌<◌, ◌≤◌, Bool, false, cond, nat_le, length}
+-- The plan of a call by its ends alone, over the whole list of arguments: where an argument stands follows from where the registers and the stack of those before it end; and where copies, the buffer and the frame end. (Arm AAPCS64, IHI 0055, "Parameter passing rules", stages B and C, and "Result return". Where copies and buffer stand in the frame, and the callee's block, are this library's rules.)
+use Rattle.std.specs.Prelude.{◌≡◌, ℕ, ◌+◌, ◌<◌, ◌≤◌, Bool, true, false, cond, nat_le, length, Some, slice_get}
+use Rattle.std.specs.List.{sum_by}
 use Rattle.ffi3_type_rules.specs.Tree.{Tree, void, tree_at}
+use Rattle.ffi3_type_rules.specs.Layout.{size_of}
 use Rattle.ffi3_type_rules.specs.Signature.{Signature}
-use Rattle.ffi3_place_rules.specs.declared.Loc.TheVariants.{G}
+use Rattle.ffi3_place_rules.specs.declared.Loc.TheVariants.{G, S}
+use Rattle.ffi3_place_rules.specs.declared.Place.TheVariants.{Direct, ByRef}
+use Rattle.ffi3_place_rules.specs.declared.Res.TheVariants.{Nothing, Direct as DirectRes, Hidden}
 use Rattle.ffi3_place_rules.specs.declared.Plan.{Plan}
-use Rattle.ffi3_place_rules.specs.Standard.{Spot, ResultSpot, no_result, in_result_pieces, in_buffer, plan_of}
 use Rattle.ffi3_place_rules.specs.Sums.{sum_below, end_below}
-use Rattle.ffi3_place_rules.specs.Framed.{IsFramedByEnds}
+use Rattle.ffi3_place_rules.specs.Doublewords.{stack_pieces}
+use Rattle.ffi3_place_rules.specs.Standard.{plan_of, round8, round16, start}
 use Rattle.ffi3_aapcs64_rules.specs.Aapcs64.{aapcs64, in_vectors, is_copied, passed, registers_needed, stack_size}
-use Rattle.ffi3_aapcs64_rules.specs.Aapcs64.{first_general, stack_start, register_pieces, register_spot, stack_spot}
+use Rattle.ffi3_aapcs64_rules.specs.Aapcs64.{first_general, stack_start, register_pieces, placing_of}
 
--- ---- a result ("Result return")
-
--- in the registers of a first argument, from number 0 of their kind on; where that would be copied, in a buffer of the caller, whose address is in x8
-abbrev pub result_of : Tree → ResultSpot
-result_of void = no_result
-result_of t = cond (is_copied t) (in_buffer (G 8)) (in_result_pieces (register_pieces 0 t))
-
--- ---- arguments
+-- ---- the arguments before one
 
 -- the vector registers that an argument needs
 abbrev pub vectors : Tree → ℕ
@@ -61,17 +58,28 @@ module _ (s : Signature) where
   abbrev pub stack_before : ℕ → ℕ
   stack_before i = end_below stack_step 0 i
 
-  -- where argument i, or the address of its copy, stands: in registers, or on the stack, behind the end of those before it
-  abbrev pub spot_of : ℕ → Spot
-  spot_of i =
-      cond (is_in_registers i)
-      (register_spot (first_of i) (tree_at s.arguments i))
-      (stack_spot (stack_at i (stack_before i)) (tree_at s.arguments i))
+  -- where the copy of argument i ends, behind what ends at `end`, if it is copied
+  abbrev pub copy_step : ℕ → ℕ → ℕ
+  copy_step i end =
+      cond (is_copied (tree_at s.arguments i))
+      (start end (tree_at s.arguments i) + round8 (size_of (tree_at s.arguments i))) end
 
-  -- a plan by the ends: so its arguments stand, with the copies behind all of them on the stack, and so its result; vector registers are not counted
-  abbrev pub IsByEnds : Plan → Type 0
-  IsByEnds p =
-      IsFramedByEnds aapcs64 s spot_of (result_of s.result_type) (stack_before (length s.arguments)) 0 p
+  -- where the copies of the arguments before number i end, behind the stack arguments
+  abbrev pub copies_before : ℕ → ℕ
+  copies_before i = end_below copy_step (round16 (stack_before (length s.arguments))) i
+
+  -- where the copy of argument i begins
+  abbrev pub copy_at : ℕ → ℕ
+  copy_at i = start (copies_before i) (tree_at s.arguments i)
+
+  -- where the buffer of a hidden result begins behind all copies, and where it ends, if there is one
+  abbrev pub buffer_start : ℕ
+  buffer_start = start (copies_before (length s.arguments)) s.result_type
+
+  abbrev pub result_end : ℕ
+  result_end =
+      cond (is_copied s.result_type) (buffer_start + round8 (size_of s.result_type))
+      (copies_before (length s.arguments))
 
   -- once an argument does not fit, no later one of its kind is in registers (C.3, C.13)
   abbrev pub NoneFitsLater : Type 0
@@ -81,8 +89,48 @@ module _ (s : Signature) where
       → is_in_registers i ≡ false
       → is_in_registers j ≡ false
 
--- THE ENDS PLACE A CALL: its plan is by the ends, and no other plan is.
-pub record IsPlacedByEnds (s : Signature) : Type 0 where
-  pub placed : IsByEnds s (plan_of aapcs64 s)
-  pub only : (p : Plan) → IsByEnds s p → p ≡ plan_of aapcs64 s
-  pub none_fits_later : NoneFitsLater s
+-- ---- all of a call
+
+module _ (s : Signature) where
+  pub record IsByEnds (p : Plan) : Type 0 where
+    -- there is a place for each argument
+    pub one_each : length p.places ≡ length s.arguments
+    -- in registers, behind those of the arguments before it, where they suffice for all of it (C.1, C.2, C.9, C.11, C.12)
+    pub register_places : (i : ℕ) → i < length s.arguments → is_copied (tree_at s.arguments i) ≡ false
+        → is_in_registers s i ≡ true
+        → slice_get p.places i ≡ Some (Direct (register_pieces (first_of s i) (tree_at s.arguments i)))
+    -- and else on the stack, behind the end of the arguments on the stack before it (C.4, C.6, C.14, C.17)
+    pub stack_places : (i : ℕ) → i < length s.arguments → is_copied (tree_at s.arguments i) ≡ false
+        → is_in_registers s i ≡ false
+        → slice_get p.places i
+        ≡ Some (Direct (stack_pieces (stack_at s i (stack_before s i)) (tree_at s.arguments i)))
+    -- what is copied has the address of its copy in a register or on the stack, where a pointer would stand (B.4), and the copy stands behind those of the arguments before it
+    pub copies_by_register : (i : ℕ) → i < length s.arguments → is_copied (tree_at s.arguments i) ≡ true
+        → is_in_registers s i ≡ true
+        → slice_get p.places i ≡ Some (ByRef (G (first_of s i)) (copy_at s i))
+    pub copies_by_stack : (i : ℕ) → i < length s.arguments → is_copied (tree_at s.arguments i) ≡ true
+        → is_in_registers s i ≡ false
+        → slice_get p.places i ≡ Some (ByRef (S (stack_at s i (stack_before s i))) (copy_at s i))
+    -- a function of type void returns nothing
+    pub no_result : s.result_type ≡ void → p.res ≡ Nothing
+    -- a result stands where a first argument of its type would: in registers, from number 0 on (Result return)
+    pub result_in_registers : ¬ (s.result_type ≡ void) → is_copied s.result_type ≡ false
+        → p.res ≡ DirectRes (register_pieces 0 s.result_type)
+    -- where that would be copied, it stands in a buffer behind all copies, whose address is in x8 (Result return)
+    pub result_in_buffer : is_copied s.result_type ≡ true → p.res ≡ Hidden (G 8) (buffer_start s)
+    -- the frame ends behind the buffer, or the copies where there is none, at a multiple of 16 ("The Stack")
+    pub frame_end : p.frame ≡ round16 (result_end s)
+    -- the callee's copy of its arguments, each rounded up to doublewords
+    pub block_total : p.block ≡ round16 (sum_by (λ t. round8 (size_of t)) s.arguments)
+    -- a call needs the frame, the callee's save area and that copy; the return address is in x30
+    pub need_total : p.need ≡ p.frame + aapcs64.link + aapcs64.save + p.block
+    -- no register tells how many vector registers the arguments use
+    pub none_counted : p.vectors ≡ 0
+
+  -- THE ENDS PLACE A CALL: its plan is by the ends, and no other plan is.
+  pub record IsPlacedByEnds : Type 0 where
+    pub placed : IsByEnds (plan_of aapcs64 s)
+    pub only : (p : Plan) → IsByEnds p → p ≡ plan_of aapcs64 s
+    pub none_fits_later : NoneFitsLater s
+    -- what the standard takes as the bytes of the stack arguments is where they end
+    pub stack_total : (placing_of s).stack_bytes ≡ stack_before s (length s.arguments)
