@@ -12,7 +12,6 @@ pub mod Rising
 pub mod Elements
 pub mod Worked
 pub mod Ends
-pub mod Copies
 pub mod Items
 pub mod Framed
 pub mod Planned

@@ -10,7 +10,6 @@ pub mod Sound
 pub mod Agrees
 pub mod Doublewords
 pub mod Sums
-pub mod Copies
 pub mod Framed
 pub mod Planned
 pub mod ByStubs
