@@ -27,7 +27,13 @@ WEIGHTS = {
 }
 # The same for a declaration of structs inside structs, and of many parameters.
 DEEP = {("whole", "struct { members }"): 5, ("members", "members member"): 0.3}
+DEEPEST = {("whole", "struct { members }"): 300, ("type", "whole"): 30, ("members", "members member"): 0.1,
+           ("counts", "counts [ number ]"): 0.05}
 MANY = {("parameters", "parameters , parameter"): 30, ("whole", "struct { members }"): 0.1}
+# The same for many parameters that are structs of arrays, of counts such as these.
+LARGE = {("parameters", "parameters , parameter"): 8, ("whole", "struct { members }"): 12, ("type", "whole"): 12,
+         ("members", "members member"): 0.1, ("member", "type name counts ;"): 12, ("counts", "counts [ number ]"): 0.1}
+LARGE_COUNTS = [100, 255, 256, 256, 511, 512, 512, 1024, 2048, 4096]
 
 
 def without_depth(text):
@@ -47,7 +53,9 @@ class Drawn:
     def __init__(self, random, function):
         self.random, self.function, self.words, self.named = random, function, [], 0
         roll = random.random()
-        self.weights = DEEP if roll < 0.04 else MANY if roll < 0.06 else {}
+        self.weights = (DEEP if roll < 0.03 else DEEPEST if roll < 0.05 else MANY if roll < 0.06 else LARGE if roll < 0.08
+                        else {})
+        self.counts = LARGE_COUNTS if self.weights is LARGE else COUNTS
         self.derive(START)
 
     def derive(self, head):
@@ -59,7 +67,7 @@ class Drawn:
             elif word == "name":
                 self.words.append(self.function if head == "function" else self.name())
             elif word == "number":
-                self.words.append(str(self.random.choice(COUNTS if self.random.random() < 0.97 else RARE_COUNTS)))
+                self.words.append(str(self.random.choice(self.counts if self.random.random() < 0.97 else RARE_COUNTS)))
             else:
                 self.words.append(word)
 
