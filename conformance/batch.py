@@ -81,8 +81,8 @@ def version_of(target, compiler):
 
 class Played:
     """A program that plays cases: `command` runs it, `types` has the types of its lines `layout`, chunk by chunk.
-    After a run `layouts` has its layouts of each type, and `dumps` and `returns` what player.c dumps at each entry and at
-    each return, by the number of its signature."""
+    After a run `layouts` has its layouts of each type, and `dumps` and `returns` what player.c dumps at each entry and
+    at each return, by the number of its signature."""
 
     def play(self, lines):
         """Runs the cases; gives (number, direction) -> reasons for those that were played: none where one passed."""

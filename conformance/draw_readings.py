@@ -1,5 +1,5 @@
-"""Scripts that differ from well-typed ones in a part or two, and JSON as people write it: blanks, escapes, repeated keys,
-forms of numbers, and texts that are no JSON or nearly none. The same seed gives the same texts."""
+"""Scripts that differ from well-typed ones in a part or two, and JSON as people write it: blanks, escapes, repeated
+keys, forms of numbers, and texts that are no JSON or nearly none. The same seed gives the same texts."""
 
 import copy
 import json
@@ -21,15 +21,16 @@ OTHERS = [None, True, False, [], {}, [0], [0, 1], [[]], {"struct": []}, {"struct
           {"struct": [{"array": ["uint8", 4096]}]}, {"struct": [{"array": ["double", 513]}]}, {"struct": ["void"]},
           {"struct": ["longdouble"]}, {"arg": 0}, {"arg": 1}, {"arg": -1}, {"res": "r1"}, {"res": "p0"}, {"res": 5},
           {"user": True}, {"user": False}, {"field": [{"arg": 0}, 0]}, {"field": [{"arg": 0}, 9]}, {"field": 5},
-          {"of": ["uint8", 255]}, {"of": ["uint8", 256]}, {"of": ["void", 0]}, {"of": [{"struct": ["float"]}, ["00000000"]]},
-          {"of": ["uint8"]}, {"add": [1, 2]}, {"add": 5}, {"sub": [{"arg": 0}, 1]}, {"cast": {"user": True}}, {"cast": 5},
-          {"arg": 0, "res": "a"}, {"call": 5}, {"return": None}, {"return": 0}, {"make": "f0"}, {"free": {"user": True}},
-          {"print": {"user": True}}, {"print": 5}, {"make": "apply", "print": {"user": True}},
-          {"ret": "void", "args": []}, {"ret": "void", "args": ["uint8"], "fixed": 1}, {"ret": "void", "args": [], "fixed": 0},
+          {"of": ["uint8", 255]}, {"of": ["uint8", 256]}, {"of": ["void", 0]}, {"of": ["uint8"]},
+          {"of": [{"struct": ["float"]}, ["00000000"]]}, {"add": [1, 2]}, {"add": 5}, {"sub": [{"arg": 0}, 1]},
+          {"cast": {"user": True}}, {"cast": 5}, {"arg": 0, "res": "a"}, {"call": 5}, {"return": None}, {"return": 0},
+          {"make": "f0"}, {"free": {"user": True}}, {"print": {"user": True}}, {"print": 5},
+          {"make": "apply", "print": {"user": True}}, {"ret": "void", "args": []},
+          {"ret": "void", "args": ["uint8"], "fixed": 1}, {"ret": "void", "args": [], "fixed": 0},
           {"ret": "void", "args": ["uint64"] * 65}]
 KEYS = ["version", "signatures", "functions", "main", "ret", "args", "fixed", "name", "sig", "body", "struct", "array",
-        "when", "call", "as", "make", "user", "free", "print", "return", "arg", "res", "field", "of", "add", "sub", "cast",
-        "Version", "", "x"]
+        "when", "call", "as", "make", "user", "free", "print", "return", "arg", "res", "field", "of", "add", "sub",
+        "cast", "Version", "", "x"]
 
 
 def any_value(random):
@@ -40,7 +41,8 @@ def any_value(random):
 def nodes(value, path=()):
     """The paths of all parts of a value."""
     yield path
-    for key, inner in (value.items() if isinstance(value, dict) else enumerate(value) if isinstance(value, list) else ()):
+    parts = value.items() if isinstance(value, dict) else enumerate(value) if isinstance(value, list) else ()
+    for key, inner in parts:
         yield from nodes(inner, (*path, key))
 
 
@@ -52,8 +54,8 @@ def at(value, path):
 
 def chosen(random, script):
     """The path of a part: as often in the signatures or the heads of functions as in the bodies, of which most are."""
-    start, deep = random.choice([((), 1), (("signatures",), 9), (("functions",), 2), (("functions",), 9), (("main",), 9),
-                                 (("main",), 3)])
+    start, deep = random.choice([((), 1), (("signatures",), 9), (("functions",), 2), (("functions",), 9),
+                                 (("main",), 9), (("main",), 3)])
     if start and start[0] not in script:
         return ()
     paths = [path for path in nodes(at(script, start)) if len(path) <= deep]
@@ -124,8 +126,8 @@ ODD_NUMBERS = ["-0", "0.5", "1e400", "-1e400", "1e308", "1E-999", "0e0", "184467
 # What stands in no JSON, or means something else in other notations.
 ODD = [b",", b":", b"\"", b"\\", b"{", b"}", b"[", b"]", b"\0", b"\x1f", b"\x7f", b"\xff", b"\xc3", b"\xe2\x80\xa8",
        b"\xef\xbb\xbf", b"//x\n", b"/**/", b"#", b"'", b"NaN", b"Infinity", b"-", b"+", b".", b"0", b"1", b"e1", b"0x1",
-       b"null", b"nul", b"True", b"\x0b", b"\x0c", b"\xc2\xa0", b"\\u", b"\\ud800", b"\\udc00", b"\\ud800\\udc00", b"\\x41",
-       b"\\u00e9", b"\\u12g4", b"\"a\":1,", b"\n", b" "]
+       b"null", b"nul", b"True", b"\x0b", b"\x0c", b"\xc2\xa0", b"\\u", b"\\ud800", b"\\udc00", b"\\ud800\\udc00",
+       b"\\x41", b"\\u00e9", b"\\u12g4", b"\"a\":1,", b"\n", b" "]
 
 
 class Style:

@@ -1,8 +1,8 @@
 """What ffi3's own caller and callee leave beside what compiled ones do, on every bit that the standard fixes.
 
 A script calls a function of each signature, and example_entries tells what the machine was at each entry and at each
-return. The bits are those that player.c looks at in what a compiled caller or callee leaves: so a value's own bytes, and
-where the standard says it, how a narrow integer is extended and a float boxed; the second register of a value that
+return. The bits are those that player.c looks at in what a compiled caller or callee leaves: so a value's own bytes,
+and where the standard says it, how a narrow integer is extended and a float boxed; the second register of a value that
 stands in two; al within bounds.
 """
 
@@ -115,8 +115,8 @@ def wrong_at_entry(line, ours, theirs):
 
 def wrong_at_return(target, signature, plan, layouts, result, own, theirs):
     """What ffi3's callee leaves otherwise than a compiled one, of what player.c looks at when a call has returned; and
-    of what it keeps from its entry, and how it extends a narrow integer by its own rule. Each callee is given an address
-    for a hidden result by its caller, and the result must be there."""
+    of what it keeps from its entry, and how it extends a narrow integer by its own rule. Each callee is given an
+    address for a hidden result by its caller, and the result must be there."""
     (entry, ours), stand = own, plan.result
     for line in cases.result_lines(target, signature, plan, layouts, result):
         word, place, digits = line.split(" ")

@@ -1,7 +1,7 @@
 """What `ffi3 explain` tells of the images that ffi3's own caller leaves, as they are and with one byte turned.
 
-Its answer, whole, is compared with another reading of docs/RULES.md, section 11, from the places that `place` prints: by
-that reading the byte belongs to a value, and another value is told; or it is one that an image must have so, as an
+Its answer, whole, is compared with another reading of docs/RULES.md, section 11, from the places that `place` prints:
+by that reading the byte belongs to a value, and another value is told; or it is one that an image must have so, as an
 extension or an address, and the image is refused at that place; or it is free, and nothing changes.
 """
 
@@ -29,8 +29,8 @@ def held(image, place):
     return (image.general if place.kind == "g" else image.floating)[place.number]
 
 
-def number(word):
-    return int.from_bytes(word, "little")
+def digits(word):
+    return f"{int.from_bytes(word, 'little'):016x}"
 
 
 class Refused(Exception):
@@ -41,7 +41,7 @@ def judge(image, what, place, wants):
     """A place holds the doubleword that is wanted."""
     holds = held(image, place)[:8]
     if holds != wants:
-        raise Refused(f"{what}: {place_name(image.target, place)} holds {number(holds):016x}, wants {number(wants):016x}")
+        raise Refused(f"{what}: {place_name(image.target, place)} holds {digits(holds)}, wants {digits(wants)}")
 
 
 def judge_address(image, what, stand):
@@ -76,7 +76,8 @@ def read(image, what, kind, layout, stand):
     leaves = [bytes(value[at + k] for k in range(SIZES[leaf])) for at, leaf in zip(layout.offsets, layout.leaves)]
     for piece in stand.pieces:
         if piece.length <= 8:
-            judge(image, what, piece.place, wanted(image.target, kind, layout, leaves, piece, held(image, piece.place)[:8]))
+            holds = held(image, piece.place)[:8]
+            judge(image, what, piece.place, wanted(image.target, kind, layout, leaves, piece, holds))
     return leaves
 
 
@@ -181,8 +182,8 @@ def difference(program, image, signature, plan, layouts, given=None):
 
 
 def failures(program, own, planned, layouts, seed):
-    """What `explain` tells otherwise: (number, way) -> reasons, none where it agrees. The ways are explained and turned.
-    And how many bytes of each kind were turned."""
+    """What `explain` tells otherwise: (number, way) -> reasons, none where it agrees. The ways are explained and
+    turned. And how many bytes of each kind were turned."""
     def compared(case):
         number, (signature, plan) = case
         image = own[number][0]
@@ -203,8 +204,8 @@ def failures(program, own, planned, layouts, seed):
 # that does not judge what was turned; or that judges a byte which is free
 
 def found_at(program, own, planned, layouts, seed, kind):
-    """The number of signatures, from the first, until a program that does not look at a byte of this kind, or that looks
-    at one that is free, answers otherwise; None where none does."""
+    """The number of signatures, from the first, until a program that does not look at a byte of this kind, or that
+    looks at one that is free, answers otherwise; None where none does."""
     for number, (signature, plan) in planned.items():
         image = own[number][0]
         known = read_bytes(image, signature, plan, layouts)

@@ -15,9 +15,9 @@
  *   want_aligned P A  the address in place P is a multiple of A
  *   want_between P L H   the lowest byte of place P is from L to H
  *   show         writes a line `shown BASE GENERAL FLOATING STACK`, in hexadecimal: registers, and the stack from BASE
- *   dump         writes a line with the same from the stack pointer on: in an entry `dumped I SP GENERAL FLOATING STACK`,
- *                to the end of the compiled caller's frame, and 512 bytes at least; in a call, where it has returned,
- *                `returned I SP GENERAL FLOATING STACK`, to the end of the player's frame
+ *   dump         writes a line with the same from the stack pointer on: in an entry `dumped I SP GENERAL FLOATING
+ *                STACK`, to the end of the compiled caller's frame, and 512 bytes at least; in a call, where it has
+ *                returned, `returned I SP GENERAL FLOATING STACK`, to the end of the player's frame
  *   go           in a call: now call; at an entry: what follows is the result
  *   end          ends a case
  *
