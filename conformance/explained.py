@@ -99,12 +99,14 @@ def answer(image, signature, plan, layouts):
     return 0, "".join(lines), ""
 
 
-# ---- which bytes an image is read by: (kind of place, number, byte), where a stack's byte is (s, offset from sp, 0)
+# ---- which bytes an image is read by: (kind of place, number, byte), where a stack's byte is (s, offset from sp, 0),
+# and one of the stack pointer is (p, 0, byte)
 
 IN_A_REGISTER, ON_THE_STACK, IN_A_COPY = "a value in a register", "a value on the stack", "a copy"
 EXTENSION, SECOND, ADDRESS = "an extension", "the second register of a value", "the address of a copy"
-HIDDEN, COUNT, FREE = "the address of a hidden result", "the number of vector registers", "a byte that is free"
-KINDS = [IN_A_REGISTER, ON_THE_STACK, IN_A_COPY, EXTENSION, SECOND, ADDRESS, HIDDEN, COUNT, FREE]
+HIDDEN, COUNT = "the address of a hidden result", "the number of vector registers"
+POINTER, FREE = "the stack pointer", "a byte that is free"
+KINDS = [IN_A_REGISTER, ON_THE_STACK, IN_A_COPY, EXTENSION, SECOND, ADDRESS, HIDDEN, COUNT, POINTER, FREE]
 
 
 def bytes_at(image, place, start, count):
@@ -135,11 +137,13 @@ def read_bytes(image, signature, plan, layouts):
                 found[EXTENSION] += bytes_at(image, piece.place, piece.length, 8 - piece.length)
     if plan.result.reference:
         found[HIDDEN] += bytes_at(image, plan.result.reference, 0, 8)
+    if found[ADDRESS] or found[HIDDEN]:
+        found[POINTER] += [("p", 0, byte) for byte in range(8)]
     if plan.vectors is not None:
         found[COUNT] += bytes_at(image, places.Place("g", places.GENERAL[image.target]["rax"]), 0, 8)
     taken = {each for those in found.values() for each in those}
     every = [(kind, k, byte) for kind in "gf" for k in range(32) for byte in range(8)]
-    every += [("s", at, 0) for at in range(len(image.stack))]
+    every += [("s", at, 0) for at in range(len(image.stack))] + [("p", 0, byte) for byte in range(8)]
     found[FREE] = [each for each in every if each not in taken]
     return {kind: those for kind, those in found.items() if those}
 
@@ -148,6 +152,9 @@ def turned(image, where, by):
     """The image with a byte turned."""
     kind, at, byte = where
     wrong = copy.copy(image)
+    if kind == "p":
+        wrong.sp ^= by << 8 * byte
+        return wrong
     if kind == "s":
         wrong.stack = image.stack[:at] + bytes([image.stack[at] ^ by]) + image.stack[at + 1:]
         return wrong
