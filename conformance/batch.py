@@ -81,7 +81,8 @@ def version_of(target, compiler):
 
 class Played:
     """A program that plays cases: `command` runs it, `types` has the types of its lines `layout`, chunk by chunk.
-    After a run `layouts` has its layouts of each type, and `dumps` what player.c dumps at each entry, by its number."""
+    After a run `layouts` has its layouts of each type, and `dumps` and `returns` what player.c dumps at each entry and
+    at each return, by the number of its signature."""
 
     def play(self, lines):
         """Runs the cases; gives (number, direction) -> reasons for those that were played: none where one passed."""
@@ -89,7 +90,7 @@ class Played:
             told = subprocess.run(self.command, input=lines.encode(), stdout=subprocess.PIPE, timeout=SECONDS).stdout
         except subprocess.TimeoutExpired as late:
             told = late.stdout or b""
-        self.layouts, self.dumps, played = {}, {}, {}
+        self.layouts, self.dumps, self.returns, played = {}, {}, {}, {}
         types = list(map(iter, self.types))
         for line in told.decode().splitlines():
             words = line.split()
@@ -100,6 +101,8 @@ class Played:
                 self.layouts.setdefault(next(types[int(words[1])]), set()).add(layout)
             elif words[0] == "dumped":
                 self.dumps[int(words[1])] = words[2:]
+            elif words[0] == "returned":
+                self.returns[int(words[1])] = words[2:]
             elif words[0] in ("passed", "failed"):
                 played[int(words[1]), words[2]] = " ".join(words[3:])
         return played

@@ -98,18 +98,23 @@ def call_lines(target, index, signature, plan, layouts, values, result):
                       for place, run in in_pieces(target, kind, layouts[kind], leaves, stand.pieces, True)]
     if plan.vectors is not None:
         lines.append(f"put g0+0 {plan.vectors.to_bytes(8, 'little').hex()}")
+    if plan.result.reference:
+        lines.append(f"put_address {plan.result.reference}+0 {plan.result.copy}")
+    return [*lines, "go", "dump", *result_lines(target, signature, plan, layouts, result), "end"]
+
+
+def result_lines(target, signature, plan, layouts, result, is_widened=None):
+    """What the caller looks at when the call has returned; a narrow integer's extension where the standard says it, or
+    as is told."""
     kind, stand = signature.result, plan.result
     if stand.reference:
-        lines.append(f"put_address {stand.reference}+0 {stand.copy}")
-    lines.append("go")
-    if stand.reference:
-        lines += [f"want s{stand.copy + at}+0 {run.hex()}" for at, run in runs(leaf_bytes(kind, layouts[kind], result))]
+        lines = [f"want s{stand.copy + at}+0 {run.hex()}" for at, run in runs(leaf_bytes(kind, layouts[kind], result))]
         if RETURN_ADDRESS_OF_HIDDEN[target]:
             lines.append(f"want_address {RETURN_ADDRESS_OF_HIDDEN[target]}+0 {stand.copy}")
-    else:
-        lines += [f"want {place} {run.hex()}" for place, run
-                  in in_pieces(target, kind, layouts[kind], result, stand.pieces, EXTENDED_BY_STANDARD[target])]
-    return [*lines, "end"]
+        return lines
+    is_widened = EXTENDED_BY_STANDARD[target] if is_widened is None else is_widened
+    return [f"want {place} {run.hex()}"
+            for place, run in in_pieces(target, kind, layouts[kind], result, stand.pieces, is_widened)]
 
 
 def enter_lines(target, index, signature, plan, layouts, values, result):

@@ -7,6 +7,9 @@ SCALARS = list(SIZES)
 MOST_ARGUMENTS = 64
 MOST_NESTED = 3  # arrays
 LARGEST_TYPE, LARGEST_ARGUMENTS = 4096, 8192
+DEEPEST = 16  # structs and arrays
+# What the arguments of a signature with more than 8,192 bytes may have together.
+MANY_BYTES = [12288, 24576, 65536]
 
 
 def scalar(random):
@@ -121,11 +124,24 @@ def with_arrays(random, kind):
     return tuple(found)
 
 
+def deep(random):
+    """A struct of structs, and of some arrays, 16 deep or nearly; beside some of them stands a scalar."""
+    kind, levels, most = (scalar(random),), 1, random.choice([DEEPEST - 2, DEEPEST - 1, DEEPEST, DEEPEST])
+    while levels < most:
+        if levels + 2 <= most and random.random() < 0.2:
+            kind, levels = (Array(kind, random.choice([1, 1, 2])),), levels + 2
+        else:
+            kind, levels = random.choice([(kind,), (kind,), (kind, scalar(random)), (scalar(random), kind)]), levels + 1
+    return kind if size_of(kind) <= LARGEST_TYPE else deep(random)
+
+
 STRUCTS = [homogeneous, mixed_pair, about_16_bytes, any_struct, large, of_arrays, padded, largest]
 WEIGHTS = [60, 60, 60, 40, 10, 60, 20, 1]
 
 
 def struct(random):
+    if random.random() < 0.03:
+        return deep(random)
     chosen = random.choices(STRUCTS, WEIGHTS)[0](random)
     return with_arrays(random, chosen) if random.random() < 0.4 else chosen
 
@@ -144,8 +160,22 @@ def size_of(kind):
     return declaration.size_of(kind)[0]
 
 
-def arguments(random):
-    """Some that use registers up, or nearly, and then some of any type."""
+def of_many_bytes(random):
+    """Arguments of more than 8,192 bytes together: of two types of 4,096 bytes or nearly, and of any between them."""
+    types, most, chosen, size = [largest(random), largest(random)], random.choice(MANY_BYTES), [], 0
+    while len(chosen) < MOST_ARGUMENTS:
+        kind = random.choice(types) if random.random() < 0.6 else any_type(random)
+        if size + size_of(kind) > most:
+            break
+        chosen.append(kind)
+        size += size_of(kind)
+    return chosen if size > LARGEST_ARGUMENTS else of_many_bytes(random)
+
+
+def arguments(random, is_large=False):
+    """Some that use registers up, or nearly, and then some of any type; or, where there may be, many bytes of them."""
+    if is_large and random.random() < 0.01:
+        return of_many_bytes(random)
     chosen = []
     roll = random.random()
     if roll < 0.35:
@@ -163,7 +193,7 @@ def arguments(random):
 
 
 def signature(random):
-    chosen = arguments(random)
+    chosen = arguments(random, True)
     fixed = None
     if chosen and random.random() < 0.25:
         fixed = random.randint(1, len(chosen))

@@ -27,7 +27,15 @@ WEIGHTS = {
 }
 # The same for a declaration of structs inside structs, and of many parameters.
 DEEP = {("whole", "struct { members }"): 5, ("members", "members member"): 0.3}
+DEEPEST = {("whole", "struct { members }"): 300, ("type", "whole"): 100, ("members", "members member"): 0.1,
+           ("member", "type name counts ;"): 0.01}
 MANY = {("parameters", "parameters , parameter"): 30, ("whole", "struct { members }"): 0.1}
+# The same for many parameters that are structs of an array of a scalar, of counts such as these.
+LARGE = {("function", "( parameters )"): 30, ("parameters", "parameters , parameter"): 25, ("type0", "whole"): 12,
+         ("whole0", "struct { members }"): 12, ("type1", "whole"): 30, ("whole1", "scalar"): 30,
+         ("members", "members member"): 0.02, ("member", "type name counts ;"): 12,
+         ("counts", "counts [ number ]"): 0.02}
+LARGE_COUNTS = [128, 200, 255, 256, 256]
 
 
 def without_depth(text):
@@ -38,7 +46,7 @@ def weight_of(rule, weights):
     head, body, _ = RULES[rule]
     body = without_depth(" ".join(body)).removeprefix("result name ")
     key = head.rstrip("0123456789"), body
-    return weights.get(key, WEIGHTS.get(key, 1))
+    return weights.get((head, body), weights.get(key, WEIGHTS.get(key, 1)))
 
 
 class Drawn:
@@ -47,7 +55,9 @@ class Drawn:
     def __init__(self, random, function):
         self.random, self.function, self.words, self.named = random, function, [], 0
         roll = random.random()
-        self.weights = DEEP if roll < 0.04 else MANY if roll < 0.06 else {}
+        self.weights = (DEEP if roll < 0.03 else DEEPEST if roll < 0.05 else MANY if roll < 0.06
+                        else LARGE if roll < 0.09 else {})
+        self.counts, self.rare = (LARGE_COUNTS, 0.005) if self.weights is LARGE else (COUNTS, 0.03)
         self.derive(START)
 
     def derive(self, head):
@@ -59,7 +69,8 @@ class Drawn:
             elif word == "name":
                 self.words.append(self.function if head == "function" else self.name())
             elif word == "number":
-                self.words.append(str(self.random.choice(COUNTS if self.random.random() < 0.97 else RARE_COUNTS)))
+                counts = RARE_COUNTS if self.random.random() < self.rare else self.counts
+                self.words.append(str(self.random.choice(counts)))
             else:
                 self.words.append(word)
 

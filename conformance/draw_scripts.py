@@ -21,7 +21,7 @@ APPLY = ("sint64", ["pointer", "sint64"], None)
 SUM3 = ("sint64", ["sint64"] * 3, None)
 HOARD = ("void", ["uint16"], None)
 SLOTS = 0x10000
-SMALL, LARGE, ALL_ARGUMENTS = 160, 4096, 8000
+SMALL, LARGE, ALL_ARGUMENTS, MANY_ARGUMENTS = 160, 4096, 8000, 16000
 SHOWN = 20  # of so many elements of one value a body may look at each
 
 
@@ -96,7 +96,11 @@ class Drawn:
         arguments = [self.draw_type() for _ in range(random.choice([0, 1, 2, 3, 4, 5, 6, 7, 9]))]
         if has(random, 0.2):
             arguments = list(map(self.known_in, draw.arguments(random)))
-        while len(arguments) >= draw.MOST_ARGUMENTS or sum(map(size_of, arguments)) > ALL_ARGUMENTS:
+        most = ALL_ARGUMENTS
+        if self.version == 2 and has(random, 0.01):
+            most = MANY_ARGUMENTS
+            arguments = [draw.largest(random) for _ in range(3)] + arguments
+        while len(arguments) >= draw.MOST_ARGUMENTS or sum(map(size_of, arguments)) > most:
             arguments.pop()
         fixed = None
         if arguments and has(random, 0.2):

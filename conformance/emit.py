@@ -37,9 +37,9 @@ class Chunk:
             self.add_signature(index, signature)
         self.parts += self.callers
         entries = ", ".join(f"{{callee_{i}, caller_{i}}}" for i in range(len(signatures)))
-        layouts = ", ".join(f"&layout_{i}" for i in range(len(self.types)))
+        layouts = ", ".join([*(f"&layout_{i}" for i in range(len(self.types))), "0"])
         self.parts.append(f"const struct entry chunk_{number}[] = {{ {entries} }};\n"
-                          f"const struct layout *const layouts_{number}[] = {{ {layouts}, 0 }};\n")
+                          f"const struct layout *const layouts_{number}[] = {{ {layouts} }};\n")
 
     def text(self):
         return "".join(self.parts)

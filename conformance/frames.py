@@ -14,18 +14,21 @@ from dataclasses import dataclass
 import batch
 import cases
 import differences
+from places import LINK
 from signature import object_of, value_text
 
 
 @dataclass
 class Image:
-    """What a machine of a target is at an entry. Registers are their bytes as memory has them."""
+    """What a machine of a target is at an entry or a return. Registers are their bytes as memory has them. At an entry
+    `link` bytes lie between the stack pointer and the caller's frame, at a return none."""
 
     target: str
     sp: int
     general: list
     floating: list
     stack: bytes
+    link: int
 
     def described(self, signature):
         """The description of an image, which is read by this signature."""
@@ -38,11 +41,20 @@ def words_of(registers):
     return [registers[at:at + 8] for at in range(0, len(registers), 8)]
 
 
+def read(target, words, link):
+    sp, *rest = words
+    general, floating, stack = map(bytes.fromhex, [*rest, ""][:3])
+    return Image(target, int(sp, 16), words_of(general), words_of(floating), stack, link)
+
+
 def dumped(built, number):
     """The image that player.c dumps of a signature's compiled caller."""
-    sp, *rest = built.dumps[number]
-    general, floating, stack = map(bytes.fromhex, rest)
-    return Image(built.target, int(sp, 16), words_of(general), words_of(floating), stack)
+    return read(built.target, built.dumps[number], LINK[built.target])
+
+
+def returned(built, number):
+    """The image that player.c dumps where a signature's compiled callee has returned."""
+    return read(built.target, built.returns[number], 0)
 
 
 def told(program, image):

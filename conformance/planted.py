@@ -6,7 +6,7 @@ from dataclasses import replace
 
 from batch import PLAN, layout_failure
 from places import Piece, Place, Stand
-from signature import FLOATING, SIZES, WIDE, Array, leaves_of
+from signature import FLOATING, SIZES, WIDE, Array, depth_of, leaves_of
 
 TRIED = 40
 
@@ -261,6 +261,15 @@ def large_by_value(signature, plan, layouts):
             plan.arguments[i] = Stand([Piece(Place("s", stand.copy), 0, layouts[kind].size)])
 
 
+def exchanged_of_many_bytes(signature, plan, layouts):
+    """Of more than 8,192 bytes of arguments the first and the last of more than 2,048 bytes are exchanged."""
+    sizes = [layouts[kind].size for kind in signature.arguments]
+    large = [i for i, size in enumerate(sizes) if size > 2048]
+    if sum(sizes) > 8192 and len(large) > 1 and sizes[large[0]] == sizes[large[-1]]:
+        a, b = large[0], large[-1]
+        plan.arguments[a], plan.arguments[b] = plan.arguments[b], plan.arguments[a]
+
+
 def struct_in_a_vector_register(signature, plan, layouts):
     """A struct of one float or double is handed back in xmm0."""
     if not isinstance(signature.result, str) and [leaf for leaf, _ in leaves_of(signature.result)] in ONE_FLOATING:
@@ -271,13 +280,14 @@ ONE_FLOATING = [[name] for name in FLOATING]
 
 ERRORS = {
     "amd64": [exchanged, rounded_to_16, result_by_eightbyte, no_vectors_counted, one_vector_more, merged_to_sse,
-              wide_at_eight, end_takes_no_room, last_of_many, large_late],
+              wide_at_eight, end_takes_no_room, last_of_many, large_late, exchanged_of_many_bytes],
     "aapcs64": [floats_packed, hidden_in_x0, vectors_not_ended, reference_at_16, odd_registers, wide_at_eight,
-                last_of_many, large_by_value],
+                last_of_many, large_by_value, exchanged_of_many_bytes],
     "riscv": [not_split, variadic_in_fa, pointer_is_integer, two_floats_packed, hidden_takes_no_word, odd_registers,
-              wide_at_eight, last_of_many, large_by_value],
+              wide_at_eight, last_of_many, large_by_value, exchanged_of_many_bytes],
     "win64": [counted_apart, shadow_store_left_out, vector_register_alone, general_register_alone, whole_in_a_register,
-              struct_in_a_vector_register, wide_in_two_registers, last_of_many, large_by_value],
+              struct_in_a_vector_register, wide_in_two_registers, last_of_many, large_by_value,
+              exchanged_of_many_bytes],
 }
 # What a compiler cannot show, since it does so itself (differences.py), or does not look: libffi's closures save vector
 # registers by their signature, and look neither at al nor at the general register of a floating argument.
@@ -372,9 +382,16 @@ def elements_at_multiples_of_8(kind, layout):
     return layout
 
 
+def deepest_late(kind, layout):
+    """The last leaf of a type 16 deep stands at the next multiple of its size."""
+    if depth_of(kind) == 16:
+        return replace(layout, offsets=(*layout.offsets[:-1], layout.offsets[-1] + SIZES[layout.leaves[-1]]))
+    return layout
+
+
 ERRORS_OF_LAYOUTS = [end_not_rounded, aligned_as_its_first, leaves_packed, sign_lost, sign_gained, pointer_without_kind,
                      float_without_kind, short_of_four_bytes, last_of_an_array_missing, aligned_as_its_array,
-                     elements_at_multiples_of_8]
+                     elements_at_multiples_of_8, deepest_late]
 
 
 def layout_found_at(built, signatures, layouts, error):

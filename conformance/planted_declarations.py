@@ -5,6 +5,7 @@ errors of the program, and it is said how soon."""
 import re
 from dataclasses import replace
 
+import declaration
 from signature import SIZES
 
 TRIED = 40
@@ -85,7 +86,33 @@ def const_anywhere(text):
     return re.sub(rb"\bconst\b", b"     ", text)
 
 
-READINGS = [no_dots, char_without_sign, void_later, without_first_blank, comments, const_anywhere]
+def one_less_deep(text):
+    """A struct may have 14 others around it, and no more."""
+    opened = [found.end() for found in re.finditer(rb"\bstruct\s*\{", text)]
+    closed = [found.end() for found in re.finditer(rb"\}", text)]
+    for at in opened:
+        if sum(each <= at for each in opened) - sum(each <= at for each in closed) == 16:
+            return text[:at] + b"struct{int a;}a;" + text[at:]
+    return text
+
+
+def last_of_many_bytes(text):
+    """Of parameters of more than 8,192 bytes together the last one is left out."""
+    try:
+        sizes = [declaration.size_of(kind)[0] for kind in declaration.read(text).signature().arguments]
+    except declaration.Refused:
+        return text
+    deep, commas = 0, []
+    for at, letter in enumerate(text):
+        deep += (letter in b"({[") - (letter in b")}]")
+        commas += [at] if letter in b"," and deep == 1 else []
+    if sum(sizes) <= 8192 or not commas or b"..." in text:
+        return text
+    return text[:commas[-1]] + b")"
+
+
+READINGS = [no_dots, char_without_sign, void_later, without_first_blank, comments, const_anywhere, one_less_deep,
+            last_of_many_bytes]
 
 
 def takes_what_is_refused(text):

@@ -7,7 +7,8 @@ script; where it has nothing to change, the script is left as it is. Errors of t
 
 import copy
 
-from signature import FLOATING, WIDE, Array, elements_of
+from draw import size_of
+from signature import FLOATING, WIDE, Array, depth_of, elements_of
 from translate import read_signature
 
 TRIED = 200
@@ -81,6 +82,24 @@ def upper_half_lost(script):
                 move["args"][i] = str(int(move["args"][i]) % (1 << 64))
 
 
+def argument_of_many_bytes_dropped(script):
+    """Of more than 8,192 bytes of arguments the last of more than 2,048 bytes is not passed: it is zero."""
+    for move in moves(script, "call"):
+        kinds = read_signature(script["signatures"][move["sig"]]).arguments
+        sizes = list(map(size_of, kinds))
+        if sum(sizes) > 8192 and max(sizes) > 2048:
+            last = [i for i, size in enumerate(sizes) if size > 2048][-1]
+            move["args"][last] = zero(kinds[last])
+
+
+def deepest_dropped(script):
+    """A struct 16 deep is passed without its leaves: they are zero."""
+    for move in moves(script, "call"):
+        for i, kind in enumerate(read_signature(script["signatures"][move["sig"]]).arguments):
+            if depth_of(kind) == 16:
+                move["args"][i] = zero(kind)
+
+
 def freed_closure_called(script):
     """A free does nothing, so that a freed closure is still called."""
     for body in bodies(script):
@@ -122,7 +141,8 @@ def twice_once(script):
 
 
 ERRORS = [sum_with_one_more, arguments_exchanged, element_dropped, element_of_an_array_dropped, upper_half_lost,
-          freed_closure_called, user_data_of_another, condition_left_out, function_of_the_next]
+          argument_of_many_bytes_dropped, deepest_dropped, freed_closure_called, user_data_of_another,
+          condition_left_out, function_of_the_next]
 ERRORS_OF_NATIVES = [twice_once]
 
 

@@ -15,8 +15,9 @@
  *   want_aligned P A  the address in place P is a multiple of A
  *   want_between P L H   the lowest byte of place P is from L to H
  *   show         writes a line `shown BASE GENERAL FLOATING STACK`, in hexadecimal: registers, and the stack from BASE
- *   dump         in an entry: writes a line `dumped I SP GENERAL FLOATING STACK`, the same from the stack pointer to
- *                the end of the compiled caller's frame, and 512 bytes at least
+ *   dump         writes a line with the same from the stack pointer on: in an entry `dumped I SP GENERAL FLOATING
+ *                STACK`, to the end of the compiled caller's frame, and 512 bytes at least; in a call, where it has
+ *                returned, `returned I SP GENERAL FLOATING STACK`, to the end of the player's frame
  *   go           in a call: now call; at an entry: what follows is the result
  *   end          ends a case
  *
@@ -34,7 +35,7 @@
 #include "player.h"
 
 #define GUARD 256
-#define LONGEST 70000
+#define LONGEST 300000
 #define SHOWN 2048
 #define DUMPED 512
 
@@ -185,7 +186,7 @@ static uint64_t doubleword(const unsigned char *at)
 
 static void look(const char *name, const unsigned char *at)
 {
-    unsigned char bytes[LONGEST];
+    static unsigned char bytes[LONGEST];
     unsigned count = hex(bytes);
     if (memcmp(at, bytes, count))
         wrong("other bytes at %s", name);
@@ -213,11 +214,12 @@ static void show(void)
 
 static void dump(void)
 {
-    const unsigned char *sp = base - LINK;
-    printf("dumped %ld %lx", current, (unsigned long)sp);
+    int is_return = base >= area && base < area + sizeof area;
+    const unsigned char *sp = is_return ? base : base - LINK;
+    printf("%s %ld %lx", is_return ? "returned" : "dumped", current, (unsigned long)sp);
     write_hex(now.general, sizeof now.general);
     write_hex(now.floating, sizeof now.floating);
-    write_hex(sp, top - sp < DUMPED ? DUMPED : top - sp);
+    write_hex(sp, is_return ? area + sizeof area - GUARD - sp : top - sp < DUMPED ? DUMPED : top - sp);
     printf("\n");
 }
 

@@ -75,6 +75,11 @@ def leaves_of(kind):
     return [(leaf, (i, *path)) for i, element in enumerate(elements_of(kind)) for leaf, path in leaves_of(element)]
 
 
+def depth_of(kind):
+    """How deep structs and arrays nest in a type."""
+    return 1 + max(map(depth_of, {*elements_of(kind)})) if elements_of(kind) else 0
+
+
 def has_array(kind):
     return isinstance(kind, Array) or any(map(has_array, elements_of(kind)))
 

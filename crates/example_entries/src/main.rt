@@ -1,4 +1,4 @@
-//! Runs a script as `ffi3` does, and then tells what the machine was at each entry.
+//! Runs a script as `ffi3` does, and then tells what the machine was at each entry and at each return.
 #![tactic(auto)]
 
 use ffi3_app::{Machine, ffi3};
@@ -20,11 +20,15 @@ fn write_words(alloc: Global, words: &[u64; 32], line: &mut Bytes) -> Result<(),
     Ok(())
 }
 
-/// The line of an entry: the stack pointer, general and floating registers, and the stack's bytes from the stack
-/// pointer on.
-fn entry_line(alloc: Global, event: &Event, stack: &[u8]) -> Result<Bytes, NoMemory> {
+/// The line of an entry or a return: which it is, the stack pointer, general and floating registers, and the stack's
+/// bytes from the stack pointer on.
+fn event_line(alloc: Global, event: &Event, stack: &[u8]) -> Result<Bytes, NoMemory> {
+    let word = match event.kind {
+        EventKind::Enter => "entry",
+        EventKind::Leave => "leave",
+    };
     let sp = event.sp;
-    let mut line = Bytes::from_slice(alloc, format!(in alloc; "entry {sp:016x} ")?.as_bytes())?;
+    let mut line = Bytes::from_slice(alloc, format!(in alloc; "{word} {sp:016x} ")?.as_bytes())?;
     write_words(alloc, &event.general, &mut line)?;
     line.push(b' ')?;
     write_words(alloc, &event.floating, &mut line)?;
@@ -34,18 +38,13 @@ fn entry_line(alloc: Global, event: &Event, stack: &[u8]) -> Result<Bytes, NoMem
     Ok(line)
 }
 
-/// The lines of all entries of a machine.
-fn entry_lines(alloc: Global, machine: &Machine) -> Result<Bytes, NoMemory> {
+/// The lines of all events of a machine, in order.
+fn event_lines(alloc: Global, machine: &Machine) -> Result<Bytes, NoMemory> {
     let mut lines = Bytes::new(alloc);
     let journal = machine.events();
     for i in 0..journal.len() {
         let event = journal.get(i);
-        match event.kind {
-            EventKind::Enter => {
-                lines.extend(entry_line(alloc, event, journal.stack(i))?.as_slice())?;
-            }
-            EventKind::Leave => {}
-        }
+        lines.extend(event_line(alloc, event, journal.stack(i))?.as_slice())?;
     }
     Ok(lines)
 }
@@ -75,11 +74,11 @@ fn run<O: Sink>(
     ))
 }
 
-/// The top call on this machine, and then the lines of its entries. The status is that of the top call, or 1.
+/// The top call on this machine, and then the lines of its events. The status is that of the top call, or 1.
 fn tell(rt: &HostRuntime, words: Vec<String>, machine: &mut Machine) -> Result<u8, NoMemory> {
     let mut output = WriteSink::new(rt.stdout());
     let status = run(rt, words, &mut output, machine)?;
-    let lines = entry_lines(rt.alloc(), machine)?;
+    let lines = event_lines(rt.alloc(), machine)?;
     match write_all(&mut output, lines.as_slice()) {
         Ok(()) => Ok(status),
         Err(_) => Ok(1),
