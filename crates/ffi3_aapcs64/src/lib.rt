@@ -718,6 +718,7 @@ impl Abi for Aapcs64 {
     ghost use Rattle.std.specs.Prelude.{refl};
     ghost use Rattle.std.proofs.lemmas.Bool.{ltb-true};
     ghost use Rattle.ffi3_aapcs64_rules.proofs.Agrees.{agrees as agrees_with_machine};
+    ghost use Rattle.ffi3_aapcs64_rules.proofs.Alike.{goes_by_layout};
     ghost use Rattle.ffi3_aapcs64_rules.proofs.ByStubs.{by_stubs as with_stubs, result_by_stubs as result_with_stubs};
     ghost use Rattle.ffi3_aapcs64_rules.proofs.Sound.{sound as every_law, determines};
 
@@ -742,4 +743,6 @@ impl Abi for Aapcs64 {
     ghost sound = { every_law };
 
     ghost determined = { determines };
+
+    ghost by_layout = { goes_by_layout };
 }

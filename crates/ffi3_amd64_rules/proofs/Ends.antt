@@ -1,14 +1,21 @@
--- What the arguments before a number have taken are the sums and ends over the whole list.
-use Rattle.std.proofs.Common.{◌≡◌, ℕ, zero, suc, ◌+◌, ◌<◌, ◌≤◌, Bool, true, false, cond, List, [], ◌∷◌, take, length, ap, sym, ◌∙◌, refl, arith}
+-- The plan of a call is the one that sums and ends give, and no other is.
+use Rattle.std.proofs.Common.{◌≡◌, ℕ, zero, suc, ◌+◌, ◌<◌, ◌≤◌, Bool, true, false, cond, List, [], ◌∷◌, take, length, ap, subst, sym, ◌∙◌, refl, arith}
 use Rattle.std.specs.Prelude.{Some, slice_get}
-use Rattle.ffi3_type_rules.specs.Tree.{Tree, tree_at}
+use Rattle.ffi3_type_rules.specs.Tree.{Tree, void, scalar, left_out, structure, array, tree_at}
+use Rattle.ffi3_type_rules.specs.Layout.{size_of}
 use Rattle.ffi3_type_rules.specs.Signature.{Signature}
 use Rattle.ffi3_place_rules.specs.declared.Taken.{Taken}
+use Rattle.ffi3_place_rules.specs.declared.Loc.TheVariants.{G}
+use Rattle.ffi3_place_rules.specs.declared.Place.{Place}
 use Rattle.ffi3_place_rules.specs.declared.Place.TheVariants.{Direct}
-use Rattle.ffi3_place_rules.specs.Standard.{places_from, copies_start}
-use Rattle.ffi3_amd64_rules.specs.Amd64.{amd64, integers, sses, in_registers, stack_end, taken_with, taken_after, taken_at_first, argument_pieces, spots_after, placing_of}
-use Rattle.ffi3_amd64_rules.specs.Ends.{taken_before, AreChosenBySums, ArePlacedByEnds, IsPlacedByEnds}
-use Rattle.ffi3_place_rules.proofs.Copies.{copies_by_ends}
+use Rattle.ffi3_place_rules.specs.declared.Res.TheVariants.{Hidden}
+use Rattle.ffi3_place_rules.specs.declared.Plan.{Plan}
+use Rattle.ffi3_place_rules.specs.Standard.{Spot, in_pieces, ResultSpot, no_result, in_result_pieces, in_buffer, result_at, buffer_end, plan_of, round8, round16, start}
+use Rattle.ffi3_place_rules.specs.Doublewords.{stack_pieces}
+use Rattle.ffi3_place_rules.specs.Framed.{copied_before, copied_end, IsFramedByEnds}
+use Rattle.ffi3_place_rules.proofs.Framed.{framed_by_ends, framed_once}
+use Rattle.ffi3_amd64_rules.specs.Amd64.{amd64, integers, sses, classes, in_memory, in_registers, register_pieces, general_argument, result_register, stack_start, stack_end, taken_with, taken_after, taken_at_first, argument_pieces, spot_after, spots_after, result_spot_of}
+use Rattle.ffi3_amd64_rules.specs.Ends.{general_before, vector_before, stack_before, taken_before, AreChosenBySums, arguments_end, IsByEnds, IsPlacedByEnds}
 
 -- what the arguments before number i take
 abbrev pub taken_until : Signature → ℕ → Taken
@@ -30,10 +37,10 @@ spots_length : (a : Taken) (ts : List Tree) → length (spots_after a ts) ≡ le
 spots_length a [] = refl
 spots_length a (t ∷ ts) = ap suc (spots_length (taken_with a t) ts)
 
-stands_at : (end : ℕ) (a : Taken) (ts : List Tree) (i : ℕ) → i < length ts → slice_get (places_from amd64.copy_start end ts (spots_after a ts)) i ≡ Some (Direct (argument_pieces (taken_after a (take i ts)) (tree_at ts i)))
-stands_at end a [] i h = absurd (omega arith)
-stands_at end a (t ∷ ts) zero h = refl
-stands_at end a (t ∷ ts) (suc i) h = stands_at end (taken_with a t) ts i (omega arith)
+spot_stands : (a : Taken) (ts : List Tree) (i : ℕ) → i < length ts → slice_get (spots_after a ts) i ≡ Some (spot_after (taken_after a (take i ts)) (tree_at ts i))
+spot_stands a [] i h = absurd (omega arith)
+spot_stands a (t ∷ ts) zero h = refl
+spot_stands a (t ∷ ts) (suc i) h = spot_stands (taken_with a t) ts i (omega arith)
 
 abbrev more_if : Taken → Tree → Bool → Taken
 more_if a t b =
@@ -68,16 +75,13 @@ module _ (s : Signature) where
       (ap (λ a. cond b a.stack (stack_end a.stack t)) before) in
       next ∙ after
 
-  -- the statement by sums and ends holds of the places
-  pub placed_by_ends : ArePlacedByEnds s (is_in_registers s)
-  placed_by_ends =
-      let total = sym (taken_all (taken_at_first s.result_type) s.arguments) ∙ sums_are_taken (length s.arguments) (omega arith) in
-      record {
-        registers_suffice = λ i h. ap (λ a. in_registers a (tree_at s.arguments i)) (sums_are_taken i (omega arith));
-        placed = λ i h. stands_at (copies_start (placing_of s)) (taken_at_first s.result_type) s.arguments i h ∙ ap (λ a. Some (Direct (argument_pieces a (tree_at s.arguments i)))) (sums_are_taken i (omega arith));
-        stack_total = ap (λ a. a.stack) total;
-        vector_total = ap (λ a. a.vector) total;
-      }
+  pub chosen_by_sums : AreChosenBySums s (is_in_registers s)
+  chosen_by_sums i h =
+      ap (λ a. in_registers a (tree_at s.arguments i)) (sums_are_taken i (omega arith))
+
+  pub all_taken : taken_after (taken_at_first s.result_type) s.arguments ≡ taken_before s (is_in_registers s) (length s.arguments)
+  all_taken =
+      sym (taken_all (taken_at_first s.result_type) s.arguments) ∙ sums_are_taken (length s.arguments) (omega arith)
 
 -- ---- the sums leave no choice
 
@@ -101,11 +105,125 @@ module _ (s : Signature) (p q : ℕ → Bool) (by_p : AreChosenBySums s p) (by_q
   same_choice i h =
       by_p i h ∙ ap (λ a. in_registers a (tree_at s.arguments i)) (same_sums i (omega arith)) ∙ sym (by_q i h)
 
+-- ---- a result
+
+result_when : (P : ResultSpot → Type 0) (t : Tree) → (t ≡ void → P no_result) → (in_memory t ≡ true → P (in_buffer (G (general_argument 0)))) → (¬ (t ≡ void) → in_memory t ≡ false → P (in_result_pieces (register_pieces result_register 0 0 t [] (classes t)))) → P (result_spot_of t)
+result_when P t none hidden direct = cases t none hidden direct
+  where
+    by_memory : (u : Tree) (b : Bool) → in_memory u ≡ b → ¬ (u ≡ void) → (in_memory u ≡ true → P (in_buffer (G (general_argument 0)))) → (¬ (u ≡ void) → in_memory u ≡ false → P (in_result_pieces (register_pieces result_register 0 0 u [] (classes u)))) → P (cond b (in_buffer (G (general_argument 0))) (in_result_pieces (register_pieces result_register 0 0 u [] (classes u))))
+    by_memory u true e some hidden direct = hidden e
+    by_memory u false e some hidden direct = direct some e
+
+    cases : (u : Tree) → (u ≡ void → P no_result) → (in_memory u ≡ true → P (in_buffer (G (general_argument 0)))) → (¬ (u ≡ void) → in_memory u ≡ false → P (in_result_pieces (register_pieces result_register 0 0 u [] (classes u)))) → P (result_spot_of u)
+    cases void none hidden direct = none refl
+    cases (scalar k) none hidden direct =
+        by_memory (scalar k) (in_memory (scalar k)) refl (λ e. cc) hidden direct
+    cases (left_out k) none hidden direct =
+        by_memory (left_out k) (in_memory (left_out k)) refl (λ e. cc) hidden direct
+    cases (structure ts) none hidden direct =
+        by_memory (structure ts) (in_memory (structure ts)) refl (λ e. cc) hidden direct
+    cases (array ts n) none hidden direct =
+        by_memory (array ts n) (in_memory (array ts n)) refl (λ e. cc) hidden direct
+
+spot_of_memory : (t : Tree) → in_memory t ≡ true → result_spot_of t ≡ in_buffer (G (general_argument 0))
+spot_of_memory t m =
+    result_when (λ spot. spot ≡ in_buffer (G (general_argument 0))) t (λ e. let small : in_memory t ≡ false = ap in_memory e in cc) (λ _. refl) (λ _ small. cc)
+
+spot_of_registers : (t : Tree) → ¬ (t ≡ void) → in_memory t ≡ false → result_spot_of t ≡ in_result_pieces (register_pieces result_register 0 0 t [] (classes t))
+spot_of_registers t some small =
+    result_when (λ spot. spot ≡ in_result_pieces (register_pieces result_register 0 0 t [] (classes t))) t (λ e. absurd (some e)) (λ m. cc) (λ _ _. refl)
+
+buffer_ends : (end : ℕ) (t : Tree) → buffer_end start end t (result_spot_of t) ≡ cond (in_memory t) (start end t + round8 (size_of t)) end
+buffer_ends end t =
+    result_when (λ spot. buffer_end start end t spot ≡ cond (in_memory t) (start end t + round8 (size_of t)) end) t
+    (λ e. sym (ap (λ u. cond (in_memory u) (start end t + round8 (size_of t)) end) e))
+    (λ m. sym (ap (λ b. cond b (start end t + round8 (size_of t)) end) m))
+    (λ _ small. sym (ap (λ b. cond b (start end t + round8 (size_of t)) end) small))
+
+-- ---- all of a call
+
+module _ (s : Signature) (chosen : ℕ → Bool) where
+  -- where an argument stands, by the choice
+  abbrev spot_by : ℕ → Spot
+  spot_by i = in_pieces (argument_pieces (taken_before s chosen i) (tree_at s.arguments i))
+
+  -- no argument has a copy
+  no_copies : (n i : ℕ) → copied_before amd64 s spot_by n i ≡ round16 n
+  no_copies n zero = refl
+  no_copies n (suc i) = no_copies n i
+
+  abbrev stack_all : ℕ
+  stack_all = stack_before s chosen (length s.arguments)
+
+  abbrev IsFramed : Plan → Type 0
+  IsFramed p =
+      IsFramedByEnds amd64 s spot_by (result_spot_of s.result_type) stack_all (vector_before s chosen (length s.arguments)) p
+
+  copies_end_there : copied_end amd64 s spot_by stack_all ≡ arguments_end s chosen
+  copies_end_there = no_copies stack_all (length s.arguments)
+
+  -- pieces by whether the argument is in registers
+  abbrev pieces_if : ℕ → Bool → Place
+  pieces_if i b =
+      Direct (cond b (register_pieces general_argument (general_before s chosen i) (vector_before s chosen i) (tree_at s.arguments i) [] (classes (tree_at s.arguments i))) (stack_pieces (stack_start (stack_before s chosen i) (tree_at s.arguments i)) (tree_at s.arguments i)))
+
+  by_ends : (p : Plan) → AreChosenBySums s chosen → IsFramed p → IsByEnds s p
+  by_ends p sums f = record {
+    chosen = chosen;
+    by_sums = sums;
+    one_each = f.one_each;
+    register_places = λ i h e. f.placed i h ∙ ap (λ b. Some (pieces_if i b)) (sym (sums i h) ∙ e);
+    stack_places = λ i h e. f.placed i h ∙ ap (λ b. Some (pieces_if i b)) (sym (sums i h) ∙ e);
+    no_result = λ e. f.result_placed ∙ ap (λ t. result_at start (copied_end amd64 s spot_by stack_all) t (result_spot_of t)) e;
+    result_in_registers = λ some small. f.result_placed ∙ ap (λ spot. result_at start (copied_end amd64 s spot_by stack_all) s.result_type spot) (spot_of_registers s.result_type some small);
+    result_in_memory = λ m. f.result_placed ∙ ap (λ spot. result_at start (copied_end amd64 s spot_by stack_all) s.result_type spot) (spot_of_memory s.result_type m) ∙ ap (λ n. Hidden (G (general_argument 0)) (start n s.result_type)) copies_end_there;
+    frame_end = f.frame_end ∙ ap (λ n. round16 (buffer_end start n s.result_type (result_spot_of s.result_type))) copies_end_there ∙ ap round16 (buffer_ends (arguments_end s chosen) s.result_type);
+    block_total = f.block_total;
+    need_total = f.need_total;
+    counted = f.counted;
+  }
+
+module _ (s : Signature) (p : Plan) (by : IsByEnds s p) where
+  place_by : (i : ℕ) → i < length s.arguments → (b : Bool) → by.chosen i ≡ b → slice_get p.places i ≡ Some (pieces_if s by.chosen i b)
+  place_by i h true e = by.register_places i h e
+  place_by i h false e = by.stack_places i h e
+
+  framed : IsFramed s by.chosen p
+  framed = record {
+    one_each = by.one_each;
+    placed = λ i h. place_by i h (by.chosen i) refl ∙ ap (λ b. Some (pieces_if s by.chosen i b)) (by.by_sums i h);
+    result_placed = result_when (λ spot. p.res ≡ result_at start (copied_end amd64 s (spot_by s by.chosen) (stack_all s by.chosen)) s.result_type spot) s.result_type
+        by.no_result
+        (λ m. by.result_in_memory m ∙ ap (λ n. Hidden (G (general_argument 0)) (start n s.result_type)) (sym (copies_end_there s by.chosen)))
+        by.result_in_registers;
+    frame_end = by.frame_end ∙ ap round16 (sym (buffer_ends (arguments_end s by.chosen) s.result_type)) ∙ ap (λ n. round16 (buffer_end start n s.result_type (result_spot_of s.result_type))) (sym (copies_end_there s by.chosen));
+    block_total = by.block_total;
+    need_total = by.need_total;
+    counted = by.counted;
+  }
+
+module _ (s : Signature) where
+  -- the plan is by sums and ends
+  pub placed_by_ends : IsByEnds s (plan_of amd64 s)
+  placed_by_ends =
+      let c = is_in_registers s in
+      by_ends s c (plan_of amd64 s) (chosen_by_sums s) (subst (λ (a : Taken). IsFramedByEnds amd64 s (spot_by s c) (result_spot_of s.result_type) a.stack a.vector (plan_of amd64 s)) (all_taken s) (framed_by_ends amd64 s (spot_by s c) (spots_length (taken_at_first s.result_type) s.arguments) (λ i h. spot_stands (taken_at_first s.result_type) s.arguments i h ∙ ap (λ a. Some (spot_after a (tree_at s.arguments i))) (sums_are_taken s i (omega arith)))))
+
+  -- and no other plan is
+  pub only : (p : Plan) → IsByEnds s p → p ≡ plan_of amd64 s
+  only p by =
+      let ours = placed_by_ends in
+      let sums : (i : ℕ) → i ≤ length s.arguments → taken_before s by.chosen i ≡ taken_before s ours.chosen i = same_sums s by.chosen ours.chosen by.by_sums ours.by_sums in
+      let q = plan_of amd64 s in
+      framed_once amd64 s (spot_by s by.chosen) (spot_by s ours.chosen) (λ i h. ap (λ a. spot_after a (tree_at s.arguments i)) (sums i (omega arith))) (stack_all s ours.chosen) (result_spot_of s.result_type) (vector_before s ours.chosen (length s.arguments)) p q (subst (λ (a : Taken). IsFramedByEnds amd64 s (spot_by s by.chosen) (result_spot_of s.result_type) a.stack a.vector p) (sums (length s.arguments) (omega arith)) (framed s p by)) (framed s q ours)
+
 -- all of it, for every signature
 pub call_by_ends : (s : Signature) → IsPlacedByEnds s
-call_by_ends s = record {
-  chosen = is_in_registers s;
-  arguments = placed_by_ends s;
-  only_choice = λ other chosen. same_choice s other (is_in_registers s) chosen (placed_by_ends s).registers_suffice;
-  frame = copies_by_ends amd64 s (spots_length (taken_at_first s.result_type) s.arguments);
-}
+call_by_ends s =
+    let ours = placed_by_ends s in
+    record {
+      placed = ours;
+      only = only s;
+      only_choice = λ other sums. same_choice s other ours.chosen sums ours.by_sums;
+      stack_total = ap (λ a. a.stack) (all_taken s ∙ same_sums s (is_in_registers s) ours.chosen (chosen_by_sums s) ours.by_sums (length s.arguments) (omega arith));
+    }

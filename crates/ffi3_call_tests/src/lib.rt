@@ -1,11 +1,13 @@
-//! Tests of values of public calls that only the language reaches: instructions, stubs, regions, slots and ends by
-//! themselves, and calls on the machine by all four standards, with no program among them.
+//! Tests of values of public calls that only the language reaches: instructions, classes of types, stubs, regions, slots
+//! and ends by themselves, and calls on the machine by all four standards, with no program among them.
 #![tactic(auto)]
 
 #[cfg(test)]
 mod adapters;
 #[cfg(test)]
 mod arguments;
+#[cfg(test)]
+mod classes;
 #[cfg(test)]
 mod encodings;
 #[cfg(test)]

@@ -1,5 +1,5 @@
--- A call that has begun, that has ended, and the whole of it.
-use Rattle.std.proofs.Common.{◌≡◌, ◌⊎◌, Bool, true, false, get_or, ℕ, ◌+◌, ◌-◌, ◌≤◌, List, [], ◌∷◌, ◌++◌, length, refl, ap, sym, ◌∙◌, subst, append_assoc, arith}
+-- A call that has begun, and one that has ended.
+use Rattle.std.proofs.Common.{◌≡◌, ◌⊎◌, Bool, true, false, get_or, ℕ, ◌+◌, ◌-◌, ◌≤◌, List, [], ◌∷◌, ◌++◌, length, refl, ap, sym, ◌∙◌, subst, arith}
 use Rattle.std.specs.List.{AllByRecursion}
 use Rattle.ffi3_type_rules.specs.declared.limits.TheConstants.{STACK, STACK_BYTES, STACK_TOP}
 use Rattle.ffi3_type_rules.specs.Isa.{isa_of}
@@ -24,7 +24,7 @@ use Rattle.ffi3_callee.proofs.Beside.{wrote_down}
 use Rattle.ffi3_callee.proofs.Laws.{each_both}
 use Rattle.ffi3_callee.specs.declared.Incoming.{Incoming}
 use Rattle.ffi3_callee.specs.Received.{IsIncoming, IsReceived}
-use Rattle.ffi3_invoke.specs.Calls.{HasBegun, HasEnded, HasPassed, HasReturned, IsInCallee, IsMade, KeepsOpen, KeepsReserved, ended_steps, entry_at, return_at}
+use Rattle.ffi3_invoke.specs.Calls.{HasBegun, HasEnded, HasPassed, HasReturned, IsInCallee, KeepsOpen, KeepsReserved, entry_at, return_at}
 use Rattle.ffi3_invoke.proofs.Passed.{held_still, reserved_places_lie, same_then}
 use Rattle.ffi3_invoke.proofs.Returned.{result_within}
 use Rattle.ffi3_invoke.proofs.Stretches.{above_stays, below_stays, mark_least, open_aside, still_open}
@@ -212,35 +212,3 @@ callee_low std s incoming sp is block = let low = is.low in omega (arith, low, b
 pub frame_fits : (std : Standard) (s : Signature) (v : ValueTree) (incoming : Incoming) (m l : State) → IsIncoming std s incoming → incoming.block ≡ m.sp → HasReturned std s v m l → l.sp + frame_of std s ≤ STACK_TOP
 frame_fits std s v incoming m l is block returned =
     let entry = is.entry in let high = is.high in let sp = returned.sp in omega (arith, entry, high, sp, block)
-
--- ---- the whole call
-
-pub made : (std : Standard) (s : Signature) (vs : List ValueTree) (pointer : ℕ) (v : ValueTree) (before during after : State) → HasBegun std s vs pointer before during → HasEnded std s v during after → IsMade std s vs pointer v before after
-made std s vs pointer v before during after begun ended =
-    let sp_down = begun.sp in
-    let sp_up = ended.sp in
-    let same : after.sp ≡ before.sp = omega (arith, sp_down, sp_up) in
-    let mark_down = begun.mark in
-    let mark_up = ended.mark in
-    let room_down = begun.room in
-    let room_up = ended.room in
-    let bytes_down = begun.bytes in
-    let bytes_up = ended.bytes in
-    record {
-      entry = begun.entry;
-      return = ended.return;
-      events = ended.events ∙ ap (λ es. es ++ ended.return ∷ []) begun.events ∙ append_assoc before.events (begun.entry ∷ []) (ended.return ∷ []);
-      is_entry = begun.is_entry;
-      is_return = ended.is_return begun.entry begun.in_callee;
-      sp = same;
-      above = λ address count over. ended.above address count (omega (arith, over, same)) ∙ begun.above address count over;
-      below = λ address count bottom under. ended.below address count bottom (omega (arith, sp_down, under)) ∙ begun.below address count bottom (omega (arith, sp_down, under));
-      keeps_open = λ entered block here stands. ended.keeps_open entered block (omega (arith, here, same)) (begun.keeps_open entered block here stands);
-      mark = let lower : during.sp ≡ before.sp - need_of std s = omega (arith, sp_down) in omega (arith, lower, mark_down, mark_up);
-      code = ended.code ∙ begun.code;
-      target = ended.target ∙ begun.target;
-      reserved = same_then std.reserved (image_of 0 before) (image_of 0 during) (image_of 0 after) begun.reserved ended.reserved;
-      room = omega (arith, room_down, room_up);
-      bytes = omega (arith, bytes_down, bytes_up);
-      steps = ended.steps ∙ ap (λ k. ended_steps k during.steps) begun.target ∙ ap (ended_steps before.target) begun.steps;
-    }

@@ -177,27 +177,3 @@ pub record HasEnded (std : Standard) (s : Signature) (outcome : ValueTree) (befo
   pub room : after.spare_events + 1 ≡ before.spare_events
   pub bytes : after.spare_bytes + frame_of std s ≡ before.spare_bytes
   pub steps : after.steps ≡ ended_steps before.target before.steps
-
--- THE WHOLE CALL: entry and return stand in the journal one behind the other, and the machine's stack above sp and below the call's need, its code, target and reserved registers are as before.
-pub record IsMade (std : Standard) (s : Signature) (arguments : List ValueTree) (pointer : ℕ) (outcome : ValueTree)
-    (before after : State) : Type 0 where
-  pub entry : Event
-  pub return : Event
-  pub events : after.events ≡ before.events ++ entry ∷ return ∷ []
-  pub is_entry : (top : ℕ) (held : Loc → ℕ) (outer : List Entered)
-      → before.sp + needs std outer ≡ top
-      → AllByRecursion (λ at. register (image_of 0 before) at ≡ held at) std.reserved
-      → IsEntry std top held outer (length before.events) pointer s arguments entry
-  pub is_return : IsReturn std (record { signature = s; event = entry }) outcome return
-  pub sp : after.sp ≡ before.sp
-  pub above : (address count : ℕ) → before.sp ≤ address → stack_at address count after ≡ stack_at address count before
-  pub below : (address count : ℕ) → STACK ≤ address → address + count + need_of std s ≤ before.sp
-      → stack_at address count after ≡ stack_at address count before
-  pub keeps_open : KeepsOpen std before.sp before after
-  pub mark : min before.mark (before.sp - need_of std s) ≤ after.mark
-  pub code : after.code ≡ before.code
-  pub target : after.target ≡ before.target
-  pub reserved : KeepsReserved std before after
-  pub room : after.spare_events + 2 ≡ before.spare_events
-  pub bytes : after.spare_bytes + (std.link + frame_of std s + frame_of std s) ≡ before.spare_bytes
-  pub steps : after.steps ≡ ended_steps before.target (begun_steps before.target before.steps)

@@ -13,7 +13,7 @@ ghost use Rattle.ffi3_run_rules.specs.Closures.{closure_at};
 ghost use Rattle.ffi3_machine.specs.State.{IsSlot};
 ghost use Rattle.ffi3_closures.specs.Slots.{HoldsMap};
 ghost use Rattle.ffi3_callee.specs.Received.{IsIncoming};
-ghost use Rattle.ffi3_invoke.specs.Calls.{HasBegun, HasEnded, IsCalled, IsMade};
+ghost use Rattle.ffi3_invoke.specs.Calls.{HasBegun, HasEnded, IsCalled};
 
 mod entering;
 mod passing;
@@ -83,33 +83,4 @@ pub fn end_call<A: Abi>(
     come_back(machine, cif);
     load_result(machine, cif, out);
     drop_frame(machine, cif);
-}
-
-/// A whole call of a closure whose callee gives a value at once.
-pub fn call_through<A: Abi>(
-    machine: &mut Machine,
-    table: &Table,
-    cif: &Cif<A>,
-    values: &Values,
-    ptr: u64,
-    value: &Value,
-    out: &mut [u8],
-)
-    requires target { machine.old.target ≡ A.TARGET }
-    requires fit { all_fit (trees_of cif.now.arguments) (values_of values.now) ≡ true }
-    requires room { STACK + need_of A.standard cif.now ≤ machine.old.sp }
-    requires top { machine.old.sp ≤ STACK_TOP }
-    requires holds { HoldsMap machine.old.target table.now machine.old.code }
-    requires slot { IsSlot ptr }
-    requires live { IsSome (closure_at table.now ptr) }
-    requires events { 2 ≤ machine.old.spare_events }
-    requires bytes { A.standard.link + frame_of A.standard cif.now + frame_of A.standard cif.now ≤ machine.old.spare_bytes }
-    requires fits { fits cif.now.result_type (value_of value.now) ≡ true }
-    requires sized { length out.old ≡ size_of cif.now.result_type }
-    ensures made { IsMade A.standard cif.now values.now ptr (value_of value.now) machine.old machine.new }
-    ensures sized { length out.new ≡ length out.old }
-    ensures value { value_in cif.now.result_type out.new ≡ value_of value.now }
-{
-    let incoming = begin_call(machine, table, cif, values, ptr);
-    end_call(machine, cif, incoming, value, out);
 }

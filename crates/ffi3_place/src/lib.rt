@@ -7,6 +7,7 @@ ghost use Rattle.ffi3_type_rules.specs.Signature.{Signature, SignatureHasNoFault
 ghost use Rattle.ffi3_place_rules.specs.Standard.{Standard, plan_of};
 ghost use Rattle.ffi3_place_rules.specs.Sound.{IsSound, IsDetermined};
 ghost use Rattle.ffi3_place_rules.specs.Agrees.{AgreesWithMachine};
+ghost use Rattle.ffi3_place_rules.specs.Alike.{GoesByLayout};
 ghost use Rattle.ffi3_place_rules.specs.ByStubs.{AgreesWithStubs, ResultGoesByStubs};
 ghost use Rattle.ffi3_place_rules.specs.Isa.{has_stubs};
 
@@ -104,4 +105,7 @@ pub trait Abi {
 
     // An image that owns values of a signature determines them, and so with a result.
     ghost determined: { (s : Signature) → IsDetermined standard s };
+
+    // Signatures whose types are pairwise equal, or both structs of equal layout, have equal plans.
+    ghost by_layout: { GoesByLayout standard };
 }

@@ -23,7 +23,8 @@ module _ (std : Standard) (s : Signature) (spot : ℕ → Spot) (stack_bytes : �
   copied_end = copied_before (length s.arguments)
 
 -- THE ENDS FRAME A CALL: there is a place for each argument; that of number i is in its pieces, or by reference with the copy behind those of the arguments before it. The result is nowhere, in its pieces, or in the buffer behind all copies, and the frame ends there. Behind it are the return address, the callee's save area and its copy of all arguments.
-pub record IsFramedByEnds (std : Standard) (s : Signature) (spot : ℕ → Spot) (result : ResultSpot) (stack_bytes vectors : ℕ) (p : Plan) : Type 0 where
+pub record IsFramedByEnds (std : Standard) (s : Signature) (spot : ℕ → Spot)
+    (result : ResultSpot) (stack_bytes vectors : ℕ) (p : Plan) : Type 0 where
   pub one_each : length p.places ≡ length s.arguments
   pub placed : (i : ℕ) → i < length s.arguments
       → slice_get p.places i

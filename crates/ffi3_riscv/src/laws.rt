@@ -1,5 +1,5 @@
 // What the places of every call keep, for callers to cite.
-ghost use Rattle.ffi3_place_rules.specs.Alike.{GoesByLayout};
+ghost use Rattle.ffi3_place_rules.specs.Alike.{GoesByLayout, PlacesArraysAsElements};
 ghost use Rattle.ffi3_riscv_rules.specs.Riscv.{riscv};
 ghost use Rattle.ffi3_riscv_rules.specs.Ends.{IsPlacedByEnds};
 
@@ -13,4 +13,5 @@ use ffi3_types::Sig;
 pub fn placement_laws(_sig: &Sig)
     ensures ends { IsPlacedByEnds _sig.now }
     ensures by_layout { GoesByLayout riscv }
+    ensures arrays_as_elements { PlacesArraysAsElements riscv }
 {}

@@ -643,6 +643,7 @@ impl Abi for Riscv {
     ghost use Rattle.std.specs.Prelude.{refl};
     ghost use Rattle.std.proofs.lemmas.Bool.{ltb-true};
     ghost use Rattle.ffi3_riscv_rules.proofs.Agrees.{agrees as with_machine};
+    ghost use Rattle.ffi3_riscv_rules.proofs.Alike.{goes_by_layout};
     ghost use Rattle.ffi3_riscv_rules.proofs.ByStubs.{by_stubs as with_stubs, result_by_stubs as result_with_stubs};
     ghost use Rattle.ffi3_riscv_rules.proofs.Sound.{sound as every_law, determines};
 
@@ -667,4 +668,6 @@ impl Abi for Riscv {
     ghost sound = { every_law };
 
     ghost determined = { determines };
+
+    ghost by_layout = { goes_by_layout };
 }

@@ -1,5 +1,5 @@
 // What the places of every call keep, for callers to cite.
-ghost use Rattle.ffi3_place_rules.specs.Alike.{GoesByLayout};
+ghost use Rattle.ffi3_place_rules.specs.Alike.{GoesByLayout, PlacesArraysAsElements};
 ghost use Rattle.ffi3_win64_rules.specs.Win64.{win64};
 ghost use Rattle.ffi3_win64_rules.specs.Positions.{IsPlacedByPosition};
 
@@ -12,4 +12,5 @@ use ffi3_types::Sig;
 pub fn placement_laws(_sig: &Sig)
     ensures positions { IsPlacedByPosition _sig.now }
     ensures by_layout { GoesByLayout win64 }
+    ensures arrays_as_elements { PlacesArraysAsElements win64 }
 {}

@@ -4,7 +4,6 @@
 ghost use Rattle.std.specs.Prelude.{◌≡◌, ◌<◌, ◌≤◌, ◌+◌, ◌*◌, length, IfOk, is_some, false};
 ghost use Rattle.ffi3_type_rules.specs.declared.limits.TheConstants.{ARGUMENT_BYTES, MOST_ARGUMENTS};
 ghost use Rattle.ffi3_type_rules.specs.Tree.{Tree};
-ghost use Rattle.ffi3_type_rules.specs.Fault.{IsLaidOut};
 ghost use Rattle.ffi3_types.specs.TreeOf.{tree_of};
 ghost use Rattle.ffi3_place_rules.specs.Standard.{places_from, place_at, copies_end, result_at, plan_of};
 ghost use Rattle.ffi3_win64_rules.specs.Win64.{win64, is_whole_size, is_copied, position_place, floating_places, whole, whole_in, argument_pieces, spot_at, spots_from, first_position, result_place, result_spot_of, stack_of, copy_start};
@@ -29,15 +28,7 @@ fn is_whole_size(size: u64) -> bool
 }
 
 /// Whether the caller copies a value and passes the address of the copy. ("Parameter passing")
-pub fn is_copied(ty: &FfiType) -> bool
-    requires { IsLaidOut (tree_of ty.now) }
-    ensures { result ≡ is_copied (tree_of ty.now) }
-{
-    is_copied_of(&CheckedType::of(ty))
-}
-
-/// `is_copied`, of a type that is known to have a layout.
-fn is_copied_of(ty: &CheckedType<'_>) -> bool
+fn is_copied(ty: &CheckedType<'_>) -> bool
     ensures { result ≡ is_copied ty.now }
 {
     !is_whole_size(ty.size())
@@ -134,7 +125,7 @@ fn place_of(
     requires low { end ≤ 2 * ARGUMENT_BYTES }
     ensures { IfOk result (λ r. r ≡ place_at win64.copy_start end ty.now (spot_at variadic p ty.now)) }
 {
-    if is_copied_of(ty) {
+    if is_copied(ty) {
         return Ok(Place::ByRef {
             at: position_place(p),
             copy: copy_start(end) as u32,
@@ -280,7 +271,7 @@ pub struct Win64;
 fn plan_of(alloc: Global, sig: &CheckedSig<'_>) -> Result<Plan, NoMemory>
     ensures { IfOk result (λ p. p ≡ plan_of win64 sig.now) }
 {
-    let is_hidden = is_copied_of(&sig.ret());
+    let is_hidden = is_copied(&sig.ret());
     let first = first_position(is_hidden);
     let stack = stack_of(first + sig.count() as u64);
     let all = place_all(alloc, sig, first, round_up(stack, 16))?;
@@ -345,6 +336,7 @@ impl Abi for Win64 {
     ghost use Rattle.std.specs.Prelude.{refl};
     ghost use Rattle.std.proofs.lemmas.Bool.{ltb-true};
     ghost use Rattle.ffi3_win64_rules.proofs.Agrees.{agrees as agrees_with_machine};
+    ghost use Rattle.ffi3_win64_rules.proofs.Alike.{goes_by_layout};
     ghost use Rattle.ffi3_win64_rules.proofs.ByStubs.{by_stubs as without_stubs, result_by_stubs as result_without_stubs};
     ghost use Rattle.ffi3_win64_rules.proofs.Sound.{sound as every_law, determines};
 
@@ -369,4 +361,6 @@ impl Abi for Win64 {
     ghost sound = { every_law };
 
     ghost determined = { determines };
+
+    ghost by_layout = { goes_by_layout };
 }

@@ -5,10 +5,10 @@ use Rattle.ffi3_place_rules.specs.Standard.{place_at, in_pieces, by_reference}
 use Rattle.ffi3_win64_rules.specs.Win64.{win64, position_place, argument_pieces}
 use Rattle.ffi3_win64.proofs.place_of.Goals as goal
 
-pub returns-then-is_copied_of : goal.returns-then-is_copied_of
-returns-then-is_copied_of c =
+pub returns-then-is_copied : goal.returns-then-is_copied
+returns-then-is_copied c =
     let t = c.args.ty.now in
     let at = position_place c.args.p in
     let pieces = argument_pieces c.args.variadic c.args.p t in
-    let copied = sym c.is_copied_of.ensures ∙ c.if-is_copied_of.true in
+    let copied = sym c.is_copied.ensures ∙ c.if-is_copied.true in
     ap (λ l. ByRef l c.copy_start.result) c.position_place.ensures ∙ ap (ByRef at) (c.copy_start.ensures.value t) ∙ ap (λ b. place_at win64.copy_start c.args.end t (cond b (by_reference at) (in_pieces pieces))) (sym copied)

@@ -1,3 +1,5 @@
+use Rattle.ffi3_place_rules.proofs.Alike.{arrays_as_elements}
+use Rattle.ffi3_riscv_rules.specs.Riscv.{riscv}
 use Rattle.ffi3_riscv_rules.proofs.Alike.{goes_by_layout}
 use Rattle.ffi3_riscv_rules.proofs.Ends.{is_placed_by_ends}
 use Rattle.ffi3_riscv.proofs.laws.placement_laws.Goals as goal
@@ -7,3 +9,6 @@ returns-clause-ends c = is_placed_by_ends c.args._sig.now
 
 pub returns-clause-by_layout : goal.returns-clause-by_layout
 returns-clause-by_layout c = goes_by_layout
+
+pub returns-clause-arrays_as_elements : goal.returns-clause-arrays_as_elements
+returns-clause-arrays_as_elements c = arrays_as_elements riscv goes_by_layout
