@@ -11,6 +11,8 @@ mod classes;
 #[cfg(test)]
 mod encodings;
 #[cfg(test)]
+mod homogeneous;
+#[cfg(test)]
 mod regions;
 #[cfg(test)]
 mod runs;

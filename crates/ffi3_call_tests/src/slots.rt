@@ -363,7 +363,7 @@ pub fn gives_back<A: Abi>(came: &Came) -> bool {
 }
 
 /// The signature that a script would write so.
-fn signature(alloc: Global, text: &str) -> Result<Sig, Fail> {
+pub fn signature(alloc: Global, text: &str) -> Result<Sig, Fail> {
     let Ok(json) = parse(alloc, text.as_bytes()) else {
         return Err("no JSON".into());
     };
