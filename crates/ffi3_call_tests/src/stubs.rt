@@ -50,8 +50,9 @@ fn comes_back(machine: &mut Machine) {
 fn calls(machine: &mut Machine) {
     machine.set_x(512, CODE);
     machine.set_x(520, AT);
+    let slot = machine.x(512);
     let sp = machine.x(520);
-    if STACK + 1024 <= sp && sp <= STACK_TOP - 1024 {
+    if slot == CODE && STACK + 1024 <= sp && sp <= STACK_TOP - 1024 {
         run_call(machine);
     }
 }

@@ -42,6 +42,10 @@ module _ (addr : ℕ) (m : State) (is : IsMachine m) (slot : IsSlot addr) where
   told_register l lies =
       told_below (exchanged_at l) 520 m.sp (with_x 512 addr m) (omega (arith, place_low l lies)) second_fits ∙ told_below (exchanged_at l) 512 addr m (place_low l lies) first_fits
 
+  pub call_at_slot : (t : State) → t ≡ told addr m → IsSlot (x_of 512 t)
+  call_at_slot t t_is =
+      subst (λ (x : State). IsSlot (x_of 512 x)) (sym t_is) (subst IsSlot (sym told_slot) slot)
+
   pub call_low : (t : State) → t ≡ told addr m → STACK + pushed_bytes (isa_of m.target) ≤ m.sp → STACK + pushed_bytes (isa_of t.target) ≤ x_of 520 t
   call_low t t_is low =
       subst (λ (x : State). STACK + pushed_bytes (isa_of x.target) ≤ x_of 520 x) (sym t_is) (subst (λ (v : ℕ). STACK + pushed_bytes (isa_of m.target) ≤ v) (sym told_sp) low)

@@ -63,6 +63,9 @@ module _ (std : Standard) (s : Signature) (agrees : AgreesWithMachine std) (vs :
       record {
         entry = entry_at std s c;
         events = events ∙ ap (λ es. es ++ entry_at std s c ∷ []) passed.events;
+        entered = c;
+        passed = passed;
+        entry_is = refl;
         is_entry = is_entry;
         in_callee = in_callee;
         arguments_stand = received.values vs passed.holds.own;

@@ -16,18 +16,19 @@ use Rattle.ffi3_place_rules.specs.Agrees.{AgreesWithMachine, special}
 use Rattle.ffi3_place_rules.specs.Holds.{Holds, SameIn}
 use Rattle.ffi3_place_rules.specs.Sound.{Apart, IsNoneOf, IsSound}
 use Rattle.ffi3_machine.specs.State.{State, IsMachine, image_of, scribbled}
+use Rattle.ffi3_machine.specs.Step.{TakesSteps}
 use Rattle.ffi3_machine.specs.Stubs.{Call}
 use Rattle.ffi3_stubs.specs.Calls.{steps_of}
 use Rattle.ffi3_closures.specs.Reaching.{reached}
 use Rattle.ffi3_pieces.specs.Passing.{by_exchange, passing, steps_if}
 use Rattle.ffi3_pieces.specs.Stored.{IsPlace, SameAt, WroteWithin, with_journal_of, word_in}
-use Rattle.ffi3_caller.specs.Called.{SlotIsCalled}
+use Rattle.ffi3_caller.specs.Called.{SlotIsCalled, called_if}
 use Rattle.ffi3_pieces.proofs.Lawful.{each_first, each_rest, machine_places}
 use Rattle.ffi3_pieces.proofs.Stepping.{same_word_in}
 use Rattle.ffi3_callee.specs.Given.{ReservedStay}
 use Rattle.ffi3_callee.proofs.Laws.{each_both}
 use Rattle.ffi3_callee.proofs.Results.{register_word}
-use Rattle.ffi3_invoke.specs.Calls.{HasPassed}
+use Rattle.ffi3_invoke.specs.Calls.{AreStored, HasPassed}
 use Rattle.ffi3_invoke.proofs.Changed.{IsChanged, holds_changed}
 use Rattle.ffi3_callee.proofs.Beside.{scribbled_beside, wrote_down}
 use Rattle.ffi3_invoke.proofs.Reached.{passes, pushed_within, reserved_clear_of_trampoline, return_address_passed, scribbled_there, trampoline_leaves, trampoline_tells}
@@ -145,8 +146,8 @@ module _ (std : Standard) (s : Signature) (sound : IsSound std s) (agrees : Agre
   counted =
       called.steps ∙ ap (λ k. steps_if (by_exchange k) (steps_of (isa_of k) Call) a.steps) same_target ∙ ap (steps_if (by_exchange m.target) (steps_of (isa_of m.target) Call)) stored.steps
 
-  passed_there : AllByRecursion (λ l. SameAt 0 l (scribbled (length m.events) m) a) std.callee_saved → AllByRecursion (λ l. SameAt 0 l a d) std.callee_saved → AllByRecursion (λ l. SameAt 0 l m a) std.reserved → AllByRecursion (λ l. SameAt 0 l a d) std.reserved → Holds std s vs (image_of (std.link + frame_of std s) d) → HasPassed std s vs pointer m (reached d)
-  passed_there preserved then_preserved reserved then_reserved holds = record {
+  passed_there : TakesSteps 3 d (reached d) → d ≡ called_if (by_exchange a.target) pointer a → AreStored std s vs m a → AllByRecursion (λ l. SameAt 0 l (scribbled (length m.events) m) a) std.callee_saved → AllByRecursion (λ l. SameAt 0 l a d) std.callee_saved → AllByRecursion (λ l. SameAt 0 l m a) std.reserved → AllByRecursion (λ l. SameAt 0 l a d) std.reserved → Holds std s vs (image_of (std.link + frame_of std s) d) → HasPassed std s vs pointer m (reached d)
+  passed_there way by_call stores preserved then_preserved reserved then_reserved holds = record {
     holds = holds_changed std s sound agrees (image_of (std.link + frame_of std s) d) (image_of (std.link + frame_of std s) (reached d)) changed vs holds;
     pc = refl;
     closure = trampoline_tells (isa_of d.target) d.pc d.general after.general ∙ called.pc;
@@ -159,9 +160,12 @@ module _ (std : Standard) (s : Signature) (sound : IsSound std s) (agrees : Agre
     spare_events = called.spare_events ∙ stored.spare_events;
     spare_bytes = called.spare_bytes ∙ stored.spare_bytes;
     steps = ap (λ n. (n + 3) % 2 ^ 64) counted;
+    stored = a;
+    stores = stores;
+    trampoline = record { called = d; by_call = by_call; at_slot = called.pc; steps = way };
   }
 
   -- THE ARGUMENTS ARE PASSED
-  pub passed : (c : State) → c ≡ reached d → AllByRecursion (λ l. SameAt 0 l (scribbled (length m.events) m) a) std.callee_saved → AllByRecursion (λ l. SameAt 0 l a d) std.callee_saved → AllByRecursion (λ l. SameAt 0 l m a) std.reserved → AllByRecursion (λ l. SameAt 0 l a d) std.reserved → Holds std s vs (image_of (std.link + frame_of std s) d) → HasPassed std s vs pointer m c
-  passed c is preserved then_preserved reserved then_reserved holds =
-      subst (HasPassed std s vs pointer m) (sym is) (passed_there preserved then_preserved reserved then_reserved holds)
+  pub passed : (c : State) → TakesSteps 3 d c → c ≡ reached d → d ≡ called_if (by_exchange a.target) pointer a → AreStored std s vs m a → AllByRecursion (λ l. SameAt 0 l (scribbled (length m.events) m) a) std.callee_saved → AllByRecursion (λ l. SameAt 0 l a d) std.callee_saved → AllByRecursion (λ l. SameAt 0 l m a) std.reserved → AllByRecursion (λ l. SameAt 0 l a d) std.reserved → Holds std s vs (image_of (std.link + frame_of std s) d) → HasPassed std s vs pointer m c
+  passed c way is by_call stores preserved then_preserved reserved then_reserved holds =
+      subst (HasPassed std s vs pointer m) (sym is) (passed_there (subst (TakesSteps 3 d) is way) by_call stores preserved then_preserved reserved then_reserved holds)

@@ -14,14 +14,16 @@ use Rattle.ffi3_place_rules.specs.Isa.{closure_register, link_register, scribble
 use Rattle.ffi3_place_rules.specs.Image.{Image, register}
 use Rattle.ffi3_place_rules.specs.Event.{Event, enters, leaves}
 use Rattle.ffi3_place_rules.specs.Standard.{Standard, block_bytes, frame_of, need_of, plan_of}
-use Rattle.ffi3_place_rules.specs.Holds.{Holds, SameIn}
+use Rattle.ffi3_place_rules.specs.Holds.{FillArguments, Holds, OwnsArguments, OwnsHidden, RegisterHolds, SameIn}
 use Rattle.ffi3_run_rules.specs.Journal.{Entered, needs, IsEntry, IsReturn}
-use Rattle.ffi3_machine.specs.State.{State, HasReturnAddress, HasReturnAt, image_of, stack_at}
+use Rattle.ffi3_machine.specs.State.{State, HasReturnAddress, HasReturnAt, image_of, scribbled, stack_at}
 use Rattle.ffi3_body.specs.SeenActivation.{arguments_in}
+use Rattle.ffi3_machine.specs.Step.{TakesSteps}
 use Rattle.ffi3_machine.specs.Stubs.{Call, Entry, Exit, Return}
 use Rattle.ffi3_stubs.specs.Calls.{steps_of}
-use Rattle.ffi3_pieces.specs.Passing.{by_exchange, steps_if}
+use Rattle.ffi3_pieces.specs.Passing.{by_exchange, passing, steps_if}
 use Rattle.ffi3_pieces.specs.Stored.{WroteWithin, with_journal_of}
+use Rattle.ffi3_caller.specs.Called.{called_if}
 use Rattle.ffi3_callee.specs.Given.{IsAddressOf, ResultWrites}
 use Rattle.ffi3_callee.specs.Saved.{saved_word}
 
@@ -85,6 +87,28 @@ KeepsOpen std from before after =
 
 -- ---- the steps of a call
 
+-- The arguments are stored by their caller: what the call passes has the values at their places, in registers and in the frame, and of the stack only the frame is written.
+pub record AreStored (std : Standard) (s : Signature) (arguments : List ValueTree) (before after : State) : Type 0 where
+  pub own :
+      OwnsArguments
+      (image_of (frame_of std s) (passing after)) 0 s.arguments (plan_of std s).places arguments
+  pub filled :
+      FillArguments
+      (image_of (frame_of std s) (passing after)) 0 s.arguments (plan_of std s).places arguments
+  pub hidden : OwnsHidden (image_of (frame_of std s) (passing after)) 0 (plan_of std s).res
+  pub vectors :
+      RegisterHolds (image_of (frame_of std s) (passing after)) std.vector_count (plan_of std s).vectors
+  pub sp : after.sp + frame_of std s ≡ before.sp
+  pub within :
+      WroteWithin after.sp before.sp (passing (scribbled (length before.events) before)) (passing after)
+
+-- THE TRAMPOLINE HAS RUN: from where the arguments are stored the slot is called, by the stub Call where calls go by stubs, and else by the machine's own call. Then pc is the slot's address, and from there three steps of the machine lead to the state after. (libffi manual, "The Closure API")
+pub record HasRunTrampoline (slot : ℕ) (stored after : State) : Type 0 where
+  pub called : State
+  pub by_call : called ≡ called_if (by_exchange stored.target) slot stored
+  pub at_slot : called.pc ≡ slot
+  pub steps : TakesSteps 3 called after
+
 -- THE ARGUMENTS ARE PASSED: the machine is at ENTRY, its image holds the values, and of the stack only the frame and the return address are written.
 pub record HasPassed (std : Standard) (s : Signature) (arguments : List ValueTree) (pointer : ℕ) (before after : State)
     : Type 0 where
@@ -104,6 +128,10 @@ pub record HasPassed (std : Standard) (s : Signature) (arguments : List ValueTre
   pub spare_bytes : after.spare_bytes ≡ before.spare_bytes
   pub steps : after.steps
       ≡ (steps_if (by_exchange before.target) (steps_of (isa_of before.target) Call) before.steps + 3) % 2 ^ 64
+  -- it was led there by the trampoline of the slot at the pointer, which was called where the arguments were stored
+  pub stored : State
+  pub stores : AreStored std s arguments before stored
+  pub trampoline : HasRunTrampoline pointer stored after
 
 -- THE CALLEE HAS RETURNED: the return is in the journal, whatever open call by the signature it was, and of the stack only a hidden result's buffer is written.
 pub record HasReturned (std : Standard) (s : Signature) (outcome : ValueTree) (before after : State) : Type 0 where
@@ -139,6 +167,10 @@ pub record HasBegun (std : Standard) (s : Signature) (arguments : List ValueTree
     : Type 0 where
   pub entry : Event
   pub events : after.events ≡ before.events ++ entry ∷ []
+  -- it is that of the machine to which the trampoline led
+  pub entered : State
+  pub passed : HasPassed std s arguments pointer before entered
+  pub entry_is : entry ≡ entry_at std s entered
   pub is_entry : (top : ℕ) (held : Loc → ℕ) (outer : List Entered)
       → before.sp + needs std outer ≡ top
       → AllByRecursion (λ at. register (image_of 0 before) at ≡ held at) std.reserved

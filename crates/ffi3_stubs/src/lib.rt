@@ -4,7 +4,7 @@
 ghost use Rattle.std.specs.Prelude.{◌≡◌, ◌≤◌, ◌+◌, ◌%◌, ◌^◌};
 ghost use Rattle.ffi3_type_rules.specs.Isa.{isa_of};
 ghost use Rattle.ffi3_place_rules.specs.Isa.{pushed_bytes, area_bytes};
-ghost use Rattle.ffi3_machine.specs.State.{State, with_pc, x_of};
+ghost use Rattle.ffi3_machine.specs.State.{State, IsSlot, with_pc, x_of};
 ghost use Rattle.ffi3_machine.specs.Stubs.{Call, Entry, Exit, Return, stub_at};
 ghost use Rattle.ffi3_machine.specs.Step.{TakesSteps};
 ghost use Rattle.ffi3_stubs.specs.Calls.{
@@ -77,9 +77,10 @@ fn run_steps(machine: &mut Machine, n: u8)
     }
 }
 
-/// Calls what stands at 512 of the exchange region, by the stub Call: with the stack pointer that stands at 520, with
-/// arguments in their registers from the exchange region, and with RETURN as return address.
+/// Calls the slot whose address stands at 512 of the exchange region, by the stub Call: with the stack pointer that
+/// stands at 520, with arguments in their registers from the exchange region, and with RETURN as return address.
 pub fn run_call(machine: &mut Machine)
+    requires slot { IsSlot (x_of 512 machine.old) }
     requires low { STACK + pushed_bytes (isa_of machine.old.target) ≤ x_of 520 machine.old }
     requires high { x_of 520 machine.old ≤ STACK_TOP }
     ensures whole { machine.new ≡ after_call (isa_of machine.old.target) (with_pc (stub_at (isa_of machine.old.target) Call) machine.old) }

@@ -5,8 +5,12 @@ use Rattle.ffi3_machine.specs.Stubs.{Call, stub_at}
 use Rattle.ffi3_stubs.specs.Calls.{after_call}
 use Rattle.ffi3_pieces.specs.Passing.{by_exchange}
 use Rattle.ffi3_caller.specs.Called.{called_if}
-use Rattle.ffi3_caller.proofs.ByStub.{call_high, call_low, called_by_stub, called_itself}
+use Rattle.ffi3_caller.proofs.ByStub.{call_at_slot, call_high, call_low, called_by_stub, called_itself}
 use Rattle.ffi3_caller.proofs.slot.call_slot.Goals as goal
+
+pub run_call-requires-clause-slot : goal.run_call-requires-clause-slot
+run_call-requires-clause-slot c =
+    call_at_slot c.args.addr c.args.machine.now c.sp-sp.ensures.machine c.requires.slot c.tell.new.machine c.tell.ensures
 
 pub run_call-requires-clause-low : goal.run_call-requires-clause-low
 run_call-requires-clause-low c =

@@ -2,6 +2,7 @@ use Rattle.std.proofs.Common.{sym, ◌∙◌, subst, arith}
 use Rattle.std.specs.Prelude.{IsSome}
 use Rattle.ffi3_run_rules.specs.Closures.{closure_at}
 use Rattle.ffi3_closures.specs.Slots.{HoldsMap}
+use Rattle.ffi3_invoke.specs.Calls.{AreStored}
 use Rattle.ffi3_invoke.proofs.Passed.{passed}
 use Rattle.ffi3_invoke.proofs.passing.pass_arguments.Goals as goal
 
@@ -38,5 +39,13 @@ returns g c =
     let sound = g.met.A.Abi.sound s in
     let w = c.store_args.ensures.within in
     let target_is = w.target ∙ c.requires.target ∙ sym g.met.A.Abi.target_is in
+    let stores : AreStored std s c.args.values.now m a = record {
+      own = c.store_args.ensures.own;
+      filled = c.store_args.ensures.filled;
+      hidden = c.store_args.ensures.hidden;
+      vectors = c.store_args.ensures.vectors;
+      sp = c.store_args.ensures.sp;
+      within = w;
+    } in
     let holds = c.call.ensures.holds c.args.values.now c.store_args.ensures.own c.store_args.ensures.filled c.store_args.ensures.hidden c.store_args.ensures.vectors in
-    passed std s sound g.met.A.Abi.agrees c.args.values.now c.args.ptr m a d target_is c.sp-stored.ensures.machine c.sp-called.ensures.machine c.requires.room c.requires.top c.store_args.ensures.sp w c.call.ensures.called c.run_trampoline.new.machine c.run_trampoline.ensures.reached c.store_args.ensures.preserved c.call.ensures.preserved c.store_args.ensures.reserved c.call.ensures.reserved holds
+    passed std s sound g.met.A.Abi.agrees c.args.values.now c.args.ptr m a d target_is c.sp-stored.ensures.machine c.sp-called.ensures.machine c.requires.room c.requires.top c.store_args.ensures.sp w c.call.ensures.called _ (search) (search) c.call.ensures.whole stores c.store_args.ensures.preserved c.call.ensures.preserved c.store_args.ensures.reserved c.call.ensures.reserved holds
