@@ -1,6 +1,7 @@
 -- What each command does to its input, and what is done of it: one definition for all commands.
 use Rattle.std.specs.Prelude.{◌≡◌, ℕ, Bool, true, false, ◌++◌, List, take, codes}
 use Rattle.ffi3_place_rules.specs.Standard.{Standard}
+use Rattle.ffi3_run_rules.specs.Closures.{Closures}
 use Rattle.ffi3_run_rules.specs.Meaning.{End, Program, returned, stopped, meaning_of}
 use Rattle.ffi3_run_rules.specs.Lines.{a_line}
 use Rattle.ffi3_turn_rules.specs.MainTracing.{main_tracing}
@@ -156,11 +157,13 @@ IsDone (benches seed calls) output output' machine machine' status =
 abbrev pub WroteFirst : List ℕ → SinkState → SinkState → Type 0
 WroteFirst text output output' = (part : ℕ) × Adds output.taken (take part text) output'.taken
 
--- A RUN IS DONE IN PART, interrupted in a line or elsewhere: a first part of its text is written, and it is told as far as it came
+-- A RUN IS DONE IN PART, interrupted in a line or elsewhere: a first part of its text is written, and it is told as far as it came, with some closures and moves that were left then
 abbrev pub IsRunInPart : (in_line trace : Bool) → Standard → Program → SinkState → SinkState → State → Type 0
 IsRunInPart in_line trace std program output output' machine' =
     WrotePart (main_tracing trace std) program output output'
-    × RunWasInterrupted (main_tracing trace std) std program in_line output output' machine'
+    × (closures : Closures)
+    × (moves : ℕ)
+    × RunWasInterrupted (main_tracing trace std) std program in_line output output' machine' closures moves
 
 -- THE WORK IS DONE IN PART, interrupted in a line or elsewhere: a first part of the text is written; where nothing runs the machine is as it was
 abbrev pub IsDoneInPart : (in_line : Bool) → Outcome → SinkState → SinkState → State → State → Type 0

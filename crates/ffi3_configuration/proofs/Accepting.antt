@@ -67,10 +67,10 @@ all_hold : (P : Loc → Type 0) → ((at : Loc) → P at) → (locs : List Loc) 
 all_hold P h [] = tt
 all_hold P h (at ∷ locs) = (h at, all_hold P h locs)
 
-pub served_is_traced : (p : Program) (std : Standard) (sig : ℕ) (m : State) (trace : Bool) → IsTracingOf p (served_base std p.signatures sig m) trace (served_tracing trace std p.signatures sig m)
-served_is_traced p std sig m false = refl
-served_is_traced p std sig m true =
-    let s = signature_at p.signatures sig in
+pub served_is_traced : (p : Program) (std : Standard) (closure : Closure) (arguments : List ValueTree) (m : State) (closures : Closures) (moves : ℕ) (trace : Bool) → IsTracingOf p (served_base std p closure arguments m closures moves) trace (served_tracing trace std p.signatures closure.sig m)
+served_is_traced p std closure arguments m closures moves false = refl
+served_is_traced p std closure arguments m closures moves true =
+    let s = signature_at p.signatures closure.sig in
     let entry = entry_at std s m in
     let count = length m.events + 1 in
     let leaves = served_leaves entry count in
@@ -108,7 +108,7 @@ module _ (p : Program) (std : Standard) (closure : Closure) (arguments : List Va
   s = signature_at p.signatures closure.sig
 
   abbrev base : Base
-  base = served_base std p.signatures closure.sig m
+  base = served_base std p closure arguments m closures moves
 
   abbrev all : Remainder
   all = served_left std p closure arguments m closures moves
@@ -168,7 +168,7 @@ module _ (p : Program) (std : Standard) (closure : Closure) (arguments : List Va
           needs = needs;
           count = sym (counted m.events (entry_at std s m));
           top = shows.frame;
-          come = comes_from p base (served_activation std p.signatures closure arguments m) closures moves refl;
+          come = comes_from p base (served_activation std p.signatures closure arguments m) closures moves refl refl;
           journal = accepted.events ∙ sym (append-nil (m.events ++ entry_at std s m ∷ []));
           steps = accepted.steps;
           written = record { told = omega arith; took = took_nothing output };

@@ -11,7 +11,8 @@ use Rattle.ffi3_run_rules.specs.Meaning.{Program}
 use Rattle.ffi3_run_rules.specs.Trace.{TraceItem}
 use Rattle.ffi3_turn_rules.specs.Remainder.{Remainder, Suspended, Bottom, as_main, served, awaited}
 use Rattle.ffi3_turn_rules.specs.Open.{open_calls}
-use Rattle.ffi3_turn_rules.specs.SoFar.{Base, Position, open_at, HasComeTo}
+use Rattle.ffi3_turn_rules.specs.SoFar.{Base, open_at, HasComeTo}
+use Rattle.ffi3_turn_rules.specs.Path.{Position}
 use Rattle.ffi3_machine.specs.State.{State, stack_at}
 use Rattle.ffi3_configuration.specs.declared.activation.OpenCall.{OpenCall}
 use Rattle.ffi3_configuration.specs.Between.{Beginning, RunState, position, IsBetween}

@@ -41,7 +41,7 @@ use Rattle.ffi3_configuration.specs.Between.{Beginning, RunState, asking, IsBetw
 use Rattle.ffi3_configuration.specs.Going.{StoppedBy, GoneOn, HasGoneBack, activation_of, and_result}
 use Rattle.ffi3_configuration.specs.Activations.{acting, arguments_at, call_inside, suspended_at, calls_of}
 use Rattle.ffi3_configuration.specs.TraceLines.{last_event, entry_lines, return_lines}
-use Rattle.ffi3_configuration.specs.Turned.{CountedAtMostOne, TurnHasStopped, WasInterruptedAfter, LooksAs, turn_of, WentOn, Turned}
+use Rattle.ffi3_configuration.specs.Turned.{TurnHasStopped, WasInterruptedAfter, LooksAs, turn_of, WentOn, Turned}
 use Rattle.ffi3_io.specs.Written.{LineInterrupted}
 use Rattle.ffi3_configuration.proofs.Blocks.{AreAbove, blocks_above, acting_kept, suspended_kept}
 use Rattle.ffi3_configuration.proofs.Opened.{StaysFrom}
@@ -99,27 +99,26 @@ module _ {S : Type 0} (p : Program) (base : Base) (all : Remainder) (first : Beg
   goes b b' a m output r more events turn.Done one gone between = elim gone [ ]
   goes b b' a m output r more events (turn.Stopped stop) one gone between = elim gone [ ]
   goes b b' a m output r more events turn.NoMemory one gone between =
-      let P = λ (c : Configuration S). CountedAtMostOne (suc b.moves) c.moves in
-      let Q = λ (c : Configuration S). WasInterruptedAfter p base all first own cut.NoMemory c.table c.moves m output in
-      let was_cut = cut_after p base all first own more events (run_state p.signatures (and_result a r) b m output) b.moves m one (omega arith, omega arith) (looks_as_itself m) between in
-      (subst Q (sym gone) was_cut, subst P (sym gone) (omega arith, omega arith))
+      let Q = λ (c : Configuration S). WasInterruptedAfter p base all first own (suc b.moves) cut.NoMemory c.table c.moves m output in
+      let was_cut = cut_after p base all first own more events (run_state p.signatures (and_result a r) b m output) (suc b.moves) b.moves m one (inl refl) (omega arith, omega arith) (omega arith) (looks_as_itself m) between in
+      subst Q (sym gone) was_cut
   goes b b' a m output r more events turn.Failed one gone between = elim gone [ ]
 
   -- THE RUN IS INTERRUPTED
-  pub goes_off : (b : Configuration S) (m : State) (output : SinkState) (why : IoError) (t : Turn) → t ≡ turn_of why → WasInterruptedAfter p base all first own why b.table b.moves m output → Turned p base all first own (suc b.moves) b m output t
+  pub goes_off : (b : Configuration S) (m : State) (output : SinkState) (why : IoError) (t : Turn) → t ≡ turn_of why → WasInterruptedAfter p base all first own (suc b.moves) why b.table b.moves m output → Turned p base all first own (suc b.moves) b m output t
   goes_off b m output cut.NoMemory t is was_cut =
-      subst (λ (u : Turn). Turned p base all first own (suc b.moves) b m output u) (sym is) (was_cut, (omega arith, omega arith))
+      subst (λ (u : Turn). Turned p base all first own (suc b.moves) b m output u) (sym is) was_cut
   goes_off b m output cut.Failed t is was_cut =
-      subst (λ (u : Turn). Turned p base all first own (suc b.moves) b m output u) (sym is) (was_cut, (omega arith, omega arith))
+      subst (λ (u : Turn). Turned p base all first own (suc b.moves) b m output u) (sym is) was_cut
 
   module _ (events : List Event) (b : Configuration S) (a : Activation S) (m : State) (output output' : SinkState) where
     abbrev here : RunState
     here = run_state p.signatures a b m output
 
     -- for want of memory, before the move
-    pub refused : (asked : Move) (m' : State) → LooksAs m m' → IsAsking p base all first own events here asked → WasInterruptedAfter p base all first own cut.NoMemory b.table b.moves m' output × CountedAtMostOne (suc b.moves) b.moves
+    pub refused : (asked : Move) (m' : State) → LooksAs m m' → IsAsking p base all first own events here asked → WasInterruptedAfter p base all first own (suc b.moves) cut.NoMemory b.table b.moves m' output
     refused asked m' looks is =
-        (cut_between p base all first own events (asking here) b.moves m' (omega arith, omega arith) looks is.between, (omega arith, omega arith))
+        cut_between p base all first own events (asking here) (suc b.moves) b.moves m' (inr refl) (omega arith, omega arith) (omega arith) looks is.between
 
     -- THE MOVE STOPS THE RUN
     pub stops_at : (asked : Move) → IsAsking p base all first own events here asked → (stop : Stop) → effect_of p here.innermost here.closures asked ≡ stops stop → (t : Turn) → StoppedBy p.signatures stop output output' t → Turned p base all first own (suc b.moves) b m output' t
@@ -133,10 +132,9 @@ module _ {S : Type 0} (p : Program) (base : Base) (all : Remainder) (first : Beg
           counted = inl refl;
         })
     stops_at asked is stop does turn.NoMemory by =
-        let P = λ (o : SinkState). WasInterruptedAfter p base all first own cut.NoMemory b.table b.moves m o in
-        (subst P (sym by) (cut_between p base all first own events (asking here) b.moves m (omega arith, omega arith) (looks_as_itself m) is.between), (omega arith, omega arith))
-    stops_at asked is stop does turn.Failed by =
-        (stop_failed p base all first own events here asked is stop does output' by, (omega arith, omega arith))
+        let P = λ (o : SinkState). WasInterruptedAfter p base all first own (suc b.moves) cut.NoMemory b.table b.moves m o in
+        subst P (sym by) (cut_between p base all first own events (asking here) (suc b.moves) b.moves m (inr refl) (omega arith, omega arith) (omega arith) (looks_as_itself m) is.between)
+    stops_at asked is stop does turn.Failed by = stop_failed p base all first own events here asked is stop does output' by
 
     -- NO MOVE IS LEFT
     pub stops_at_limit : b.moves ≡ 0 → IsBetween p base all first own events here → (t : Turn) → StoppedBy p.signatures MoveLimit output output' t → Turned p base all first own 0 b m output' t
@@ -150,10 +148,11 @@ module _ {S : Type 0} (p : Program) (base : Base) (all : Remainder) (first : Beg
           counted = inr (refl, refl, none);
         })
     stops_at_limit none h turn.NoMemory by =
-        let P = λ (o : SinkState). WasInterruptedAfter p base all first own cut.NoMemory b.table b.moves m o in
-        (subst P (sym by) (cut_between p base all first own events here b.moves m (omega arith, omega arith) (looks_as_itself m) h), (omega (arith, none), omega arith))
+        let P = λ (o : SinkState). WasInterruptedAfter p base all first own 0 cut.NoMemory b.table b.moves m o in
+        subst P (sym by) (cut_between p base all first own events here 0 b.moves m (inl refl) (omega (arith, none), omega arith) (omega (arith, none)) (looks_as_itself m) h)
     stops_at_limit none h turn.Failed by =
-        (limit_failed p base all first own events here none h output' by, (omega (arith, none), omega arith))
+        let P = λ (n : ℕ). WasInterruptedAfter p base all first own n cut.Failed b.table b.moves m output' in
+        subst P none (limit_failed p base all first own events here none h output' by)
 
 -- ---- a call
 
@@ -210,7 +209,7 @@ module _ {S : Type 0} (p : Program) (base : Base) (all : Remainder) (first : Beg
         subst (λ (x : RunState). IsBetween p base all first (own ++ Enter ptr sig args ∷ []) (events ++ called.begun.entry ∷ []) x) (sym same) there
 
     -- or the run is interrupted there
-    pub call_cut_off : (why : IoError) (output' : SinkState) → LineInterrupted (enter_lines first.tracing (text_after p base own) ptr (signature_at p.signatures sig) args) output output' why → WasInterruptedAfter p base all first own why closures moves m' output'
+    pub call_cut_off : (why : IoError) (output' : SinkState) → LineInterrupted (enter_lines first.tracing (text_after p base own) ptr (signature_at p.signatures sig) args) output output' why → WasInterruptedAfter p base all first own (suc moves) why closures moves m' output'
     call_cut_off why output' cut_off =
         entering.enters_cut p base all first own events before_call ptr sig args is closure does m' incoming called why output' cut_off
 
@@ -258,6 +257,6 @@ module _ {S : Type 0} (p : Program) (base : Base) (all : Remainder) (first : Beg
         subst (λ (x : RunState). IsBetween p base all first (own ++ Leave w.call.sig v ∷ []) (events ++ ended.return ∷ []) x) (sym same) there
 
     -- or the run is interrupted there
-    pub return_cut_off : (why : IoError) (output' : SinkState) → LineInterrupted (leave_lines first.tracing (text_after p base own).calls v) output output' why → WasInterruptedAfter p base all first own why closures moves m' output'
+    pub return_cut_off : (why : IoError) (output' : SinkState) → LineInterrupted (leave_lines first.tracing (text_after p base own).calls v) output output' why → WasInterruptedAfter p base all first own (suc moves) why closures moves m' output'
     return_cut_off why output' cut_off =
         leaving.returns_cut p base all first own events a caller w.call others (calls_of served outer) closures moves m output v is m' ended why output' cut_off

@@ -1,5 +1,6 @@
 -- A call that is entered: what holds in its callee.
 use Rattle.std.proofs.Common.{◌≡◌, ℕ, ◌+◌, ◌*◌, ◌<◌, ◌≤◌, inl, List, [], ◌∷◌, ◌++◌, length, take, Some, refl, sym, ap, ◌∙◌, subst, arith, append_assoc, length-append}
+use Rattle.std.specs.Prelude.{suc, true}
 use Rattle.std.specs.Prelude.{Bool}
 use Rattle.ffi3_type_rules.specs.declared.limits.TheConstants.{STACK}
 use Rattle.ffi3_type_rules.specs.Signature.{Signature, signature_at}
@@ -13,7 +14,7 @@ use Rattle.ffi3_run_rules.specs.Lines.{enter_lines}
 use Rattle.ffi3_run_rules.specs.Meaning.{Program, Activation, enters, callee_of, effect_of, next_move, need_at}
 use Rattle.ffi3_run_rules.specs.Move.{call}
 use Rattle.ffi3_run_rules.specs.Trace.{TraceItem, Enter}
-use Rattle.ffi3_turn_rules.specs.Remainder.{Remainder, awaited}
+use Rattle.ffi3_turn_rules.specs.Remainder.{Remainder, rest, inside, awaited}
 use Rattle.ffi3_turn_rules.specs.Depth.{deepest}
 use Rattle.ffi3_turn_rules.specs.Nested.{depth_at}
 use Rattle.ffi3_turn_rules.specs.SoFar.{Base, text_after}
@@ -43,7 +44,7 @@ use Rattle.ffi3_io.specs.Written.{LineInterrupted}
 use Rattle.ffi3_configuration.proofs.Callers.{callers_kept}
 use Rattle.ffi3_configuration.proofs.Counting.{count_enter}
 use Rattle.ffi3_configuration.proofs.Marks.{mark_enter, fewer, text_then}
-use Rattle.ffi3_configuration.proofs.Moving.{left_before}
+use Rattle.ffi3_configuration.proofs.Moving.{left_in_move}
 use Rattle.ffi3_configuration.proofs.Telling.{cause_from, cut_part, entry_lines_are}
 use Rattle.ffi3_configuration.proofs.Transports.{begun_as, incoming_as, numbered}
 use Rattle.ffi3_configuration.proofs.Opened.{caller_above, open_needs, open_kept, keeps_room, same_then_held}
@@ -235,12 +236,15 @@ module _ (p : Program) (base : Base) (all : Remainder) (first : Beginning) (own 
         callers_kept p base all first own events (position (asking x)) x.calls m (caller_sp base.standard newest) h.come h.outermost others_stand (λ address count over. begun.above address count (omega (arith, at, over)) ∙ h.found.above address count over)
 
     -- or the run is interrupted there, in those lines or before them
-    pub enters_cut : (why : IoError) (output : SinkState) → LineInterrupted told_lines x.output output why → WasInterruptedAfter p base all first own why x.closures x.moves m output
+    pub enters_cut : (why : IoError) (output : SinkState) → LineInterrupted told_lines x.output output why → WasInterruptedAfter p base all first own (suc x.moves) why x.closures x.moves m output
     enters_cut why output cut_off =
         let h = is.between in
         let part = cut_part why told_lines x.output output cut_off in
         record {
           interrupted = record {
+            done = own;
+            later = Enter ptr sig args ∷ (rest p base.bottom (inside callee sig x.innermost x.suspended) x.closures x.moves).trace;
+            recorded = true;
             happened = own ++ Enter ptr sig args ∷ [];
             events = events ++ begun.entry ∷ [];
             text = text_so_far first.tracing p base own ++ take part.0 told_lines;
@@ -251,11 +255,14 @@ module _ (p : Program) (base : Base) (all : Remainder) (first : Beginning) (own 
             cause = cause_from why first.output.faults x.output.faults output.faults h.written.took.count part.3;
             mark = mark_then;
             target = begun.in_callee.target;
-            left = left_before p base all own (Enter ptr sig args) (position x).call_stack x.closures x.moves h.come.follows;
+            left = left_in_move p base all own (rest p base.bottom (inside callee sig x.innermost x.suspended) x.closures x.moves).trace events x.innermost x.suspended x.closures x.moves (enters ptr sig callee) (Enter ptr sig args) h.come does_so refl;
+            follows = h.come.follows;
             holds = holds_then;
             callers = callers_then;
           };
           more = Enter ptr sig args ∷ [];
           happened = refl;
           one = omega arith;
+          counted = (omega arith, omega arith);
+          from = omega arith;
         }

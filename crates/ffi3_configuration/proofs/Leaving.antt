@@ -1,5 +1,6 @@
 -- A call that returns: what holds in its caller.
 use Rattle.std.proofs.Common.{◌≡◌, ℕ, suc, ◌+◌, ◌-◌, ◌≤◌, inl, List, [], ◌∷◌, ◌++◌, length, take, drop, refl, sym, ap, ◌∙◌, subst, arith, append_assoc, length-append}
+use Rattle.std.specs.Prelude.{true}
 use Rattle.std.specs.Prelude.{Bool}
 use Rattle.ffi3_type_rules.specs.declared.limits.TheConstants.{STACK}
 use Rattle.ffi3_type_rules.specs.Signature.{Signature, signature_at}
@@ -9,10 +10,11 @@ use Rattle.ffi3_place_rules.specs.Standard.{frame_of, need_of}
 use Rattle.ffi3_run_rules.specs.Closures.{Closures}
 use Rattle.ffi3_run_rules.specs.Journal.{Entered, IsReturn}
 use Rattle.ffi3_run_rules.specs.Lines.{leave_lines}
-use Rattle.ffi3_run_rules.specs.Meaning.{Program, Activation, effect_of, need_at, with_result, most_moves}
+use Rattle.ffi3_run_rules.specs.Meaning.{Program, Activation, ends, effect_of, need_at, with_result, most_moves}
 use Rattle.ffi3_run_rules.specs.Move.{return}
 use Rattle.ffi3_run_rules.specs.Trace.{TraceItem, Leave}
-use Rattle.ffi3_turn_rules.specs.Remainder.{Remainder, Suspended, awaited}
+use Rattle.ffi3_turn_rules.specs.Remainder.{Remainder, Suspended, rest, awaited}
+use Rattle.ffi3_turn_rules.specs.Step.{acts_on}
 use Rattle.ffi3_turn_rules.specs.Depth.{deepest}
 use Rattle.ffi3_turn_rules.specs.Nested.{depth_at, depth_of}
 use Rattle.ffi3_turn_rules.specs.Open.{unreturned, open_calls}
@@ -40,7 +42,7 @@ use Rattle.ffi3_io.specs.Written.{LineInterrupted}
 use Rattle.ffi3_configuration.proofs.Callers.{callers_kept}
 use Rattle.ffi3_configuration.proofs.Counting.{count_leave}
 use Rattle.ffi3_configuration.proofs.Marks.{mark_leave, fewer, text_then}
-use Rattle.ffi3_configuration.proofs.Moving.{left_before}
+use Rattle.ffi3_configuration.proofs.Moving.{left_in_move}
 use Rattle.ffi3_configuration.proofs.Telling.{cause_from, cut_part, return_lines_are}
 use Rattle.ffi3_configuration.proofs.Opened.{caller_above, in_callee, open_kept, same_then_held}
 use Rattle.ffi3_configuration.proofs.Since.{part_since, since_then}
@@ -218,12 +220,15 @@ module _ (p : Program) (base : Base) (all : Remainder) (first : Beginning) (own 
         }
 
     -- or the run is interrupted there, in those lines or before them
-    pub returns_cut : (why : IoError) (output' : SinkState) → LineInterrupted told_lines output output' why → WasInterruptedAfter p base all first own why closures moves m' output'
+    pub returns_cut : (why : IoError) (output' : SinkState) → LineInterrupted told_lines output output' why → WasInterruptedAfter p base all first own (suc moves) why closures moves m' output'
     returns_cut why output' cut_off =
         let h = is.between in
         let part = cut_part why told_lines output output' cut_off in
         record {
           interrupted = record {
+            done = own;
+            later = Leave c.sig v ∷ (rest p base.bottom (acts_on caller v outer) closures moves).trace;
+            recorded = true;
             happened = own ++ Leave c.sig v ∷ [];
             events = events ++ ended.return ∷ [];
             text = text_so_far first.tracing p base own ++ take part.0 told_lines;
@@ -234,11 +239,14 @@ module _ (p : Program) (base : Base) (all : Remainder) (first : Beginning) (own 
             cause = cause_from why first.output.faults output.faults output'.faults h.written.took.count part.3;
             mark = mark_then;
             target = ended.target ∙ h.calls.target;
-            left = left_before p base all own (Leave c.sig v) (position (asking inside_call)).call_stack closures moves h.come.follows;
+            left = left_in_move p base all own (rest p base.bottom (acts_on caller v outer) closures moves).trace events a (waiting ∷ outer) closures moves (ends v) (Leave c.sig v) h.come (ap (effect_of p a closures) is.asks) refl;
+            follows = h.come.follows;
             holds = holds_then;
             callers = callers_then;
           };
           more = Leave c.sig v ∷ [];
           happened = refl;
           one = omega arith;
+          counted = (omega arith, omega arith);
+          from = omega arith;
         }

@@ -1,5 +1,5 @@
 -- Closures that are made and freed: what a configuration comes to.
-use Rattle.std.proofs.Common.{◌≡◌, ℕ, suc, List, [], ◌++◌, sym, subst, append-nil, arith}
+use Rattle.std.proofs.Common.{◌≡◌, ℕ, suc, inl, List, [], ◌++◌, refl, sym, subst, append-nil, arith}
 use Rattle.ffi3_type_rules.specs.declared.Target.{Target}
 use Rattle.ffi3_type_rules.specs.Value.{ValueTree}
 use Rattle.ffi3_place_rules.specs.Event.{Event}
@@ -19,7 +19,7 @@ use Rattle.ffi3_configuration.specs.declared.configuration.Turn.{Turn}
 use Rattle.ffi3_configuration.specs.Known.{AreKnown}
 use Rattle.ffi3_configuration.specs.Going.{GoneOn, and_result}
 use Rattle.ffi3_configuration.specs.Between.{Beginning, IsBetween, IsAsking, run_state}
-use Rattle.ffi3_configuration.specs.Turned.{CountedAtMostOne, Turned, WasInterruptedAfter}
+use Rattle.ffi3_configuration.specs.Turned.{Turned, WasInterruptedAfter}
 use Rattle.ffi3_configuration.proofs.Configuring.{goes}
 use Rattle.ffi3_configuration.proofs.Moving.{cut_after, change_on, looks_as_itself}
 
@@ -44,6 +44,6 @@ module _ {S : Type 0} (p : Program) (base : Base) (all : Remainder) (first : Beg
       goes p base all first own changed_configuration b' a m' output r [] events t (omega arith) gone changed
 
   -- there is no memory for it
-  pub made_refused : WasInterruptedAfter p base all first own cut.NoMemory closures b.moves m' output × CountedAtMostOne (suc b.moves) b.moves
+  pub made_refused : WasInterruptedAfter p base all first own (suc b.moves) cut.NoMemory closures b.moves m' output
   made_refused =
-      (cut_after p base all first own [] events (run_state p.signatures (and_result a r) changed_configuration m' output) b.moves m' (omega arith) (omega arith, omega arith) (looks_as_itself m') changed, (omega arith, omega arith))
+      cut_after p base all first own [] events (run_state p.signatures (and_result a r) changed_configuration m' output) (suc b.moves) b.moves m' (omega arith) (inl refl) (omega arith, omega arith) (omega arith) (looks_as_itself m') changed

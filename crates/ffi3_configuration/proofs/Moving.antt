@@ -1,5 +1,5 @@
 -- What each kind of move of a run leads to, from one moment to the next.
-use Rattle.std.proofs.Common.{◌≡◌, ℕ, suc, ◌+◌, ◌≤◌, inl, true, List, [], ◌∷◌, ◌++◌, length, take, drop, refl, sym, ap, ◌∙◌, subst, arith, append-nil, length-append}
+use Rattle.std.proofs.Common.{◌≡◌, Bool, ℕ, suc, ◌+◌, ◌-◌, ◌≤◌, inl, true, false, List, [], ◌∷◌, ◌++◌, length, take, drop, refl, sym, ap, ◌∙◌, subst, arith, append-nil, length-append}
 use Rattle.ffi3_type_rules.specs.Tree.{Tree}
 use Rattle.ffi3_type_rules.specs.Value.{ValueTree, void_value}
 use Rattle.ffi3_type_rules.specs.ValueText.{value_text_of}
@@ -11,10 +11,13 @@ use Rattle.ffi3_run_rules.specs.Lines.{a_line, stop_text}
 use Rattle.ffi3_run_rules.specs.Meaning.{Program, Activation, Effect, ends, stops, prints, goes_on, returned, stopped, effect_of, next_move, with_result}
 use Rattle.ffi3_run_rules.specs.Move.{Move}
 use Rattle.ffi3_run_rules.specs.Trace.{TraceItem, Line, StopLine}
-use Rattle.ffi3_turn_rules.specs.Remainder.{Remainder, Suspended, Bottom, CallStack, before, only, only_stops, as_main, rest, alone}
+use Rattle.ffi3_turn_rules.specs.Remainder.{Remainder, Suspended, Bottom, before, only, only_stops, as_main, rest, alone}
 use Rattle.ffi3_turn_rules.specs.Depth.{deepest}
-use Rattle.ffi3_turn_rules.specs.SoFar.{Base, Position, left_at_position, HasComeTo, IsInterrupted, IsOver}
-use Rattle.ffi3_turn_rules.proofs.Steps.{rest_at_limit, rest_stops, rest_ends}
+use Rattle.ffi3_turn_rules.specs.SoFar.{Base, left_at_position, HasComeTo, IsInterrupted, IsOver}
+use Rattle.ffi3_turn_rules.specs.Path.{Position, happens_in, happens_next, happens_with}
+use Rattle.ffi3_turn_rules.specs.Left.{AreMovesLeft, BeginsWith, IsLeft}
+use Rattle.ffi3_turn_rules.specs.Step.{acts_on, step_of}
+use Rattle.ffi3_turn_rules.proofs.Steps.{paths_follow, rest_at_limit, rest_stops, rest_ends}
 use Rattle.ffi3_turn_rules.proofs.Depths.{depth_at-append}
 use Rattle.ffi3_turn_rules.proofs.Coming.{comes_on, comes_by_print, deepest_same}
 use Rattle.ffi3_turn_rules.proofs.Ending as ending
@@ -28,7 +31,7 @@ use Rattle.ffi3_io.specs.Written.{LineFailed}
 use Rattle.ffi3_configuration.specs.Between.{Beginning, RunState, asking, position, text_so_far, depth_below, open_calls_at, IsBetween, IsAsking}
 use Rattle.ffi3_configuration.specs.Counted.{steps_after, back_at_caller}
 use Rattle.ffi3_configuration.specs.Served.{KeepsCallers}
-use Rattle.ffi3_configuration.specs.Turned.{CountedAtMostOne, IsEnded, IsLeft, WasInterruptedAfter, LooksAs}
+use Rattle.ffi3_configuration.specs.Turned.{CountedAtMostOne, IsEnded, WasInterruptedAfter, LooksAs}
 use Rattle.ffi3_configuration.proofs.Callers.{between_keeps}
 use Rattle.ffi3_configuration.proofs.Counting.{steps_then}
 use Rattle.ffi3_configuration.proofs.Marks.{mark_same, fewer, text_then}
@@ -47,38 +50,31 @@ looks_same m m' same = subst (λ (n : State). LooksAs m n) (sym same) (looks_as_
 
 -- ---- what is left to do
 
--- once what happened is done
-pub left_here : (p : Program) (base : Base) (all : Remainder) (done : List TraceItem) (x : Position) (moves : ℕ) → CountedAtMostOne x.moves moves → all ≡ before done (left_at_position p base x) → IsLeft p base all done x.closures moves
-left_here p base all done x moves counted follows = record {
-  done = done;
-  last = [];
-  happened_is = sym (append-nil done);
-  one = omega arith;
-  call_stack = x.call_stack;
-  moves_then = x.moves;
-  counted = counted;
-  follows = follows;
+-- at a position of the path
+abbrev pub left_here : (p : Program) (base : Base) (all : Remainder) (in_move : Bool) (done later : List TraceItem) (events : List Event) (x : Position) (moves : ℕ) → HasComeTo p base all done events x → AreMovesLeft in_move x.moves moves → BeginsWith in_move (happens_next p base.bottom x) later → IsLeft p base.bottom base.start in_move done later x.closures moves
+left_here p base all in_move done later events x moves come left next = record {
+  at = x;
+  path = come.path;
+  follows = paths_follow p base.bottom base.start done x come.path;
+  closures_are = refl;
+  moves_are = left;
+  next = next;
 }
 
--- or all but this item, and the move that brought it
-pub left_before : (p : Program) (base : Base) (all : Remainder) (done : List TraceItem) (item : TraceItem) (call_stack : CallStack) (closures : Closures) (moves : ℕ) → all ≡ before done (rest p base.bottom call_stack closures (suc moves)) → IsLeft p base all (done ++ item ∷ []) closures moves
-left_before p base all done item call_stack closures moves follows = record {
-  done = done;
-  last = item ∷ [];
-  happened_is = refl;
-  one = omega arith;
-  call_stack = call_stack;
-  moves_then = suc moves;
-  counted = (omega arith, omega arith);
-  follows = follows;
-}
+-- in the next move there, which does this
+abbrev pub left_in_move : (p : Program) (base : Base) (all : Remainder) (done later : List TraceItem) (events : List Event) (a : Activation) (outer : List Suspended) (closures : Closures) (moves : ℕ) (d : Effect) (item : TraceItem) → HasComeTo p base all done events (record { call_stack = record { innermost = a; suspended = outer }; closures = closures; moves = suc moves }) → effect_of p a closures (next_move p a) ≡ d → happens_in (step_of base.bottom a outer closures d) ≡ item ∷ [] → IsLeft p base.bottom base.start true done (item ∷ later) closures moves
+left_in_move p base all done later events a outer closures moves d item come does happens =
+    left_here p base all true done (item ∷ later) events (record { call_stack = record { innermost = a; suspended = outer }; closures = closures; moves = suc moves }) moves come (omega arith) (ap (λ (e : Effect). happens_in (step_of base.bottom a outer closures e)) does ∙ happens)
 
 -- FOR WANT OF MEMORY, between two moves, after one item more at most
-pub cut_after : (p : Program) (base : Base) (all : Remainder) (first : Beginning) (own more : List TraceItem) (events : List Event) (x : RunState) (moves : ℕ) (m : State) → length more ≤ 1 → CountedAtMostOne x.moves moves → LooksAs x.machine m → IsBetween p base all first (own ++ more) events x → WasInterruptedAfter p base all first own cut.NoMemory x.closures moves m x.output
-cut_after p base all first own more events x moves m one counted looks h =
+pub cut_after : (p : Program) (base : Base) (all : Remainder) (first : Beginning) (own more : List TraceItem) (events : List Event) (x : RunState) (was moves : ℕ) (m : State) → length more ≤ 1 → AreMovesLeft false x.moves moves → CountedAtMostOne was moves → x.moves ≤ was → LooksAs x.machine m → IsBetween p base all first (own ++ more) events x → WasInterruptedAfter p base all first own was cut.NoMemory x.closures moves m x.output
+cut_after p base all first own more events x was moves m one left counted from looks h =
     let done = own ++ more in
     record {
       interrupted = record {
+        done = done;
+        later = (left_at_position p base (position x)).trace;
+        recorded = false;
         happened = done;
         events = events;
         text = text_so_far first.tracing p base done;
@@ -89,22 +85,25 @@ cut_after p base all first own more events x moves m one counted looks h =
         cause = h.written.took.count;
         mark = mark_same base.top first.mark (deepest p (depth_below p base) done) (deepest p (depth_below p base) done) x.machine.mark m.mark refl looks.mark h.mark;
         target = looks.target ∙ h.calls.target;
-        left = left_here p base all done (position x) moves counted h.come.follows;
+        left = left_here p base all false done (left_at_position p base (position x)).trace events (position x) moves h.come left tt;
+        follows = h.come.follows;
         holds = subst (λ (code : List ℕ). HoldsMap base.standard.target x.closures code) (sym looks.code) h.holds;
         callers = subst (λ (stack : List ℕ). KeepsCallers p base first stack) (sym looks.stack) (between_keeps p base all first done events x h);
       };
       more = more;
       happened = refl;
       one = one;
+      counted = counted;
+      from = from;
     }
 
 module _ (p : Program) (base : Base) (all : Remainder) (first : Beginning) (own : List TraceItem) (events : List Event) where
   -- ---- interrupted
 
   -- with nothing more done
-  pub cut_between : (x : RunState) (moves : ℕ) (m : State) → CountedAtMostOne x.moves moves → LooksAs x.machine m → IsBetween p base all first own events x → WasInterruptedAfter p base all first own cut.NoMemory x.closures moves m x.output
-  cut_between x moves m counted looks h =
-      cut_after p base all first own [] events x moves m (omega arith) counted looks (subst (λ (l : List TraceItem). IsBetween p base all first l events x) (sym (append-nil own)) h)
+  pub cut_between : (x : RunState) (was moves : ℕ) (m : State) → AreMovesLeft false x.moves moves → CountedAtMostOne was moves → x.moves ≤ was → LooksAs x.machine m → IsBetween p base all first own events x → WasInterruptedAfter p base all first own was cut.NoMemory x.closures moves m x.output
+  cut_between x was moves m left counted from looks h =
+      cut_after p base all first own [] events x was moves m (omega arith) left counted from looks (subst (λ (l : List TraceItem). IsBetween p base all first l events x) (sym (append-nil own)) h)
 
   module _ (x : RunState) (h : IsBetween p base all first own events x) (output : SinkState) (line : List ℕ) (failed : LineFailed line x.output output) where
     -- the bytes that are written then
@@ -116,10 +115,13 @@ module _ (p : Program) (base : Base) (all : Remainder) (first : Beginning) (own 
     part_cause =
         fault_from first.output.faults x.output.faults output.faults h.written.took.count (failed.rose, failed.never_falls)
 
-    -- A WRITE FAILS in the line, where the run can be interrupted there
-    line_failed : (moves : ℕ) → CountedAtMostOne x.moves moves → IsInterrupted first.tracing p base true all own (text_so_far first.tracing p base own ++ take failed.part.0 line) events → WasInterruptedAfter p base all first own cut.Failed x.closures moves x.machine output
-    line_failed moves counted there = record {
+    -- A WRITE FAILS in the line of what happens in the next move
+    line_failed : (moves : ℕ) (later : List TraceItem) → moves ≡ x.moves - 1 → happens_next p base.bottom (position x) ≡ take 1 later → IsInterrupted first.tracing p base true false all own later own (text_so_far first.tracing p base own ++ take failed.part.0 line) events → WasInterruptedAfter p base all first own x.moves cut.Failed x.closures moves x.machine output
+    line_failed moves later fewer happens there = record {
       interrupted = record {
+        done = own;
+        later = later;
+        recorded = false;
         happened = own;
         events = events;
         text = text_so_far first.tracing p base own ++ take failed.part.0 line;
@@ -130,13 +132,16 @@ module _ (p : Program) (base : Base) (all : Remainder) (first : Beginning) (own 
         cause = part_cause;
         mark = h.mark;
         target = h.calls.target;
-        left = left_here p base all own (position x) moves counted h.come.follows;
+        left = left_here p base all true own later events (position x) moves h.come fewer happens;
+        follows = h.come.follows;
         holds = h.holds;
         callers = between_keeps p base all first own events x h;
       };
       more = [];
       happened = sym (append-nil own);
       one = omega arith;
+      counted = (omega (arith, fewer), omega (arith, fewer));
+      from = omega arith;
     }
 
   module _ (x : RunState) (h : IsBetween p base all first own events x) (stop : Stop) (moves : ℕ) (left : left_at_position p base (position x) ≡ only_stops stop x.closures moves) where
@@ -183,9 +188,9 @@ module _ (p : Program) (base : Base) (all : Remainder) (first : Beginning) (own 
     pub limit_is_last : all.trace ≡ own ++ StopLine MoveLimit ∷ []
     limit_is_last = stop_is_last x h MoveLimit 0 limit_left
 
-    pub limit_failed : (output : SinkState) → LineFailed (a_line (stop_text p.signatures MoveLimit)) x.output output → WasInterruptedAfter p base all first own cut.Failed x.closures x.moves x.machine output
+    pub limit_failed : (output : SinkState) → LineFailed (a_line (stop_text p.signatures MoveLimit)) x.output output → WasInterruptedAfter p base all first own x.moves cut.Failed x.closures x.moves x.machine output
     limit_failed output failed =
-        line_failed x h output (a_line (stop_text p.signatures MoveLimit)) failed x.moves (omega arith, omega arith) (ending.cut_in_limit p base all own events first.tracing (position x).call_stack x.closures failed.part.0 at_limit failed.part.1)
+        line_failed x h output (a_line (stop_text p.signatures MoveLimit)) failed x.moves (StopLine MoveLimit ∷ []) (omega (arith, none)) (ap (λ (n : ℕ). happens_with p base.bottom (position x).call_stack x.closures n) none) (ending.cut_in_limit p base all own events first.tracing (position x).call_stack x.closures failed.part.0 at_limit failed.part.1)
 
   -- ---- a move that is asked for
 
@@ -199,6 +204,10 @@ module _ (p : Program) (base : Base) (all : Remainder) (first : Beginning) (own 
     does_so : (d : Effect) → effect_of p x.innermost x.closures asked ≡ d → effect_of p x.innermost x.closures (next_move p x.innermost) ≡ d
     does_so d does = ap (effect_of p x.innermost x.closures) is.asks ∙ does
 
+    happens_so : (d : Effect) → effect_of p x.innermost x.closures asked ≡ d → happens_next p base.bottom (position (asking x)) ≡ happens_in (step_of base.bottom x.innermost x.suspended x.closures d)
+    happens_so d does =
+        ap (λ (e : Effect). happens_in (step_of base.bottom x.innermost x.suspended x.closures e)) (does_so d does)
+
     -- THE RUN STOPS
     module _ (stop : Stop) (does : effect_of p x.innermost x.closures asked ≡ stops stop) where
       stop_left : left_at_position p base (position (asking x)) ≡ only_stops stop x.closures x.moves
@@ -211,9 +220,9 @@ module _ (p : Program) (base : Base) (all : Remainder) (first : Beginning) (own 
       pub move_is_last : all.trace ≡ own ++ StopLine stop ∷ []
       move_is_last = stop_is_last (asking x) is.between stop x.moves stop_left
 
-      pub stop_failed : (output : SinkState) → LineFailed (a_line (stop_text p.signatures stop)) x.output output → WasInterruptedAfter p base all first own cut.Failed x.closures x.moves x.machine output
+      pub stop_failed : (output : SinkState) → LineFailed (a_line (stop_text p.signatures stop)) x.output output → WasInterruptedAfter p base all first own (suc x.moves) cut.Failed x.closures x.moves x.machine output
       stop_failed output failed =
-          line_failed (asking x) is.between output (a_line (stop_text p.signatures stop)) failed x.moves (omega arith, omega arith) (ending.cut_in_stop p base all own events a outer x.closures x.moves is.between.come first.tracing stop failed.part.0 (does_so (stops stop) does) failed.part.1)
+          line_failed (asking x) is.between output (a_line (stop_text p.signatures stop)) failed x.moves (StopLine stop ∷ []) (omega arith) (happens_so (stops stop) does) (ending.cut_in_stop p base all own events a outer x.closures x.moves is.between.come first.tracing stop failed.part.0 (does_so (stops stop) does) failed.part.1)
 
     -- MAIN RETURNS
     main_alone : x.suspended ≡ [] → HasComeTo p base all own events (record { call_stack = alone a; closures = x.closures; moves = suc x.moves })
@@ -277,9 +286,9 @@ module _ (p : Program) (base : Base) (all : Remainder) (first : Beginning) (own 
             outermost = h.outermost;
           }
 
-      pub print_failed : (output : SinkState) → LineFailed (a_line (value_text_of t v)) x.output output → WasInterruptedAfter p base all first own cut.Failed x.closures x.moves x.machine output
+      pub print_failed : (output : SinkState) → LineFailed (a_line (value_text_of t v)) x.output output → WasInterruptedAfter p base all first own (suc x.moves) cut.Failed x.closures x.moves x.machine output
       print_failed output failed =
-          line_failed (asking x) is.between output (a_line (value_text_of t v)) failed x.moves (omega arith, omega arith) (ending.cut_in_print p base all own events a outer x.closures x.moves is.between.come first.tracing t v failed.part.0 (does_so (prints t v) does) failed.part.1)
+          line_failed (asking x) is.between output (a_line (value_text_of t v)) failed x.moves (Line t v ∷ (rest p base.bottom (acts_on a void_value outer) x.closures x.moves).trace) (omega arith) (happens_so (prints t v) does) (ending.cut_in_print p base all own events a outer x.closures x.moves is.between.come first.tracing t v failed.part.0 (does_so (prints t v) does) failed.part.1)
 
     -- THE CLOSURES CHANGE, and code is written
     module _ (r : ValueTree) (closures : Closures) (does : effect_of p x.innermost x.closures asked ≡ goes_on r closures) (address : ℕ) (bytes : List ℕ) where

@@ -19,6 +19,8 @@ use Rattle.ffi3_run_rules.specs.Meaning.{Program, ends, returned, effect_of, nex
 use Rattle.ffi3_run_rules.specs.Move.{return}
 use Rattle.ffi3_run_rules.specs.Trace.{TraceItem, Leave}
 use Rattle.ffi3_turn_rules.specs.Remainder.{Remainder, Bottom, as_main, served, before, only, rest, alone, awaited, awaited_below}
+use Rattle.ffi3_turn_rules.specs.Step.{returns_out}
+use Rattle.ffi3_turn_rules.specs.Path.{happens_in}
 use Rattle.ffi3_turn_rules.specs.Depth.{deepest}
 use Rattle.ffi3_turn_rules.specs.Nested.{depth_at}
 use Rattle.ffi3_turn_rules.specs.Open.{open_calls}
@@ -56,7 +58,7 @@ use Rattle.ffi3_configuration.proofs.Configuring.{void_is}
 use Rattle.ffi3_configuration.proofs.Counting.{count_served}
 use Rattle.ffi3_configuration.proofs.Marks.{mark_leave, text_then}
 use Rattle.ffi3_configuration.proofs.Telling.{cause_from, cut_part, last_is, return_lines_are}
-use Rattle.ffi3_configuration.proofs.Moving.{left_before, main_ends, main_is_last}
+use Rattle.ffi3_configuration.proofs.Moving.{left_in_move, main_ends, main_is_last}
 use Rattle.ffi3_configuration.proofs.Opened.{in_callee, same_then_held}
 use Rattle.ffi3_configuration.proofs.Since.{part_since, since_then}
 
@@ -294,12 +296,15 @@ module _ {S : Type 0} (p : Program) (base : Base) (all : Remainder) (first : Beg
           }
 
       -- or the run is interrupted there, in those lines or before them
-      pub served_cut : (why : IoError) (output' : SinkState) → LineInterrupted told_lines output output' why → WasInterruptedAfter p base all first own why closures moves m' output'
+      pub served_cut : (why : IoError) (output' : SinkState) → LineInterrupted told_lines output output' why → WasInterruptedAfter p base all first own (suc moves) why closures moves m' output'
       served_cut why output' cut_off =
           let h = asks.between in
           let part = cut_part why told_lines output output' cut_off in
           record {
             interrupted = record {
+              done = own;
+              later = Leave below.sig v ∷ [];
+              recorded = true;
               happened = own ++ Leave below.sig v ∷ [];
               events = events ++ leaving ∷ [];
               text = text_so_far first.tracing p base own ++ take part.0 told_lines;
@@ -310,13 +315,16 @@ module _ {S : Type 0} (p : Program) (base : Base) (all : Remainder) (first : Beg
               cause = cause_from why first.output.faults output.faults output'.faults h.written.took.count part.3;
               mark = mark_then;
               target = within.target ∙ h.calls.target;
-              left = left_before p base all own (Leave below.sig v) (alone x.innermost) closures moves h.come.follows;
+              left = left_in_move p base all own [] events x.innermost [] closures moves (ends v) (Leave below.sig v) h.come does (ap (λ (bottom : Bottom). happens_in (returns_out bottom closures v)) below.serving);
+              follows = h.come.follows;
               holds = holds_then;
               callers = callers_then;
             };
             more = Leave below.sig v ∷ [];
             happened = refl;
             one = omega arith;
+            counted = (omega arith, omega arith);
+            from = omega arith;
           }
 
 -- THE RUN IS DONE, on a configuration that has none of the activations

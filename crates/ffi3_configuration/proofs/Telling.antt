@@ -17,7 +17,8 @@ use Rattle.ffi3_run_rules.specs.Meaning.{Program}
 use Rattle.ffi3_run_rules.specs.Trace.{TraceItem}
 use Rattle.ffi3_turn_rules.specs.Interrupted.{IsPart}
 use Rattle.ffi3_turn_rules.specs.Remainder.{Remainder}
-use Rattle.ffi3_turn_rules.specs.SoFar.{Base, text_after, Position, open_at, HasComeTo}
+use Rattle.ffi3_turn_rules.specs.SoFar.{Base, text_after, open_at, HasComeTo}
+use Rattle.ffi3_turn_rules.specs.Path.{Position}
 use Rattle.ffi3_turn_rules.specs.TracingOf.{IsTracingOf}
 use Rattle.ffi3_turn_rules.proofs.TracedCalls.{enter_lines_are, leave_lines_are}
 use Rattle.ffi3_machine.specs.Recorded.{event_at}

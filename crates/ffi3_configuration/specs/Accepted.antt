@@ -37,7 +37,7 @@ Accepted std p closure arguments trace b m output b' m' output' (Ok done) =
     (entry_at std (signature_at p.signatures closure.sig) m) arguments)
     output output'
     × StandsAt p
-    (served_base std p.signatures closure.sig m)
+    (served_base std p closure arguments m b.table b.moves)
     (served_left std p closure arguments m b.table b.moves)
     (served_beginning std (signature_at p.signatures closure.sig) m output'
     (served_tracing trace std p.signatures closure.sig m))

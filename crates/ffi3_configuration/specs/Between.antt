@@ -15,7 +15,8 @@ use Rattle.ffi3_run_rules.specs.Trace.{TraceItem}
 use Rattle.ffi3_turn_rules.specs.Remainder.{Remainder, Suspended, awaited}
 use Rattle.ffi3_turn_rules.specs.Depth.{deepest}
 use Rattle.ffi3_turn_rules.specs.Nested.{depth_at, depth_of}
-use Rattle.ffi3_turn_rules.specs.SoFar.{Base, text_start, Position, open_at, HasComeTo}
+use Rattle.ffi3_turn_rules.specs.SoFar.{Base, text_start, open_at, HasComeTo}
+use Rattle.ffi3_turn_rules.specs.Path.{Position}
 use Rattle.ffi3_machine.specs.State.{State, stack_at}
 use Rattle.ffi3_closures.specs.Slots.{HoldsMap}
 use Rattle.ffi3_io.specs.Sink.{SinkState}
@@ -105,7 +106,7 @@ pub record KeepsFound (base : Base) (first : Beginning) (entered : List Entered)
   pub events : first.spare_events + length entered ≤ m.spare_events
   pub bytes : first.spare_bytes + frames base.standard entered ≤ m.spare_bytes
 
--- WHAT HOLDS BETWEEN TWO MOVES of a run with this base, of which all this was left as it began: this trace is done of it, these events answer to it, and the call stack's calls stand on the machine's stack.
+-- WHAT HOLDS BETWEEN TWO MOVES of a run with this base, of which all this was left as it began: activations, closures and moves left are those of its path (`come`), this trace is done of it, these events answer to it, and the call stack's calls stand on the machine's stack.
 pub record IsBetween (p : Program) (base : Base) (all : Remainder) (first : Beginning) (own : List TraceItem)
     (events : List Event) (x : RunState) : Type 0 where
   pub needs : p.need ≡ need_of base.standard

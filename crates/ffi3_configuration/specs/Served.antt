@@ -42,16 +42,31 @@ pub record ShowsCall (std : Standard) (s : Signature) (arguments : List ValueTre
   pub events : 2 ≤ m.spare_events
   pub bytes : std.link + frame_of std s + frame_of std s ≤ m.spare_bytes
 
--- what its run begins with: the caller's frame is the last that lies below the run's top, and the reserved registers are those of the entry
-abbrev pub served_base : Standard → List Signature → ℕ → State → Base
-served_base std signatures sig m = record {
+-- the activation of the closure's function, with the stack below its block
+abbrev pub served_activation : Standard → List Signature → Closure → List ValueTree → State → meaning.Activation
+served_activation std signatures closure arguments m = record {
+  who = function closure.func;
+  arguments = arguments;
+  user = closure.user;
+  left = m.sp - std.save - block_bytes (signature_at signatures closure.sig) - STACK;
+  results = [];
+}
+
+-- what its run begins with: the caller's frame is the last that lies below the run's top, the reserved registers are those of the entry, and the function's activation stands before its first move
+abbrev pub served_base : Standard → Program → Closure → List ValueTree → State → Closures → ℕ → Base
+served_base std p closure arguments m closures moves = record {
   standard = std;
-  top = m.sp + std.link + frame_of std (signature_at signatures sig);
-  room = m.sp - std.save - block_bytes (signature_at signatures sig) - STACK;
-  held = λ at. register (entry_at std (signature_at signatures sig) m).image at;
+  top = m.sp + std.link + frame_of std (signature_at p.signatures closure.sig);
+  room = m.sp - std.save - block_bytes (signature_at p.signatures closure.sig) - STACK;
+  held = λ at. register (entry_at std (signature_at p.signatures closure.sig) m).image at;
   count = length m.events + 1;
-  bottom = served sig;
-  entries = entry_at std (signature_at signatures sig) m ∷ [];
+  bottom = served closure.sig;
+  entries = entry_at std (signature_at p.signatures closure.sig) m ∷ [];
+  start = record {
+    call_stack = alone (served_activation std p.signatures closure arguments m);
+    closures = closures;
+    moves = moves;
+  };
 }
 
 -- and what it found: its entry is in the journal and counted, the room there for its entry and its return is its own, and it is traced so
@@ -80,16 +95,6 @@ served_tracing true std signatures sig m =
     traced std
     (m.sp + std.link + frame_of std (signature_at signatures sig))
     (served_leaves (entry_at std (signature_at signatures sig) m) (length m.events + 1))
-
--- the activation of the closure's function, with the stack below its block
-abbrev pub served_activation : Standard → List Signature → Closure → List ValueTree → State → meaning.Activation
-served_activation std signatures closure arguments m = record {
-  who = function closure.func;
-  arguments = arguments;
-  user = closure.user;
-  left = m.sp - std.save - block_bytes (signature_at signatures closure.sig) - STACK;
-  results = [];
-}
 
 -- ALL THAT IS LEFT OF THE CALL after its entry, by the direct meaning: what its function does, and the return
 abbrev pub served_left : Standard → Program → Closure → List ValueTree → State → Closures → ℕ → Remainder

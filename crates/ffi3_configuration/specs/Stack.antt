@@ -7,7 +7,7 @@ use Rattle.ffi3_place_rules.specs.Holds.{Own}
 use Rattle.ffi3_place_rules.specs.Image.{register}
 use Rattle.ffi3_place_rules.specs.Standard.{Standard, frame_of}
 use Rattle.ffi3_run_rules.specs.Journal.{Entered}
-use Rattle.ffi3_machine.specs.State.{State, image_of}
+use Rattle.ffi3_machine.specs.State.{State, image_of, stack_at}
 use Rattle.ffi3_callee.specs.Received.{IsIncoming}
 use Rattle.ffi3_invoke.specs.Calls.{Stands}
 use Rattle.ffi3_configuration.specs.declared.activation.OpenCall.{OpenCall}
@@ -50,3 +50,9 @@ pub record HoldsCalls (std : Standard) (signatures : List Signature) (held : Loc
   pub reserved : AllByRecursion (λ at. register (image_of 0 m) at ≡ held at) std.reserved
   pub room : length entered ≤ m.spare_events
   pub bytes : frames std entered ≤ m.spare_bytes
+
+-- A MOVE WRITES NO STACK BYTE outside the need of the last activation and below: at an entry that is the callee's, which ends at the sp before it; at a return the callee's, which ends at the sp after it; elsewhere sp stays, and nothing is written from there on.
+abbrev pub WritesInLast : State → State → Type 0
+WritesInLast before after =
+    (address count : ℕ) → before.sp ≤ address → after.sp ≤ address
+    → stack_at address count after ≡ stack_at address count before

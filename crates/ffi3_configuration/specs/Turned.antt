@@ -1,6 +1,6 @@
 -- What a move comes to.
-use Rattle.std.specs.Prelude.{◌≡◌, ℕ, suc, ◌≤◌, ◌⊎◌, List, [], ◌∷◌, ◌++◌, length, drop, Bool, true, false, Option, Some}
-use Rattle.std.specs.Prelude.{None}
+use Rattle.std.specs.Prelude.{◌≡◌, ℕ, suc, ◌-◌, ◌≤◌, ◌⊎◌, List, [], ◌∷◌, ◌++◌, length, drop, Bool, true, false}
+use Rattle.std.specs.Prelude.{Option, Some, None}
 use Rattle.std.specs.List.{AllByRecursion}
 use Rattle.ffi3_type_rules.specs.Value.{ValueTree}
 use Rattle.ffi3_place_rules.specs.Image.{register}
@@ -11,9 +11,10 @@ use Rattle.ffi3_run_rules.specs.Closures.{Closures}
 use Rattle.ffi3_run_rules.specs.Lines.{Tracing}
 use Rattle.ffi3_run_rules.specs.Meaning.{Program, End, returned, stopped}
 use Rattle.ffi3_run_rules.specs.Trace.{TraceItem, Leave, StopLine}
-use Rattle.ffi3_turn_rules.specs.Remainder.{Remainder, Bottom, as_main, served, CallStack, before, rest}
+use Rattle.ffi3_turn_rules.specs.Remainder.{Remainder, Bottom, as_main, served, before}
+use Rattle.ffi3_turn_rules.specs.Left.{IsLeft, in_a_move}
 use Rattle.ffi3_turn_rules.specs.Depth.{deepest}
-use Rattle.ffi3_turn_rules.specs.SoFar.{Base, IsOver, IsInterrupted}
+use Rattle.ffi3_turn_rules.specs.SoFar.{Base, left_at_position, IsOver, IsInterrupted}
 use Rattle.ffi3_machine.specs.State.{State, image_of}
 use Rattle.ffi3_closures.specs.Slots.{HoldsMap}
 use Rattle.ffi3_io.specs.Sink.{Adds, SinkState}
@@ -48,29 +49,16 @@ abbrev pub is_in_line : IoError → Bool
 is_in_line cut.NoMemory = false
 is_in_line cut.Failed = true
 
--- one move was counted, or none
-abbrev pub CountedAtMostOne : (moves left : ℕ) → Type 0
-CountedAtMostOne moves left = (left ≤ moves) × (moves ≤ suc left)
-
--- WHAT IS LEFT TO DO of all that was left: of what happened all is done but the last item at most, and some call stack goes on from there with these closures, and with so many moves, or with one more where the move that was counted last is not done.
-pub record IsLeft (p : Program) (base : Base) (all : Remainder) (happened : List TraceItem) (closures : Closures)
-    (moves : ℕ) : Type 0 where
-  pub done : List TraceItem
-  pub last : List TraceItem
-  pub happened_is : happened ≡ done ++ last
-  pub one : length last ≤ 1
-  pub call_stack : CallStack
-  pub moves_then : ℕ
-  pub counted : CountedAtMostOne moves_then moves
-  pub follows : all ≡ before done (rest p base.bottom call_stack closures moves_then)
-
--- THE RUN WAS INTERRUPTED: of all that was left this happened, these bytes are told, those since the output was looked at written to it, and these events are recorded. With these closures, whose code is there, and these moves the rest is left to do. No byte was written below the stack that the calls took that happened, and that of the callers around the run is kept. The steps are those of these calls; where the last of them is the return of a call that is served, its caller has yet to run Return.
+-- THE RUN WAS INTERRUPTED: of all that was left this is done and that comes later, this happened, these bytes are told, those since the output was looked at written to it, and these events are recorded. With these closures, whose code is there, and these moves the rest is left to do. No byte was written below the stack that the calls took that happened, and that of the callers around the run is kept. The steps are those of these calls; where the last of them is the return of a call that is served, its caller has yet to run Return.
 pub record WasInterrupted (p : Program) (base : Base) (all : Remainder) (first : Beginning) (why : IoError)
     (closures : Closures) (moves : ℕ) (m : State) (output : SinkState) : Type 0 where
+  pub done : List TraceItem
+  pub later : List TraceItem
+  pub recorded : Bool
   pub happened : List TraceItem
   pub events : List Event
   pub text : List ℕ
-  pub cut : IsInterrupted first.tracing p base (is_in_line why) all happened text events
+  pub cut : IsInterrupted first.tracing p base (is_in_line why) recorded all done later happened text events
   pub journal : m.events ≡ first.events ++ events
   pub steps :
       (m.steps ≡ steps_after base.standard.target first.steps happened)
@@ -80,17 +68,24 @@ pub record WasInterrupted (p : Program) (base : Base) (all : Remainder) (first :
   pub cause : IsCause why first.output.faults output.faults
   pub mark : IsMarkOf base.top first.mark (deepest p (depth_below p base) happened) m.mark
   pub target : m.target ≡ base.standard.target
-  pub left : IsLeft p base all happened closures moves
+  pub left : IsLeft p base.bottom base.start (in_a_move (is_in_line why) recorded) done later closures moves
+  pub follows : all ≡ before done (left_at_position p base left.at)
   pub holds : HoldsMap base.standard.target closures m.code
   pub callers : KeepsCallers p base first m.stack
 
--- and beyond this trace at most one item happened
+-- one move was counted, or none
+abbrev pub CountedAtMostOne : (moves left : ℕ) → Type 0
+CountedAtMostOne moves left = (left ≤ moves) × (moves ≤ suc left)
+
+-- and beyond this trace, with so many moves left, at most one item happened, and one move was counted; the run stands there or further on
 pub record WasInterruptedAfter (p : Program) (base : Base) (all : Remainder) (first : Beginning) (own : List TraceItem)
-    (why : IoError) (closures : Closures) (moves : ℕ) (m : State) (output : SinkState) : Type 0 where
-  pub interrupted : WasInterrupted p base all first why closures moves m output
+    (moves : ℕ) (why : IoError) (closures : Closures) (left : ℕ) (m : State) (output : SinkState) : Type 0 where
+  pub interrupted : WasInterrupted p base all first why closures left m output
   pub more : List TraceItem
   pub happened : interrupted.happened ≡ own ++ more
   pub one : length more ≤ 1
+  pub counted : CountedAtMostOne moves left
+  pub from : interrupted.left.at.moves ≤ moves
 
 -- what happens where the outermost activation returns: the call that is served is left, and main was not called
 abbrev pub last_return : Bottom → ValueTree → List TraceItem
@@ -148,6 +143,14 @@ module _ {S : Type 0} where
     pub one : length more ≤ 1
     pub counted : moves ≡ suc b.moves
 
+  -- the closures and the moves left are as they were
+  abbrev pub KeepsClosures : Configuration S → Configuration S → Type 0
+  KeepsClosures old new = (new.table ≡ old.table) × (new.moves ≡ old.moves)
+
+  -- A WRITE FAILED IN A MOVE: the closures are as they were, and the move is counted, or none was left.
+  abbrev pub HasFailed : Configuration S → Configuration S → Type 0
+  HasFailed old new = (new.table ≡ old.table) × (new.moves ≡ old.moves - 1)
+
   -- THE RUN IS DONE BY ONE MOVE, the return of the outermost activation.
   pub record TurnIsDone (p : Program) (base : Base) (all : Remainder) (first : Beginning) (own : List TraceItem)
       (moves : ℕ) (b : Configuration S) (m : State) (output : SinkState) : Type 0 where
@@ -170,6 +173,6 @@ module _ {S : Type 0} where
   Turned p base all first own moves b m output (turn.Stopped stop) =
       TurnHasStopped p base all first own moves stop b m output
   Turned p base all first own moves b m output turn.NoMemory =
-      WasInterruptedAfter p base all first own cut.NoMemory b.table b.moves m output × CountedAtMostOne moves b.moves
+      WasInterruptedAfter p base all first own moves cut.NoMemory b.table b.moves m output
   Turned p base all first own moves b m output turn.Failed =
-      WasInterruptedAfter p base all first own cut.Failed b.table b.moves m output × CountedAtMostOne moves b.moves
+      WasInterruptedAfter p base all first own moves cut.Failed b.table b.moves m output

@@ -24,7 +24,7 @@ ghost use Rattle.ffi3_configuration.specs.Going.{HasGoneBack, HasGoneIn};
 ghost use Rattle.ffi3_configuration.specs.Known.{CanEnter};
 ghost use Rattle.ffi3_configuration.specs.Activations.{AreShort, call_inside, calls_of, result_type_at};
 ghost use Rattle.ffi3_configuration.specs.Stack.{HoldsCalls};
-ghost use Rattle.ffi3_configuration.specs.Turned.{Turned};
+ghost use Rattle.ffi3_configuration.specs.Turned.{KeepsClosures, Turned};
 
 use crate::tracing::{tell_entry, tell_return};
 use crate::{Activation, Cifs, Configuration, OpenCall, Turn, Waiting};
@@ -116,6 +116,7 @@ impl<S: Drop> Configuration<S> {
         requires can { CanEnter A.standard cifs.now self.old.table ptr sig machine.old.sp closure }
         requires top { machine.old.sp ≤ STACK_TOP }
         requires holds { HoldsMap machine.old.target self.old.table machine.old.code }
+        ensures kept { result ≡ Turn.Failed → KeepsClosures self.old self.new }
         ensures goes { result ≡ Turn.More → HasGoneIn closure standing sig current self.old self.new }
         ensures above { result ≡ Turn.More →
             (address count : ℕ) → machine.old.sp ≤ address → stack_at address count machine.new ≡ stack_at address count machine.old }
@@ -162,6 +163,7 @@ impl<S: Drop> Configuration<S> {
             HoldsCalls A.standard cifs.now held top machine.old (calls_of self.old.served (reverse self.old.suspended.items)) entered }
         requires fits { fits (result_type_at cifs.now (call_inside self.old.served (reverse self.old.suspended.items))) (value_of value.now) ≡ true }
         requires few { AreShort (reverse self.old.suspended.items) }
+        ensures kept { result ≡ Turn.Failed → KeepsClosures self.old self.new }
         ensures goes { result ≡ Turn.More → HasGoneBack (value_of value.now) self.old self.new }
         ensures above { result ≡ Turn.More →
             (address count : ℕ) → machine.new.sp ≤ address → stack_at address count machine.new ≡ stack_at address count machine.old }

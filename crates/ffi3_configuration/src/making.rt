@@ -11,7 +11,7 @@ ghost use Rattle.ffi3_turn_rules.specs.SoFar.{Base};
 ghost use Rattle.ffi3_closures.specs.Slots.{HoldsMap};
 ghost use Rattle.ffi3_configuration.specs.Between.{Beginning, IsAsking, run_state};
 ghost use Rattle.ffi3_configuration.specs.Going.{and_result};
-ghost use Rattle.ffi3_configuration.specs.Turned.{Turned};
+ghost use Rattle.ffi3_configuration.specs.Turned.{KeepsClosures, Turned};
 
 use crate::stopping::stop;
 use crate::{Activation, Cifs, Configuration, Turn};
@@ -48,6 +48,7 @@ impl<S: Drop> Configuration<S> {
         ensures goes { result ≡ Turn.More →
             (address : ℕ) × (self.new ≡ record self.old { innermost = Some (and_result current (pointer_value address)); table = self.new.table }) }
         ensures stack { machine.new.stack ≡ machine.old.stack }
+        ensures kept { result ≡ Turn.Failed → KeepsClosures self.old self.new }
         ensures turned { (p : Program) (base : Base) (all : Remainder) (first : Beginning) (own : List TraceItem) (events : List Event) →
             p.signatures ≡ cifs.now → func < length p.functions → sig < length p.signatures → sig ≡ (function_at p func).signature →
             IsAsking p base all first own events (run_state p.signatures current self.old machine.old (O.state output.old)) (asks.make func user) →
@@ -77,6 +78,7 @@ impl<S: Drop> Configuration<S> {
         ensures goes { result ≡ Turn.More →
             self.new ≡ record self.old { innermost = Some (and_result current void_value); table = self.new.table } }
         ensures stack { machine.new.stack ≡ machine.old.stack }
+        ensures kept { result ≡ Turn.Failed → KeepsClosures self.old self.new }
         ensures turned { (p : Program) (base : Base) (all : Remainder) (first : Beginning) (own : List TraceItem) (events : List Event) →
             p.signatures ≡ cifs.now →
             IsAsking p base all first own events (run_state p.signatures current self.old machine.old (O.state output.old)) (asks.free ptr) →

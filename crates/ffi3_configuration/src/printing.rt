@@ -12,7 +12,7 @@ ghost use Rattle.ffi3_turn_rules.specs.SoFar.{Base};
 ghost use Rattle.ffi3_machine.specs.State.{State};
 ghost use Rattle.ffi3_configuration.specs.Between.{Beginning, IsAsking, run_state};
 ghost use Rattle.ffi3_configuration.specs.Going.{and_result};
-ghost use Rattle.ffi3_configuration.specs.Turned.{Turned};
+ghost use Rattle.ffi3_configuration.specs.Turned.{KeepsClosures, Turned};
 
 use crate::line::write_print;
 use crate::{Activation, Configuration, Turn};
@@ -34,6 +34,7 @@ impl<S: Drop> Configuration<S> {
         requires fits { fits (tree_of ty.now) (value_of value.now) ≡ true }
         requires few { length current.results + 1 < 2 ^ 32 }
         ensures goes { result ≡ Turn.More → self.new ≡ record self.old { innermost = Some (and_result current void_value) } }
+        ensures kept { result ≡ Turn.Failed → KeepsClosures self.old self.new }
         ensures turned { (p : Program) (base : Base) (all : Remainder) (first : Beginning) (own : List TraceItem) (events : List Event) (machine : State) →
             IsAsking p base all first own events (run_state p.signatures current self.old machine (O.state output.old)) (asks.print (tree_of ty.now) (value_of value.now)) →
             Turned p base all first own (suc self.old.moves) self.new machine (O.state output.new) result }

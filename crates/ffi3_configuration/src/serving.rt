@@ -19,7 +19,7 @@ ghost use Rattle.ffi3_configuration.specs.Known.{AreKnown};
 ghost use Rattle.ffi3_configuration.specs.Activations.{calls_below, result_type_at};
 ghost use Rattle.ffi3_configuration.specs.Served.{HasAccepted, ShowsCall};
 ghost use Rattle.ffi3_configuration.specs.Stack.{HoldsCalls};
-ghost use Rattle.ffi3_configuration.specs.Turned.{Turned};
+ghost use Rattle.ffi3_configuration.specs.Turned.{KeepsClosures, Turned};
 ghost use Rattle.ffi3_turn_rules.specs.TracingOf.{IsTracingOf};
 
 use crate::tracing::{tell_entry, tell_return};
@@ -85,6 +85,7 @@ impl<S: Drop> Configuration<S> {
             HoldsCalls A.standard cifs.now held top machine.old (calls_below self.old.served) entered }
         requires fits { fits (result_type_at cifs.now self.old.served) (value_of value.now) ≡ true }
         ensures over { result ≡ Turn.More → ⊥ }
+        ensures kept { result ≡ Turn.Failed → KeepsClosures self.old self.new }
         ensures turned { (p : Program) (base : Base) (all : Remainder) (first : Beginning) (own : List TraceItem) (events : List Event) (current : Activation S) →
             base.standard ≡ A.standard → p.signatures ≡ cifs.now → IsTracingOf p base trace first.tracing →
             IsAsking p base all first own events (run_state p.signatures current self.old machine.old (O.state output.old)) (asks.return (value_of value.now)) →

@@ -10,7 +10,7 @@ ghost use Rattle.ffi3_machine.specs.State.{State};
 ghost use Rattle.ffi3_configuration.specs.Between.{Beginning, IsAsking, IsBetween, run_state};
 ghost use Rattle.ffi3_configuration.specs.Going.{StoppedBy};
 ghost use Rattle.ffi3_configuration.specs.StopSigs.{IsOfSigs};
-ghost use Rattle.ffi3_configuration.specs.Turned.{Turned};
+ghost use Rattle.ffi3_configuration.specs.Turned.{KeepsClosures, Turned};
 
 use crate::line::write_stop;
 use crate::{Activation, Cifs, Configuration, Turn};
@@ -45,7 +45,8 @@ impl<S: Drop> Configuration<S> {
         current: Activation<S>,
     ) -> Turn
         requires { self.old.moves ≡ 0 }
-        ensures { (p : Program) (base : Base) (all : Remainder) (first : Beginning) (own : List TraceItem) (events : List Event) (machine : State) →
+        ensures kept { KeepsClosures self.old self.new }
+        ensures turned { (p : Program) (base : Base) (all : Remainder) (first : Beginning) (own : List TraceItem) (events : List Event) (machine : State) →
             p.signatures ≡ cifs.now →
             IsBetween p base all first own events (run_state p.signatures current self.old machine (O.state output.old)) →
             Turned p base all first own 0 self.new machine (O.state output.new) result }
@@ -65,6 +66,7 @@ impl<S: Drop> Configuration<S> {
     ) -> Turn
         requires { IsOfSigs (length cifs.now) why }
         ensures over { result ≡ Turn.More → ⊥ }
+        ensures kept { KeepsClosures self.old self.new }
         ensures turned { (p : Program) (base : Base) (all : Remainder) (first : Beginning) (own : List TraceItem) (events : List Event) (machine : State) (asked : Move) →
             p.signatures ≡ cifs.now →
             IsAsking p base all first own events (run_state p.signatures current self.old machine (O.state output.old)) asked →

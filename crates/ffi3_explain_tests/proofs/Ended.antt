@@ -5,6 +5,7 @@ use Rattle.ffi3_place_rules.specs.declared.Loc.{Loc}
 use Rattle.ffi3_place_rules.specs.Standard.{Standard}
 use Rattle.ffi3_place_rules.specs.Event.{Event}
 use Rattle.ffi3_run_rules.specs.declared.Stop.{Stop}
+use Rattle.ffi3_run_rules.specs.Closures.{Closures}
 use Rattle.ffi3_run_rules.specs.Meaning.{Program}
 use Rattle.ffi3_run_rules.specs.Trace.{TraceItem, Enter, Line, Leave, StopLine, trace_of}
 use Rattle.ffi3_run_rules.specs.Journal.{Answers, Entered, JournalOf, events_in, stack_top}
@@ -39,14 +40,14 @@ abbrev pub AllAreExplained : Standard → List Signature → List Event → Type
 AllAreExplained std signatures events =
     (top : ℕ) (held : Loc → ℕ) (n : ℕ) (unfinished : List Entered) (trace : List TraceItem) → Answers std top held signatures n unfinished trace events → EntriesAreExplained std signatures trace events
 
-module _ (std : Standard) (tracing : Tracing) (p : Program) (before after : SinkState) (m : State) (all : AllAreExplained std p.signatures m.events) where
+module _ (std : Standard) (tracing : Tracing) (p : Program) (before after : SinkState) (m : State) (closures : Closures) (moves : ℕ) (all : AllAreExplained std p.signatures m.events) where
   abbrev Explained : List TraceItem → Type 0
   Explained trace = EntriesAreExplained std p.signatures trace m.events
 
   by_journal : (trace : List TraceItem) → JournalOf std p.signatures trace m.events → Explained trace
   by_journal trace journal = all stack_top (λ at. 0) 0 [] trace journal
 
-  of_part : (in_line : Bool) → RunWasInterrupted tracing std p in_line before after m → Explained (trace_of p)
+  of_part : (in_line : Bool) → RunWasInterrupted tracing std p in_line before after m closures moves → Explained (trace_of p)
   of_part in_line cut =
       let left = behind cut.recorded cut.later in
       let part = begun cut.recorded cut.later in
@@ -54,14 +55,14 @@ module _ (std : Standard) (tracing : Tracing) (p : Program) (before after : Sink
       let whole : trace_of p ≡ (cut.done ++ begun cut.recorded cut.later) ++ left.0 = cut.all ∙ ap (λ l. cut.done ++ l) left.1 ∙ sym (append_assoc cut.done (begun cut.recorded cut.later) left.0) in
       subst Explained (sym whole) (further std p.signatures (cut.done ++ begun cut.recorded cut.later) left.0 m.events (by_journal (cut.done ++ begun cut.recorded cut.later) cut.journal) few)
 
-  by_end : (end : RunEnd) → (end ≡ run.Done → RunMatches tracing std p before after m) → ((stop : Stop) → end ≡ run.Stopped stop → RunMatches tracing std p before after m) → (end ≡ run.NoMemory → RunWasInterrupted tracing std p false before after m) → (end ≡ run.Failed → RunWasInterrupted tracing std p true before after m) → Explained (trace_of p)
+  by_end : (end : RunEnd) → (end ≡ run.Done → RunMatches tracing std p before after m) → ((stop : Stop) → end ≡ run.Stopped stop → RunMatches tracing std p before after m) → (end ≡ run.NoMemory → RunWasInterrupted tracing std p false before after m closures moves) → (end ≡ run.Failed → RunWasInterrupted tracing std p true before after m closures moves) → Explained (trace_of p)
   by_end run.Done done stopped short failed = by_journal (trace_of p) (done refl).journal
   by_end (run.Stopped stop) done stopped short failed = by_journal (trace_of p) (stopped stop refl).journal
   by_end run.NoMemory done stopped short failed = of_part false (short refl)
   by_end run.Failed done stopped short failed = of_part true (failed refl)
 
 -- the same of a program that is this one, by interfaces of its signatures
-pub explained_at_end : (std : Standard) (tracing : Tracing) (q p : Program) → q ≡ p → (cifs : List Signature) → cifs ≡ q.signatures → (before after : SinkState) (m : State) (end : RunEnd) → (end ≡ run.Done → RunMatches tracing std q before after m) → ((stop : Stop) → end ≡ run.Stopped stop → RunMatches tracing std q before after m) → (end ≡ run.NoMemory → RunWasInterrupted tracing std q false before after m) → (end ≡ run.Failed → RunWasInterrupted tracing std q true before after m) → AllAreExplained std cifs m.events → EntriesAreExplained std p.signatures (trace_of p) m.events
-explained_at_end std tracing q p same cifs are before after m end done stopped short failed all =
+pub explained_at_end : (std : Standard) (tracing : Tracing) (q p : Program) → q ≡ p → (cifs : List Signature) → cifs ≡ q.signatures → (before after : SinkState) (m : State) (closures : Closures) (moves : ℕ) (end : RunEnd) → (end ≡ run.Done → RunMatches tracing std q before after m) → ((stop : Stop) → end ≡ run.Stopped stop → RunMatches tracing std q before after m) → (end ≡ run.NoMemory → RunWasInterrupted tracing std q false before after m closures moves) → (end ≡ run.Failed → RunWasInterrupted tracing std q true before after m closures moves) → AllAreExplained std cifs m.events → EntriesAreExplained std p.signatures (trace_of p) m.events
+explained_at_end std tracing q p same cifs are before after m closures moves end done stopped short failed all =
     let by_signatures : AllAreExplained std q.signatures m.events = subst (λ ss. AllAreExplained std ss m.events) are all in
-    subst (λ (x : Program). EntriesAreExplained std x.signatures (trace_of x) m.events) same (by_end std tracing q before after m by_signatures end done stopped short failed)
+    subst (λ (x : Program). EntriesAreExplained std x.signatures (trace_of x) m.events) same (by_end std tracing q before after m closures moves by_signatures end done stopped short failed)

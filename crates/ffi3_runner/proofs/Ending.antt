@@ -37,7 +37,7 @@ use Rattle.ffi3_runner.specs.RunInterrupted.{RunWasInterrupted}
 use Rattle.ffi3_runner.specs.RunMatches.{RunMatches, WrotePart}
 use Rattle.ffi3_runner.specs.declared.run.RunEnd.{RunEnd}
 use Rattle.ffi3_runner.specs.declared.run.RunEnd.TheVariants as run
-use Rattle.ffi3_runner.specs.Started.{main_beginning, MainHasReturned, MainHasStopped, MainWasInterrupted}
+use Rattle.ffi3_runner.specs.Started.{main_beginning, MainHasReturned, MainHasStopped}
 use Rattle.ffi3_runner.proofs.Returning.{calls_returned}
 
 reaches : (top mark deep peak : ℕ) → deep ≡ peak → (top ≤ mark) ⊎ (top ≤ mark + deep) → top ≤ mark + peak
@@ -87,46 +87,34 @@ module _ (p : Program) (std : Standard) (trace : Bool) (b : Configuration Standi
 
   part_written : (why : IoError) → WasInterrupted p (main_base std) (remainder_of (meaning_of p)) (main_beginning trace std o) why b.table b.moves m o' → WrotePart (main_tracing trace std) p o o'
   part_written why h =
-      let cut = main_was_cut (main_tracing trace std) p std (is_in_line why) h.happened h.text h.events h.cut in
+      let cut = main_was_cut (main_tracing trace std) p std (is_in_line why) h.recorded h.done h.later h.happened h.text h.events h.cut in
       let text_is : text_of_run (main_tracing trace std) p ≡ h.text ++ cut.1.0 = cut.1.1 in
       let first : take (length h.text) (text_of_run (main_tracing trace std) p) ≡ h.text = ap (take (length h.text)) text_is ∙ take-append-le (length h.text) h.text cut.1.0 (omega arith) ∙ take-length h.text in
       (length h.text, Adds-along o.taken o'.taken h.text (take (length h.text) (text_of_run (main_tracing trace std) p)) (sym first) h.written)
 
-  -- what is told of a run that was interrupted
-  cut_off : (why : IoError) → WasInterrupted p (main_base std) (remainder_of (meaning_of p)) (main_beginning trace std o) why b.table b.moves m o' → RunWasInterrupted (main_tracing trace std) std p (is_in_line why) o o' m
+  -- what is told of a run that was interrupted, and what is left of it
+  cut_off : (why : IoError) → WasInterrupted p (main_base std) (remainder_of (meaning_of p)) (main_beginning trace std o) why b.table b.moves m o' → RunWasInterrupted (main_tracing trace std) std p (is_in_line why) o o' m b.table b.moves
   cut_off why h =
       let k = h.cut in
-      let P = λ (l : List Event). JournalOf std p.signatures (k.done ++ begun k.recorded k.later) l in
-      let Q = λ (l : List Event). IsWhole (k.done ++ begun k.recorded k.later) l in
+      let seen = h.done ++ begun h.recorded h.later in
+      let P = λ (l : List Event). JournalOf std p.signatures seen l in
+      let Q = λ (l : List Event). IsWhole seen l in
       let R = λ (l : List TraceItem). JournalOf std p.signatures l h.events in
       let T = λ (l : List TraceItem). IsWhole l h.events in
       record {
-        done = k.done;
-        later = k.later;
+        done = h.done;
+        later = h.later;
         all = k.all;
         part = k.part;
         proper = k.proper;
-        written = Adds-along o.taken o'.taken h.text (text (main_tracing trace std) p.signatures at_start k.done ++ take k.part (next_text (main_tracing trace std) p.signatures (past_all p.signatures at_start k.done) k.later)) k.text_is h.written;
-        recorded = k.recorded;
+        written = Adds-along o.taken o'.taken h.text (text (main_tracing trace std) p.signatures at_start h.done ++ take k.part (next_text (main_tracing trace std) p.signatures (past_all p.signatures at_start h.done) h.later)) k.text_is h.written;
+        recorded = h.recorded;
         its_event = k.its_event;
         journal = subst P (sym h.journal) (subst R k.happened_is k.answers.answers);
         whole = subst Q (sym h.journal) (subst T k.happened_is k.answers.whole);
-        mark = reaches stack_top m.mark (deepest p 0 h.happened) (deepest p 0 (k.done ++ begun k.recorded k.later)) (ap (deepest p 0) k.happened_is) h.mark;
-        steps = count_of std.target m.steps h.happened (k.done ++ begun k.recorded k.later) (either_way m.steps (steps_after std.target 0 h.happened) h.steps) k.happened_is;
+        mark = reaches stack_top m.mark (deepest p 0 h.happened) (deepest p 0 seen) (ap (deepest p 0) k.happened_is) h.mark;
+        steps = count_of std.target m.steps h.happened seen (either_way m.steps (steps_after std.target 0 h.happened) h.steps) k.happened_is;
         target = h.target;
-        closures = b.table;
-        code = h.holds;
-      }
-
-  -- and what is left of it
-  was_left : (why : IoError) → WasInterrupted p (main_base std) (remainder_of (meaning_of p)) (main_beginning trace std o) why b.table b.moves m o' → MainWasInterrupted std p b m
-  was_left why h =
-      let P = λ (l : List Event). JournalOf std p.signatures h.happened l in
-      let Q = λ (l : List Event). IsWhole h.happened l in
-      record {
-        happened = h.happened;
-        journal = subst P (sym h.journal) h.cut.answers.answers;
-        whole = subst Q (sym h.journal) h.cut.answers.whole;
         left = h.left;
         code = h.holds;
       }
@@ -191,13 +179,13 @@ module _ (p : Program) (std : Standard) (trace : Bool) (b : Configuration Standi
   ran_failed run.NoMemory ran is = cc
   ran_failed run.Failed ran is = ran.cause.0
 
-  pub ran_cut_by_memory : (t : RunEnd) → Answer t → t ≡ run.NoMemory → RunWasInterrupted (main_tracing trace std) std p false o o' m
+  pub ran_cut_by_memory : (t : RunEnd) → Answer t → t ≡ run.NoMemory → RunWasInterrupted (main_tracing trace std) std p false o o' m b.table b.moves
   ran_cut_by_memory run.Done ran is = cc
   ran_cut_by_memory (run.Stopped stop) ran is = cc
   ran_cut_by_memory run.NoMemory ran is = cut_off cut.NoMemory ran
   ran_cut_by_memory run.Failed ran is = cc
 
-  pub ran_cut_by_write : (t : RunEnd) → Answer t → t ≡ run.Failed → RunWasInterrupted (main_tracing trace std) std p true o o' m
+  pub ran_cut_by_write : (t : RunEnd) → Answer t → t ≡ run.Failed → RunWasInterrupted (main_tracing trace std) std p true o o' m b.table b.moves
   ran_cut_by_write run.Done ran is = cc
   ran_cut_by_write (run.Stopped stop) ran is = cc
   ran_cut_by_write run.NoMemory ran is = cc
@@ -214,11 +202,3 @@ module _ (p : Program) (std : Standard) (trace : Bool) (b : Configuration Standi
   ran_part (run.Stopped stop) ran = whole_written (stopped stop) b.table b.moves ran
   ran_part run.NoMemory ran = part_written cut.NoMemory ran
   ran_part run.Failed ran = part_written cut.Failed ran
-
-  pub ran_left_when_cut : (t : RunEnd) → Answer t → (t ≡ run.NoMemory) ⊎ (t ≡ run.Failed) → MainWasInterrupted std p b m
-  ran_left_when_cut run.Done ran (inl is) = cc
-  ran_left_when_cut run.Done ran (inr is) = cc
-  ran_left_when_cut (run.Stopped stop) ran (inl is) = cc
-  ran_left_when_cut (run.Stopped stop) ran (inr is) = cc
-  ran_left_when_cut run.NoMemory ran is = was_left cut.NoMemory ran
-  ran_left_when_cut run.Failed ran is = was_left cut.Failed ran

@@ -51,9 +51,9 @@ module _ (std : Standard) (trace : Bool) (p : Program) (b₀ b b' : Configuratio
       pub ends_no_memory : t ≡ turn.NoMemory → Ran p base all first b' m' o' run.NoMemory
       ends_no_memory is =
           let turned = subst (λ (u : Turn). Turned p base all first (since base all first own events standard tracing h).0 b.moves b' m' o' u) is at in
-          turned.0.interrupted
+          turned.interrupted
 
       pub ends_failed : t ≡ turn.Failed → Ran p base all first b' m' o' run.Failed
       ends_failed is =
           let turned = subst (λ (u : Turn). Turned p base all first (since base all first own events standard tracing h).0 b.moves b' m' o' u) is at in
-          turned.0.interrupted
+          turned.interrupted

@@ -48,18 +48,18 @@ module _ (std : Standard) (trace : Bool) (p : Program) (b b₁ : Configuration S
   abbrev s : Signature
   s = signature_at p.signatures found.sig
 
-  abbrev base : Base
-  base = served_base std p.signatures found.sig m
+  abbrev base : List ValueTree → Base
+  base arguments = served_base std p found arguments m b.table b.moves
 
   abbrev first : Beginning
   first = served_beginning std s m o₁ (served_tracing trace std p.signatures found.sig m)
 
-  module _ (begins : (arguments : List ValueTree) → ShowsCall std (signature_at cifs found.sig) arguments m → TookText (entry_lines trace std s (entry_at std s m) arguments) o o₁ × StandsAt p base (served_left std p found arguments m b.table b.moves) first [] [] b₁ m₁ o₁) where
+  module _ (begins : (arguments : List ValueTree) → ShowsCall std (signature_at cifs found.sig) arguments m → TookText (entry_lines trace std s (entry_at std s m) arguments) o o₁ × StandsAt p (base arguments) (served_left std p found arguments m b.table b.moves) first [] [] b₁ m₁ o₁) where
     -- the run stands after the call's entry
     pub served_between : (closure : Closure) (arguments : List ValueTree) → IsAtEntry std p b.table m closure arguments → CanGoOn std p traced_or_not b₁ m₁
     served_between closure arguments at =
         let shows = shows_found std p b.table m found closure arguments cifs are live at in
-        can_go_on std p base (served_left std p found arguments m b.table b.moves) first [] [] (λ t. served_tracing t std p.signatures found.sig m) b₁ m₁ o₁ refl (served_is_traced p std found.sig m) (begins arguments shows).1
+        can_go_on std p (base arguments) (served_left std p found arguments m b.table b.moves) first [] [] (λ t. served_tracing t std p.signatures found.sig m) b₁ m₁ o₁ refl (served_is_traced p std found arguments m b.table b.moves) (begins arguments shows).1
 
     -- THE CALL RAN
     pub call_served : (b' : Configuration Standing) (m' : State) (o' : SinkState) (t : RunEnd) → ((base : Base) (all : Remainder) (first : Beginning) (own : List TraceItem) (events : List Event) → base.standard ≡ std → IsTracingOf p base trace first.tracing → StandsAt p base all first own events b₁ m₁ o₁ → Ran p base all first b' m' o' t) → Served std trace p b m o b' m' o' t
@@ -70,7 +70,7 @@ module _ (std : Standard) (trace : Bool) (p : Program) (b b₁ : Configuration S
         let here : HasRun std trace p found arguments b m o b' m' o' t = record {
           told = o₁;
           entry = began.0;
-          ran = ran base (served_left std p found arguments m b.table b.moves) first [] [] refl (served_is_traced p std found.sig m trace) began.1;
+          ran = ran (base arguments) (served_left std p found arguments m b.table b.moves) first [] [] refl (served_is_traced p std found arguments m b.table b.moves trace) began.1;
         } in
         inl (subst (λ (c : Closure). HasRun std trace p c arguments b m o b' m' o' t) same here)
 
@@ -92,7 +92,7 @@ ran_target p began all found b m o run.Failed ran = ran.target
 module _ (std : Standard) (trace : Bool) (p : Program) (closure : Closure) (arguments : List ValueTree) (b b' : Configuration Standing) (m m' : State) (o o' : SinkState) (t : RunEnd) where
   target_is : HasRun std trace p closure arguments b m o b' m' o' t ⊎ HasNotRun std trace p closure arguments b m o b' m' o' t → m'.target ≡ std.target
   target_is (inl has) =
-      ran_target p (served_base std p.signatures closure.sig m) (served_left std p closure arguments m b.table b.moves) (served_beginning std (signature_at p.signatures closure.sig) m has.told (served_tracing trace std p.signatures closure.sig m)) b' m' o' t has.ran
+      ran_target p (served_base std p closure arguments m b.table b.moves) (served_left std p closure arguments m b.table b.moves) (served_beginning std (signature_at p.signatures closure.sig) m has.told (served_tracing trace std p.signatures closure.sig m)) b' m' o' t has.ran
   target_is (inr not) = not.cut_off.target
 
   pub target_stays : IsAtEntry std p b.table m closure arguments → Served std trace p b m o b' m' o' t → m'.target ≡ m.target

@@ -64,7 +64,7 @@ module _ (p : Program) (std : Standard) (needs : p.need ≡ need_of std) (agrees
     needs = needs;
     count = refl;
     top = omega arith;
-    come = comes_from p (main_base std) main_call no_closures most_moves refl;
+    come = comes_from p (main_base std) main_call no_closures most_moves refl refl;
     journal = refl;
     steps = refl;
     written = record { told = omega arith; took = took_nothing o };

@@ -44,7 +44,7 @@ module _ (std : Standard) (trace : Bool) (p : Program) (closure : Closure) (argu
         output told
     pub ran :
         Ran p
-        (served_base std p.signatures closure.sig m)
+        (served_base std p closure arguments m b.table b.moves)
         (served_left std p closure arguments m b.table b.moves)
         (served_beginning std (signature_at p.signatures closure.sig) m told
         (served_tracing trace std p.signatures closure.sig m))

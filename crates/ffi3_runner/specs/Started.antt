@@ -1,21 +1,15 @@
--- What a run of main begins with, and what it leaves where it returned, stopped or was interrupted.
-use Rattle.std.specs.Prelude.{◌≡◌, Bool, List, []}
+-- What a run of main begins with, and what it leaves where it returned or stopped.
+use Rattle.std.specs.Prelude.{◌≡◌, Bool, []}
 use Rattle.ffi3_type_rules.specs.declared.limits.TheConstants.{STACK_TOP}
 use Rattle.ffi3_place_rules.specs.Standard.{Standard}
-use Rattle.ffi3_run_rules.specs.Journal.{JournalOf, IsWhole}
 use Rattle.ffi3_run_rules.specs.Meaning.{Program, meaning_of}
-use Rattle.ffi3_run_rules.specs.Trace.{TraceItem}
-use Rattle.ffi3_turn_rules.specs.Remainder.{remainder_of}
-use Rattle.ffi3_turn_rules.specs.SoFar.{main_base}
 use Rattle.ffi3_turn_rules.specs.MainTracing.{main_tracing}
 use Rattle.ffi3_machine.specs.State.{State, begun_stack}
-use Rattle.ffi3_closures.specs.Slots.{HoldsMap}
 use Rattle.ffi3_io.specs.Sink.{SinkState}
 use Rattle.ffi3_ask.specs.declared.standing.Standing.{Standing}
 use Rattle.ffi3_configuration.specs.declared.configuration.Configuration.{Configuration}
 use Rattle.ffi3_configuration.specs.Between.{Beginning}
 use Rattle.ffi3_configuration.specs.Served.{IsIdle}
-use Rattle.ffi3_configuration.specs.Turned.{IsLeft}
 
 -- what a run of main finds, and how it is traced
 abbrev pub main_beginning : (trace : Bool) → Standard → SinkState → Beginning
@@ -42,11 +36,3 @@ pub record MainHasReturned (p : Program) (b : Configuration Standing) (m : State
 pub record MainHasStopped (p : Program) (b : Configuration Standing) : Type 0 where
   pub closures : b.table ≡ (meaning_of p).closures
   pub moves : b.moves ≡ (meaning_of p).moves
-
--- AFTER AN INTERRUPTION the journal answers to what happened, the code is that of the closures that are left, and with these and the moves that are left the rest is left to do.
-pub record MainWasInterrupted (std : Standard) (p : Program) (b : Configuration Standing) (m : State) : Type 0 where
-  pub happened : List TraceItem
-  pub journal : JournalOf std p.signatures happened m.events
-  pub whole : IsWhole happened m.events
-  pub left : IsLeft p (main_base std) (remainder_of (meaning_of p)) happened b.table b.moves
-  pub code : HoldsMap std.target b.table m.code

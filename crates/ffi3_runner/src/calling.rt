@@ -1,5 +1,5 @@
 //! What the innermost activation asks for, and a call.
-ghost use Rattle.std.specs.Prelude.{◌≡◌, ℕ, ◌<◌, IfOk, List, None, Some, length, reverse, suc, true};
+ghost use Rattle.std.specs.Prelude.{◌≡◌, ℕ, ◌<◌, ◌≤◌, IfOk, List, None, Some, length, reverse, suc, true};
 ghost use Rattle.ffi3_type_rules.specs.Signature.{signature_at};
 ghost use Rattle.ffi3_type_rules.specs.Tree.{trees_of};
 ghost use Rattle.ffi3_type_rules.specs.Value.{all_fit, values_of};
@@ -20,7 +20,8 @@ ghost use Rattle.ffi3_ask.specs.Stands as ask;
 ghost use Rattle.ffi3_configuration.specs.Between.{Beginning, IsAsking, run_state};
 ghost use Rattle.ffi3_configuration.specs.Activations.{call_inside, calls_of};
 ghost use Rattle.ffi3_configuration.specs.Stack.{HoldsCalls};
-ghost use Rattle.ffi3_configuration.specs.Turned.{Turned};
+ghost use Rattle.ffi3_configuration.specs.Turned.{KeepsClosures, Turned};
+ghost use Rattle.ffi3_machine.specs.State.{stack_at};
 ghost use Rattle.ffi3_runner.specs.Agreeing.{PositionsAgree, AllWillStand, IsStanding, WillStand, seen_by};
 ghost use Rattle.ffi3_runner.specs.Running.{IsPrepared, program};
 
@@ -110,6 +111,9 @@ impl<'a, A: Abi> Prepared<'a, A> {
             Turned p base all first own (suc configuration.old.moves) configuration.new machine.new (O.state output.new) result }
         ensures standing { result ≡ Turn.More →
             PositionsAgree self.now.script.now (handed title meaning signatures self.now.natives.now.items) self.now.cifs machine.new configuration.new }
+        ensures above { result ≡ Turn.More →
+            (address count : ℕ) → machine.old.sp ≤ address → stack_at address count machine.new ≡ stack_at address count machine.old }
+        ensures kept { result ≡ Turn.Failed → KeepsClosures configuration.old configuration.new }
     {
         let closure = match configuration.callee(machine, &self.cifs, ptr, sig) {
             Ok(closure) => closure,

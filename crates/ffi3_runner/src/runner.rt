@@ -1,5 +1,5 @@
 //! The runner: what a run is prepared with, and its configuration.
-ghost use Rattle.std.specs.Prelude.{◌≡◌, ◌*◌, ◌%◌, ◌<◌, ◌≤◌, ◌^◌, ◌⊎◌, Bool, IfOk, List, [], false, length, suc, true};
+ghost use Rattle.std.specs.Prelude.{◌≡◌, ◌*◌, ◌%◌, ◌<◌, ◌≤◌, ◌^◌, Bool, IfOk, List, [], false, length, suc, true};
 ghost use Rattle.ffi3_type_rules.specs.Value.{ValueTree, void_value};
 ghost use Rattle.ffi3_run_rules.specs.Meaning.{meaning_of, returned, stopped};
 ghost use Rattle.ffi3_run_rules.specs.declared.Closure.{Closure};
@@ -15,14 +15,15 @@ ghost use Rattle.ffi3_io.specs.Sink.{Rose, SinkState};
 ghost use Rattle.ffi3_ask.specs.Handed.{handed, signatures_in};
 ghost use Rattle.ffi3_configuration.specs.CallSteps.{call_steps, returns_in};
 ghost use Rattle.ffi3_configuration.specs.Served.{IsIdle};
-ghost use Rattle.ffi3_configuration.specs.Turned.{StandsAt};
+ghost use Rattle.ffi3_configuration.specs.Stack.{WritesInLast};
+ghost use Rattle.ffi3_configuration.specs.Turned.{HasFailed, StandsAt};
 ghost use Rattle.ffi3_runner.specs.Agreeing.{PositionsAgree};
 ghost use Rattle.ffi3_runner.specs.Ran.{TurnSays};
 ghost use Rattle.ffi3_runner.specs.Ready.{CanGoOn, CanGoOnWith, StillCanGoOn, traced_or_not};
 ghost use Rattle.ffi3_runner.specs.RunInterrupted.{RunWasInterrupted};
 ghost use Rattle.ffi3_runner.specs.RunMatches.{RunMatches, WrotePart};
 ghost use Rattle.ffi3_runner.specs.Serving.{IsAtEntry, Served};
-ghost use Rattle.ffi3_runner.specs.Started.{MainHasReturned, MainHasStopped, MainWasInterrupted, main_beginning};
+ghost use Rattle.ffi3_runner.specs.Started.{MainHasReturned, MainHasStopped, main_beginning};
 ghost use Rattle.ffi3_runner.specs.Running.{IsNew, IsPrepared, program};
 
 use crate::prepare::{Prepared, prepare_all};
@@ -129,11 +130,13 @@ impl<'a, A: Abi> Runner<'a, A> {
     /// Does one move of the innermost activation. It is counted, and none is asked for where none
     /// is left. With `trace` an entry or a return is told as soon as it is recorded, in two lines.
     ///
-    /// `More` and `Done` count one move, and so does `Stopped`, but at the move limit, where none is
-    /// left. What happened is this move's alone, since closures and moves are then the direct
-    /// meaning's: one item of the trace at most; at `Done` the return of the call that is served, or
-    /// nothing where main returns; at `Stopped` the stop. At `NoMemory` and `Failed` one move at most
-    /// is counted, and one item at most happened.
+    /// `More` and `Done` count one move, and so do `Stopped` and `Failed`, but at the move limit,
+    /// where none is left. What happened is this move's alone, since closures and moves are then the
+    /// direct meaning's: one item of the trace at most; at `Done` the return of the call that is
+    /// served, or nothing where main returns; at `Stopped` the stop. At `Failed` closures are as they
+    /// were. At `NoMemory` they are those before the move or after it, which is counted or not; at
+    /// both one item at most happened. `More` writes no byte of the stack but those of the call that
+    /// is entered or left, and below.
     ///
     /// Nothing is asked of the output: between two turns a caller may write to it, hand in another,
     /// and change `trace`.
@@ -148,6 +151,8 @@ impl<'a, A: Abi> Runner<'a, A> {
         ensures between { StillCanGoOn A.standard (program A.standard self.old.prepared.script.now (handed title meaning signatures self.old.prepared.natives.now.items)) trace
             self.old.configuration machine.old self.new.configuration machine.new result }
         ensures counted { result ≡ Turn.More → self.old.configuration.moves ≡ suc self.new.configuration.moves }
+        ensures stack { result ≡ Turn.More → WritesInLast machine.old machine.new }
+        ensures failed { result ≡ Turn.Failed → HasFailed self.old.configuration self.new.configuration }
         ensures prepared { self.new.prepared ≡ self.old.prepared }
         ensures going { result ≡ Turn.More → self.new.over ≡ self.old.over }
         ensures over { (result ≡ Turn.More → ⊥) → self.new.over ≡ true }
@@ -192,10 +197,10 @@ impl<'a, A: Abi> Runner<'a, A> {
         ensures failed { result ≡ RunEnd.Failed → Rose (O.state output.old).faults (O.state output.new).faults }
         ensures cut_by_memory { result ≡ RunEnd.NoMemory →
             RunWasInterrupted (main_tracing trace A.standard) A.standard (program A.standard self.old.prepared.script.now (handed title meaning signatures self.old.prepared.natives.now.items)) false
-            (O.state output.old) (O.state output.new) machine.new }
+            (O.state output.old) (O.state output.new) machine.new self.new.configuration.table self.new.configuration.moves }
         ensures cut_by_write { result ≡ RunEnd.Failed →
             RunWasInterrupted (main_tracing trace A.standard) A.standard (program A.standard self.old.prepared.script.now (handed title meaning signatures self.old.prepared.natives.now.items)) true
-            (O.state output.old) (O.state output.new) machine.new }
+            (O.state output.old) (O.state output.new) machine.new self.new.configuration.table self.new.configuration.moves }
         ensures never_falls { (O.state output.old).faults ≤ (O.state output.new).faults }
         ensures part { WrotePart (main_tracing trace A.standard) (program A.standard self.old.prepared.script.now (handed title meaning signatures self.old.prepared.natives.now.items))
             (O.state output.old) (O.state output.new) }
@@ -203,8 +208,6 @@ impl<'a, A: Abi> Runner<'a, A> {
             MainHasReturned (program A.standard self.old.prepared.script.now (handed title meaning signatures self.old.prepared.natives.now.items)) self.new.configuration machine.new }
         ensures left_at_stop { (stop : Stop) → result ≡ RunEnd.Stopped stop →
             MainHasStopped (program A.standard self.old.prepared.script.now (handed title meaning signatures self.old.prepared.natives.now.items)) self.new.configuration }
-        ensures left_when_cut { (result ≡ RunEnd.NoMemory) ⊎ (result ≡ RunEnd.Failed) →
-            MainWasInterrupted A.standard (program A.standard self.old.prepared.script.now (handed title meaning signatures self.old.prepared.natives.now.items)) self.new.configuration machine.new }
         ensures prepared { self.new.prepared ≡ self.old.prepared }
         ensures over { self.new.over ≡ true }
     {

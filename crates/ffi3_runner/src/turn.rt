@@ -7,7 +7,8 @@ ghost use Rattle.ffi3_turn_rules.specs.SoFar.{Base};
 ghost use Rattle.ffi3_turn_rules.specs.TracingOf.{IsTracingOf};
 ghost use Rattle.ffi3_ask.specs.Handed.{handed};
 ghost use Rattle.ffi3_configuration.specs.Between.{Beginning};
-ghost use Rattle.ffi3_configuration.specs.Turned.{StandsAt};
+ghost use Rattle.ffi3_configuration.specs.Stack.{WritesInLast};
+ghost use Rattle.ffi3_configuration.specs.Turned.{HasFailed, StandsAt};
 ghost use Rattle.ffi3_runner.specs.Agreeing.{PositionsAgree};
 ghost use Rattle.ffi3_runner.specs.Ran.{TurnSays};
 ghost use Rattle.ffi3_runner.specs.Ready.{CanGoOnWith, StillCanGoOn};
@@ -39,6 +40,8 @@ impl<'a, A: Abi> Prepared<'a, A> {
         ensures between { StillCanGoOn A.standard (program A.standard self.now.script.now (handed title meaning signatures self.now.natives.now.items)) trace
             configuration.old machine.old configuration.new machine.new result }
         ensures counted { result ≡ Turn.More → configuration.old.moves ≡ suc configuration.new.moves }
+        ensures stack { result ≡ Turn.More → WritesInLast machine.old machine.new }
+        ensures failed { result ≡ Turn.Failed → HasFailed configuration.old configuration.new }
     {
         self.one_move(configuration, machine, output, trace)
     }
@@ -62,6 +65,8 @@ impl<'a, A: Abi> Prepared<'a, A> {
             configuration.old machine.old (O.state output.old) configuration.new machine.new (O.state output.new) result }
         ensures standing { result ≡ Turn.More →
             PositionsAgree self.now.script.now (handed title meaning signatures self.now.natives.now.items) self.now.cifs machine.new configuration.new }
+        ensures stack { result ≡ Turn.More → WritesInLast machine.old machine.new }
+        ensures failed { result ≡ Turn.Failed → HasFailed configuration.old configuration.new }
     {
         let Some(mut current) = configuration.innermost.take() else {
             unreachable!()

@@ -10,13 +10,14 @@ use Rattle.ffi3_run_rules.specs.Meaning.{Program, Activation, Effect, ends, prin
 use Rattle.ffi3_run_rules.specs.Trace.{TraceItem, Enter, Line, Leave, trace_of}
 use Rattle.ffi3_run_rules.specs.Journal.{Entered, stack_top, IsEntry, IsReturn, IsWhole, JournalOf}
 use Rattle.ffi3_run_rules.specs.Lines.{at_start, Tracing, text, text_of_run}
-use Rattle.ffi3_turn_rules.specs.Remainder.{Remainder, remainder_of, before, only, Suspended, rest, alone, inside, awaited}
-use Rattle.ffi3_turn_rules.specs.Step.{acts_on}
+use Rattle.ffi3_turn_rules.specs.Remainder.{Remainder, remainder_of, before, only, Suspended, CallStack, rest, alone, inside, awaited}
+use Rattle.ffi3_turn_rules.specs.Step.{on, acts_on, step_of}
+use Rattle.ffi3_turn_rules.specs.Path.{Position, IsOnPath, path_begins, path_goes_on}
 use Rattle.ffi3_turn_rules.specs.Depth.{depth_after, deepest}
 use Rattle.ffi3_turn_rules.specs.Nested.{depth_at, depth_of}
 use Rattle.ffi3_turn_rules.specs.Open.{AnswersTo, open_calls, unreturned}
 use Rattle.ffi3_turn_rules.specs.TraceInterrupted.{TraceWasInterrupted}
-use Rattle.ffi3_turn_rules.specs.SoFar.{Base, main_base, text_start, text_after, Position, left_at_position, open_at, Answer, HasComeTo, IsOver, IsInterrupted}
+use Rattle.ffi3_turn_rules.specs.SoFar.{Base, main_base, text_start, text_after, left_at_position, open_at, Answer, HasComeTo, IsOver, IsInterrupted}
 use Rattle.ffi3_turn_rules.proofs.Steps.{rest_prints, rest_goes_on, rest_enters, rest_returns, follows_then}
 use Rattle.ffi3_turn_rules.proofs.Depths.{depth_at-append, deepest-append, ends_below}
 use Rattle.ffi3_turn_rules.proofs.Nested.{enters_left, nested_on}
@@ -41,8 +42,9 @@ deepest_same p depth own h no_deeper =
 
 -- ---- the beginning
 
-pub comes_from : (p : Program) (b : Base) (a : Activation) (closures : Closures) (moves : ℕ) → a.left ≡ b.room → HasComeTo p b (rest p b.bottom (alone a) closures moves) [] [] (record { call_stack = alone a; closures = closures; moves = moves })
-comes_from p b a closures moves room = record {
+pub comes_from : (p : Program) (b : Base) (a : Activation) (closures : Closures) (moves : ℕ) → b.start ≡ record { call_stack = alone a; closures = closures; moves = moves } → a.left ≡ b.room → HasComeTo p b (rest p b.bottom (alone a) closures moves) [] [] (record { call_stack = alone a; closures = closures; moves = moves })
+comes_from p b a closures moves starts room = record {
+  path = subst (λ (x : Position). IsOnPath p b.bottom b.start [] x) starts path_begins;
   follows = refl;
   answers = nothing_yet b.standard b.top b.held p.signatures b.count (open_at p b [] []);
   inner = [];
@@ -65,8 +67,14 @@ module _ (p : Program) (b : Base) (all : Remainder) (own : List TraceItem) (even
   abbrev asks : Effect → Type 0
   asks d = effect_of p a closures (next_move p a) ≡ d
 
+  -- the path goes on by the step
+  one_step : (outer : List Suspended) (d : Effect) (more : List TraceItem) (call_stack : CallStack) (closures' : Closures) (all_done : List TraceItem) → own ++ more ≡ all_done → HasComeTo p b all own events (at_call_stack outer) → asks d → step_of b.bottom a outer closures d ≡ on more call_stack closures' → IsOnPath p b.bottom b.start all_done (record { call_stack = call_stack; closures = closures'; moves = moves })
+  one_step outer d more call_stack closures' all_done is_all h is leads =
+      subst (λ (l : List TraceItem). IsOnPath p b.bottom b.start l (record { call_stack = call_stack; closures = closures'; moves = moves })) is_all (path_goes_on own more (at_call_stack outer) call_stack closures' moves h.path refl (ap (step_of b.bottom a outer closures) is ∙ leads))
+
   pub comes_on : (outer : List Suspended) (r : ValueTree) (closures' : Closures) → HasComeTo p b all own events (at_call_stack outer) → asks (goes_on r closures') → HasComeTo p b all own events (record { call_stack = acts_on a r outer; closures = closures'; moves = moves })
   comes_on outer r closures' h is = record {
+    path = one_step outer (goes_on r closures') [] (acts_on a r outer) closures' own (append-nil own) h is refl;
     follows = h.follows ∙ ap (before own) (rest_goes_on p b.bottom a outer closures moves r closures' is);
     answers = h.answers;
     inner = h.inner;
@@ -82,6 +90,7 @@ module _ (p : Program) (b : Base) (all : Remainder) (own : List TraceItem) (even
       let both = answers_then b.standard b.top b.held p.signatures b.count (open_at p b [] []) calls calls own (Line t v ∷ []) events [] h.answers (one_line b.standard b.top b.held p.signatures (b.count + length events) calls t v) in
       let P : List Event → Type 0 = λ l. Answer p b (own ++ Line t v ∷ []) l (open_at p b outer events) in
       record {
+        path = one_step outer (prints t v) (Line t v ∷ []) (acts_on a void_value outer) closures (own ++ Line t v ∷ []) refl h is refl;
         follows = follows_then all (left_at_position p b (at_call_stack outer)) (rest p b.bottom (acts_on a void_value outer) closures moves) own (Line t v ∷ []) h.follows (rest_prints p b.bottom a outer closures moves t v is);
         answers = subst P (append-nil events) both;
         inner = h.inner;
@@ -101,6 +110,7 @@ module _ (p : Program) (b : Base) (all : Remainder) (own : List TraceItem) (even
       let P : List Entered → Type 0 = λ l. Answer p b (own ++ Enter ptr sig callee.arguments ∷ []) (events ++ e ∷ []) l in
       let one = unreturned_enter b.entries events e entry.kind in
       record {
+        path = one_step outer (enters ptr sig callee) next (inside callee sig a outer) closures (own ++ next) refl h is refl;
         follows = follows_then all (left_at_position p b (at_call_stack outer)) (rest p b.bottom (inside callee sig a outer) closures moves) own next h.follows (rest_enters p b.bottom a outer closures moves ptr sig callee is);
         answers = subst P (sym opens) both;
         inner = e ∷ h.inner;
@@ -122,6 +132,7 @@ module _ (p : Program) (b : Base) (all : Remainder) (own : List TraceItem) (even
       let popped = without_first h.inner b.entries entry others s outer (sym h.entries_are ∙ top) h.counted in
       let Q : List Event → Type 0 = λ l. Answer p b (own ++ Leave s.signature v ∷ []) (events ++ e ∷ []) (open_calls p.signatures (awaited b.bottom outer) l) in
       record {
+        path = one_step (s ∷ outer) (ends v) next (acts_on s.activation v outer) closures (own ++ next) refl h is refl;
         follows = follows_then all (left_at_position p b (at_call_stack (s ∷ outer))) (rest p b.bottom (acts_on s.activation v outer) closures moves) own next h.follows (rest_returns p b.bottom a outer closures moves s v is);
         answers = subst Q (sym one) both;
         inner = popped.0;
@@ -168,18 +179,18 @@ module _ (p : Program) (b : Base) (all : Remainder) (own : List TraceItem) (even
       }
 
   -- the run is interrupted in what is left
-  pub comes_to_cut : (tracing : Tracing) (in_line : Bool) (happened : List TraceItem) (written : List ℕ) (more : List Event) → TraceWasInterrupted b.standard b.top b.held tracing p.signatures (text_after p b own) (b.count + length events) (open_at p b x.call_stack.suspended events) in_line (left_at_position p b x).trace happened written more → IsInterrupted tracing p b in_line all (own ++ happened) (text tracing p.signatures (text_start p b) own ++ written) (events ++ more)
-  comes_to_cut tracing in_line happened written more cut =
-      let P : List TraceItem → Type 0 = λ l. TraceWasInterrupted b.standard b.top b.held tracing p.signatures (text_start p b) b.count (open_at p b [] []) in_line l (own ++ happened) (text tracing p.signatures (text_start p b) own ++ written) (events ++ more) in
-      subst P (sym (ap (λ (l : Remainder). l.trace) h.follows)) (cut_then b.standard b.top b.held tracing p.signatures in_line (text_start p b) b.count (open_at p b [] []) (open_at p b x.call_stack.suspended events) own (left_at_position p b x).trace happened events more written h.answers cut)
+  pub comes_to_cut : (tracing : Tracing) (in_line recorded : Bool) (done later happened : List TraceItem) (written : List ℕ) (more : List Event) → TraceWasInterrupted b.standard b.top b.held tracing p.signatures (text_after p b own) (b.count + length events) (open_at p b x.call_stack.suspended events) in_line recorded (left_at_position p b x).trace done later happened written more → IsInterrupted tracing p b in_line recorded all (own ++ done) later (own ++ happened) (text tracing p.signatures (text_start p b) own ++ written) (events ++ more)
+  comes_to_cut tracing in_line recorded done later happened written more cut =
+      let P : List TraceItem → Type 0 = λ l. TraceWasInterrupted b.standard b.top b.held tracing p.signatures (text_start p b) b.count (open_at p b [] []) in_line recorded l (own ++ done) later (own ++ happened) (text tracing p.signatures (text_start p b) own ++ written) (events ++ more) in
+      subst P (sym (ap (λ (l : Remainder). l.trace) h.follows)) (cut_then b.standard b.top b.held tracing p.signatures in_line (text_start p b) b.count (open_at p b [] []) (open_at p b x.call_stack.suspended events) recorded own (left_at_position p b x).trace done later happened events more written h.answers cut)
 
 -- A RUN OF MAIN THAT IS OVER has the journal of its program's direct meaning, whole.
 pub main_is_over : (p : Program) (std : Standard) (end : End) (closures : Closures) (moves : ℕ) (events : List Event) → IsOver p (main_base std) (remainder_of (meaning_of p)) end closures moves events → ((meaning_of p).end ≡ end) × ((meaning_of p).closures ≡ closures) × JournalOf std p.signatures (trace_of p) events × IsWhole (trace_of p) events
 main_is_over p std end closures moves events h = (h.end_is, h.closures_are, h.answers.answers, h.answers.whole)
 
 -- A RUN OF MAIN THAT WAS INTERRUPTED has a first part of the text, and the journal as far as it goes.
-pub main_was_cut : (tracing : Tracing) (p : Program) (std : Standard) (in_line : Bool) (happened : List TraceItem) (written : List ℕ) (events : List Event) → IsInterrupted tracing p (main_base std) in_line (remainder_of (meaning_of p)) happened written events → JournalOf std p.signatures (trace_of p) events × ((unwritten : List ℕ) × (text_of_run tracing p ≡ written ++ unwritten))
-main_was_cut tracing p std in_line happened written events cut = (
-  cut_journal std stack_top (λ at. 0) tracing p.signatures in_line at_start 0 [] (trace_of p) happened written events cut,
-  cut_text std stack_top (λ at. 0) tracing p.signatures in_line at_start 0 [] (trace_of p) happened written events cut,
+pub main_was_cut : (tracing : Tracing) (p : Program) (std : Standard) (in_line recorded : Bool) (done later happened : List TraceItem) (written : List ℕ) (events : List Event) → IsInterrupted tracing p (main_base std) in_line recorded (remainder_of (meaning_of p)) done later happened written events → JournalOf std p.signatures (trace_of p) events × ((unwritten : List ℕ) × (text_of_run tracing p ≡ written ++ unwritten))
+main_was_cut tracing p std in_line recorded done later happened written events cut = (
+  cut_journal std stack_top (λ at. 0) tracing p.signatures in_line at_start 0 [] recorded (trace_of p) done later happened written events cut,
+  cut_text std stack_top (λ at. 0) tracing p.signatures in_line at_start 0 [] recorded (trace_of p) done later happened written events cut,
 )

@@ -17,7 +17,8 @@ use Rattle.ffi3_turn_rules.specs.Step.{acts_on}
 use Rattle.ffi3_turn_rules.specs.Open.{AnswersTo, open_calls, unreturned}
 use Rattle.ffi3_turn_rules.specs.Interrupted.{IsPart, HasItsEvent}
 use Rattle.ffi3_turn_rules.specs.TraceInterrupted.{TraceWasInterrupted}
-use Rattle.ffi3_turn_rules.specs.SoFar.{Base, text_start, text_after, Position, left_at_position, open_at, HasComeTo, IsOver, IsInterrupted}
+use Rattle.ffi3_turn_rules.specs.SoFar.{Base, text_start, text_after, left_at_position, open_at, HasComeTo, IsOver, IsInterrupted}
+use Rattle.ffi3_turn_rules.specs.Path.{Position}
 use Rattle.ffi3_turn_rules.proofs.Steps.{rest_at_limit, rest_stops, rest_prints, rest_enters, rest_returns, rest_ends, rest_leaves}
 use Rattle.ffi3_turn_rules.proofs.Opens.{nothing_yet, one_stop, one_entry, one_return}
 use Rattle.ffi3_turn_rules.proofs.Interruptions.{cut_unrecorded, cut_recorded, no_event_yet}
@@ -36,10 +37,10 @@ module _ (p : Program) (b : Base) (all : Remainder) (own : List TraceItem) (even
       over_as_it_is (stopped MoveLimit) closures 0 (comes_to_end p b all own events x h (StopLine MoveLimit ∷ []) [] (stopped MoveLimit) closures 0 calls (rest_at_limit p b.bottom call_stack closures) (one_stop b.standard b.top b.held p.signatures (b.count + length events) calls MoveLimit))
 
   -- interrupted with nothing more done, and without another event
-  as_it_is : (tracing : Tracing) (in_line : Bool) (happened : List TraceItem) (written : List ℕ) (xs : List Event) → IsInterrupted tracing p b in_line all (happened ++ []) written (xs ++ []) → IsInterrupted tracing p b in_line all happened written xs
-  as_it_is tracing in_line happened written xs k =
-      let P : List TraceItem → Type 0 = λ l. IsInterrupted tracing p b in_line all l written (xs ++ []) in
-      let Q : List Event → Type 0 = λ l. IsInterrupted tracing p b in_line all happened written l in
+  as_it_is : (tracing : Tracing) (in_line recorded : Bool) (later happened : List TraceItem) (written : List ℕ) (xs : List Event) → IsInterrupted tracing p b in_line recorded all (happened ++ []) later (happened ++ []) written (xs ++ []) → IsInterrupted tracing p b in_line recorded all happened later happened written xs
+  as_it_is tracing in_line recorded later happened written xs k =
+      let P : List TraceItem → Type 0 = λ l. IsInterrupted tracing p b in_line recorded all l later l written (xs ++ []) in
+      let Q : List Event → Type 0 = λ l. IsInterrupted tracing p b in_line recorded all happened later happened written l in
       subst Q (append-nil xs) (subst P (append-nil happened) k)
 
   -- ---- interrupted before or in the next item, from where its run has come to
@@ -53,30 +54,31 @@ module _ (p : Program) (b : Base) (all : Remainder) (own : List TraceItem) (even
     opened = open_at p b x.call_stack.suspended events
 
     -- between two moves, for want of memory
-    pub cut_here : IsInterrupted tracing p b false all own so_far events
+    pub cut_here : IsInterrupted tracing p b false false all own (left_at_position p b x).trace own so_far events
     cut_here =
         let left = (left_at_position p b x).trace in
-        let k = comes_to_cut p b all own events x h tracing false [] [] [] (cut_unrecorded b.standard b.top b.held tracing p.signatures false (text_after p b own) (b.count + length events) opened left 0 refl (no_event_yet left)) in
-        as_it_is tracing false own so_far events (subst (λ (l : List ℕ). IsInterrupted tracing p b false all (own ++ []) l (events ++ [])) (append-nil so_far) k)
+        let k = comes_to_cut p b all own events x h tracing false false [] left [] [] [] (cut_unrecorded b.standard b.top b.held tracing p.signatures false (text_after p b own) (b.count + length events) opened left 0 refl (no_event_yet left)) in
+        as_it_is tracing false false left own so_far events (subst (λ (l : List ℕ). IsInterrupted tracing p b false false all (own ++ []) left (own ++ []) l (events ++ [])) (append-nil so_far) k)
 
     -- in the lines of the next item, which has no event
-    pub cut_in_item : (next : TraceItem) (later : Remainder) (part : ℕ) → left_at_position p b x ≡ record later { trace = next ∷ later.trace } → part < length (item_text tracing p.signatures (text_after p b own) next) → HasItsEvent false true (next ∷ later.trace) → IsInterrupted tracing p b true all own (so_far ++ take part (item_text tracing p.signatures (text_after p b own) next)) events
+    pub cut_in_item : (next : TraceItem) (later : Remainder) (part : ℕ) → left_at_position p b x ≡ record later { trace = next ∷ later.trace } → part < length (item_text tracing p.signatures (text_after p b own) next) → HasItsEvent false true (next ∷ later.trace) → IsInterrupted tracing p b true false all own (next ∷ later.trace) own (so_far ++ take part (item_text tracing p.signatures (text_after p b own) next)) events
     cut_in_item next later part is short its_event =
         let line = item_text tracing p.signatures (text_after p b own) next in
-        let P : List TraceItem → Type 0 = λ l. TraceWasInterrupted b.standard b.top b.held tracing p.signatures (text_after p b own) (b.count + length events) opened true l [] (take part line) [] in
+        let P : List TraceItem → Type 0 = λ l. TraceWasInterrupted b.standard b.top b.held tracing p.signatures (text_after p b own) (b.count + length events) opened true false l [] (next ∷ later.trace) [] (take part line) [] in
         let cut = cut_unrecorded b.standard b.top b.held tracing p.signatures true (text_after p b own) (b.count + length events) opened (next ∷ later.trace) part short its_event in
-        as_it_is tracing true own (so_far ++ take part line) events (comes_to_cut p b all own events x h tracing true [] (take part line) [] (subst P (sym (ap (λ (l : Remainder). l.trace) is)) cut))
+        as_it_is tracing true false (next ∷ later.trace) own (so_far ++ take part line) events (comes_to_cut p b all own events x h tracing true false [] (next ∷ later.trace) [] (take part line) [] (subst P (sym (ap (λ (l : Remainder). l.trace) is)) cut))
 
     -- after the event of the next item, in its lines or before them
-    pub cut_after_event : (in_line : Bool) (next : TraceItem) (later : Remainder) (e : Event) (calls' : List Entered) (part : ℕ) → left_at_position p b x ≡ record later { trace = next ∷ later.trace } → AnswersTo b.standard b.top b.held p.signatures (b.count + length events) opened (next ∷ []) (e ∷ []) calls' → IsPart in_line part (length (item_text tracing p.signatures (text_after p b own) next)) → HasItsEvent true in_line (next ∷ later.trace) → IsInterrupted tracing p b in_line all (own ++ next ∷ []) (so_far ++ take part (item_text tracing p.signatures (text_after p b own) next)) (events ++ e ∷ [])
+    pub cut_after_event : (in_line : Bool) (next : TraceItem) (later : Remainder) (e : Event) (calls' : List Entered) (part : ℕ) → left_at_position p b x ≡ record later { trace = next ∷ later.trace } → AnswersTo b.standard b.top b.held p.signatures (b.count + length events) opened (next ∷ []) (e ∷ []) calls' → IsPart in_line part (length (item_text tracing p.signatures (text_after p b own) next)) → HasItsEvent true in_line (next ∷ later.trace) → IsInterrupted tracing p b in_line true all own (next ∷ later.trace) (own ++ next ∷ []) (so_far ++ take part (item_text tracing p.signatures (text_after p b own) next)) (events ++ e ∷ [])
     cut_after_event in_line next later e calls' part is answers proper its_event =
         let line = item_text tracing p.signatures (text_after p b own) next in
-        let P : List TraceItem → Type 0 = λ l. TraceWasInterrupted b.standard b.top b.held tracing p.signatures (text_after p b own) (b.count + length events) opened in_line l (next ∷ []) (take part line) (e ∷ []) in
+        let P : List TraceItem → Type 0 = λ l. TraceWasInterrupted b.standard b.top b.held tracing p.signatures (text_after p b own) (b.count + length events) opened in_line true l [] (next ∷ later.trace) (next ∷ []) (take part line) (e ∷ []) in
+        let Q : List TraceItem → Type 0 = λ l. IsInterrupted tracing p b in_line true all l (next ∷ later.trace) (own ++ next ∷ []) (so_far ++ take part line) (events ++ e ∷ []) in
         let cut = cut_recorded b.standard b.top b.held tracing p.signatures in_line (text_after p b own) (b.count + length events) opened calls' next later.trace e part proper its_event answers in
-        comes_to_cut p b all own events x h tracing in_line (next ∷ []) (take part line) (e ∷ []) (subst P (sym (ap (λ (l : Remainder). l.trace) is)) cut)
+        subst Q (append-nil own) (comes_to_cut p b all own events x h tracing in_line true [] (next ∷ later.trace) (next ∷ []) (take part line) (e ∷ []) (subst P (sym (ap (λ (l : Remainder). l.trace) is)) cut))
 
   -- no move is left, and the run is interrupted in the line that says so
-  pub cut_in_limit : (tracing : Tracing) (call_stack : CallStack) (closures : Closures) (part : ℕ) → HasComeTo p b all own events (record { call_stack = call_stack; closures = closures; moves = 0 }) → part < length (a_line (stop_text p.signatures MoveLimit)) → IsInterrupted tracing p b true all own (text tracing p.signatures (text_start p b) own ++ take part (a_line (stop_text p.signatures MoveLimit))) events
+  pub cut_in_limit : (tracing : Tracing) (call_stack : CallStack) (closures : Closures) (part : ℕ) → HasComeTo p b all own events (record { call_stack = call_stack; closures = closures; moves = 0 }) → part < length (a_line (stop_text p.signatures MoveLimit)) → IsInterrupted tracing p b true false all own (StopLine MoveLimit ∷ []) own (text tracing p.signatures (text_start p b) own ++ take part (a_line (stop_text p.signatures MoveLimit))) events
   cut_in_limit tracing call_stack closures part h short =
       cut_in_item tracing (record { call_stack = call_stack; closures = closures; moves = 0 }) h (StopLine MoveLimit) (only [] (stopped MoveLimit) closures 0) part (rest_at_limit p b.bottom call_stack closures) short refl
 
@@ -105,21 +107,21 @@ module _ (p : Program) (b : Base) (all : Remainder) (own : List TraceItem) (even
       written more = text tracing p.signatures (text_start p b) own ++ more
 
       -- in a line
-      pub cut_in_print : (t : Tree) (v : ValueTree) (part : ℕ) → does (prints t v) → part < length (a_line (value_text_of t v)) → IsInterrupted tracing p b true all own (written (take part (a_line (value_text_of t v)))) events
+      pub cut_in_print : (t : Tree) (v : ValueTree) (part : ℕ) → does (prints t v) → part < length (a_line (value_text_of t v)) → IsInterrupted tracing p b true false all own (Line t v ∷ (rest p b.bottom (acts_on a void_value outer) closures moves).trace) own (written (take part (a_line (value_text_of t v)))) events
       cut_in_print t v part is short =
           cut_in_item tracing here h (Line t v) (rest p b.bottom (acts_on a void_value outer) closures moves) part (rest_prints p b.bottom a outer closures moves t v is) short refl
 
-      pub cut_in_stop : (stop : Stop) (part : ℕ) → does (stops stop) → part < length (a_line (stop_text p.signatures stop)) → IsInterrupted tracing p b true all own (written (take part (a_line (stop_text p.signatures stop)))) events
+      pub cut_in_stop : (stop : Stop) (part : ℕ) → does (stops stop) → part < length (a_line (stop_text p.signatures stop)) → IsInterrupted tracing p b true false all own (StopLine stop ∷ []) own (written (take part (a_line (stop_text p.signatures stop)))) events
       cut_in_stop stop part is short =
           cut_in_item tracing here h (StopLine stop) (only [] (stopped stop) closures moves) part (rest_stops p b.bottom a outer closures moves stop is) short refl
 
       -- after an entry, in the lines that tell it or before them
-      pub cut_in_entry : (in_line : Bool) (ptr sig : ℕ) (callee : Activation) (e : Event) (part : ℕ) → does (enters ptr sig callee) → IsEntry b.standard b.top b.held calls count ptr (signature_at p.signatures sig) callee.arguments e → IsPart in_line part (length (enter_lines tracing (text_after p b own) ptr (signature_at p.signatures sig) callee.arguments)) → IsInterrupted tracing p b in_line all (own ++ Enter ptr sig callee.arguments ∷ []) (written (take part (enter_lines tracing (text_after p b own) ptr (signature_at p.signatures sig) callee.arguments))) (events ++ e ∷ [])
+      pub cut_in_entry : (in_line : Bool) (ptr sig : ℕ) (callee : Activation) (e : Event) (part : ℕ) → does (enters ptr sig callee) → IsEntry b.standard b.top b.held calls count ptr (signature_at p.signatures sig) callee.arguments e → IsPart in_line part (length (enter_lines tracing (text_after p b own) ptr (signature_at p.signatures sig) callee.arguments)) → IsInterrupted tracing p b in_line true all own (Enter ptr sig callee.arguments ∷ (rest p b.bottom (inside callee sig a outer) closures moves).trace) (own ++ Enter ptr sig callee.arguments ∷ []) (written (take part (enter_lines tracing (text_after p b own) ptr (signature_at p.signatures sig) callee.arguments))) (events ++ e ∷ [])
       cut_in_entry in_line ptr sig callee e part is entry proper =
           cut_after_event tracing here h in_line (Enter ptr sig callee.arguments) (rest p b.bottom (inside callee sig a outer) closures moves) e (record { signature = signature_at p.signatures sig; event = e } ∷ calls) part (rest_enters p b.bottom a outer closures moves ptr sig callee is) (one_entry b.standard b.top b.held p.signatures count calls ptr sig callee.arguments e entry) proper (λ _. refl)
 
   -- after a return to the activation that waits for it, in the lines that tell it or before them
-  pub cut_in_return : (in_line : Bool) (a : Activation) (s : Suspended) (outer : List Suspended) (closures : Closures) (moves : ℕ) (v : ValueTree) (entry e : Event) (others : List Event) (tracing : Tracing) (part : ℕ) → HasComeTo p b all own events (record { call_stack = record { innermost = a; suspended = s ∷ outer }; closures = closures; moves = suc moves }) → effect_of p a closures (next_move p a) ≡ ends v → unreturned b.entries events ≡ entry ∷ others → IsReturn b.standard (record { signature = signature_at p.signatures s.signature; event = entry }) v e → IsPart in_line part (length (leave_lines tracing (text_after p b own).calls v)) → IsInterrupted tracing p b in_line all (own ++ Leave s.signature v ∷ []) (text tracing p.signatures (text_start p b) own ++ take part (leave_lines tracing (text_after p b own).calls v)) (events ++ e ∷ [])
+  pub cut_in_return : (in_line : Bool) (a : Activation) (s : Suspended) (outer : List Suspended) (closures : Closures) (moves : ℕ) (v : ValueTree) (entry e : Event) (others : List Event) (tracing : Tracing) (part : ℕ) → HasComeTo p b all own events (record { call_stack = record { innermost = a; suspended = s ∷ outer }; closures = closures; moves = suc moves }) → effect_of p a closures (next_move p a) ≡ ends v → unreturned b.entries events ≡ entry ∷ others → IsReturn b.standard (record { signature = signature_at p.signatures s.signature; event = entry }) v e → IsPart in_line part (length (leave_lines tracing (text_after p b own).calls v)) → IsInterrupted tracing p b in_line true all own (Leave s.signature v ∷ (rest p b.bottom (acts_on s.activation v outer) closures moves).trace) (own ++ Leave s.signature v ∷ []) (text tracing p.signatures (text_start p b) own ++ take part (leave_lines tracing (text_after p b own).calls v)) (events ++ e ∷ [])
   cut_in_return in_line a s outer closures moves v entry e others tracing part h is top back proper =
       let x : Position = record { call_stack = record { innermost = a; suspended = s ∷ outer }; closures = closures; moves = suc moves } in
       let call : Entered = record { signature = signature_at p.signatures s.signature; event = entry } in
@@ -165,6 +167,6 @@ module _ (p : Program) (b : Base) (all : Remainder) (own : List TraceItem) (even
         comes_to_end p b all own events standing h (Leave sig v ∷ []) (e ∷ []) (returned v) closures moves [] served_leaves served_answers
 
     -- or the run is interrupted in the lines that tell it or before them
-    pub cut_in_served_return : (in_line : Bool) (tracing : Tracing) (part : ℕ) → IsPart in_line part (length (leave_lines tracing (text_after p b own).calls v)) → IsInterrupted tracing p b in_line all (own ++ Leave sig v ∷ []) (text tracing p.signatures (text_start p b) own ++ take part (leave_lines tracing (text_after p b own).calls v)) (events ++ e ∷ [])
+    pub cut_in_served_return : (in_line : Bool) (tracing : Tracing) (part : ℕ) → IsPart in_line part (length (leave_lines tracing (text_after p b own).calls v)) → IsInterrupted tracing p b in_line true all own (Leave sig v ∷ []) (own ++ Leave sig v ∷ []) (text tracing p.signatures (text_start p b) own ++ take part (leave_lines tracing (text_after p b own).calls v)) (events ++ e ∷ [])
     cut_in_served_return in_line tracing part proper =
         cut_after_event p b all own events tracing standing h in_line (Leave sig v) (only [] (returned v) closures moves) e [] part served_leaves served_answers proper (λ _. refl)

@@ -38,78 +38,72 @@ no_event_yet (Line t v ∷ later) = refl
 no_event_yet (StopLine stop ∷ later) = refl
 
 module _ (std : Standard) (top : ℕ) (held : Loc → ℕ) (tracing : Tracing) (ss : List Signature) (in_line : Bool) where
-  abbrev InterruptedAt : Point → ℕ → List Entered → List TraceItem → List TraceItem → List ℕ → List Event → Type 0
-  InterruptedAt at n calls trace happened written events = TraceWasInterrupted std top held tracing ss at n calls in_line trace happened written events
+  abbrev InterruptedAt : Point → ℕ → List Entered → Bool → (trace done later happened : List TraceItem) → List ℕ → List Event → Type 0
+  InterruptedAt at n calls recorded trace done later happened written events = TraceWasInterrupted std top held tracing ss at n calls in_line recorded trace done later happened written events
 
   -- INTERRUPTED LATER: what is done before is done
-  pub cut_then : (at : Point) (n : ℕ) (calls mid : List Entered) (a b happened : List TraceItem) (xs ys : List Event) (written : List ℕ) → AnswersTo std top held ss n calls a xs mid → InterruptedAt (past_all ss at a) (n + length xs) mid b happened written ys → InterruptedAt at n calls (a ++ b) (a ++ happened) (text tracing ss at a ++ written) (xs ++ ys)
-  cut_then at n calls mid a b happened xs ys written first k =
-      let comes : past_all ss at (a ++ k.done) ≡ past_all ss (past_all ss at a) k.done = past_all-append ss at a k.done in
-      let next : List ℕ = take k.part (next_text tracing ss (past_all ss (past_all ss at a) k.done) k.later) in
+  pub cut_then : (at : Point) (n : ℕ) (calls mid : List Entered) (recorded : Bool) (a b done later happened : List TraceItem) (xs ys : List Event) (written : List ℕ) → AnswersTo std top held ss n calls a xs mid → InterruptedAt (past_all ss at a) (n + length xs) mid recorded b done later happened written ys → InterruptedAt at n calls recorded (a ++ b) (a ++ done) later (a ++ happened) (text tracing ss at a ++ written) (xs ++ ys)
+  cut_then at n calls mid recorded a b done later happened xs ys written first k =
+      let comes : past_all ss at (a ++ done) ≡ past_all ss (past_all ss at a) done = past_all-append ss at a done in
+      let next : List ℕ = take k.part (next_text tracing ss (past_all ss (past_all ss at a) done) later) in
       record {
-        done = a ++ k.done;
-        later = k.later;
-        all = ap (λ (l : List TraceItem). a ++ l) k.all ∙ sym (append_assoc a k.done k.later);
+        all = ap (λ (l : List TraceItem). a ++ l) k.all ∙ sym (append_assoc a done later);
         part = k.part;
-        proper = subst (λ (x : Point). IsPart in_line k.part (length (next_text tracing ss x k.later))) (sym comes) k.proper;
+        proper = subst (λ (x : Point). IsPart in_line k.part (length (next_text tracing ss x later))) (sym comes) k.proper;
         text_is =
             ap (λ (l : List ℕ). text tracing ss at a ++ l) k.text_is
-            ∙ sym (append_assoc (text tracing ss at a) (text tracing ss (past_all ss at a) k.done) next)
-            ∙ ap (λ (l : List ℕ). l ++ next) (sym (text-append tracing ss at a k.done))
-            ∙ ap (λ (x : Point). text tracing ss at (a ++ k.done) ++ take k.part (next_text tracing ss x k.later)) (sym comes);
-        recorded = k.recorded;
+            ∙ sym (append_assoc (text tracing ss at a) (text tracing ss (past_all ss at a) done) next)
+            ∙ ap (λ (l : List ℕ). l ++ next) (sym (text-append tracing ss at a done))
+            ∙ ap (λ (x : Point). text tracing ss at (a ++ done) ++ take k.part (next_text tracing ss x later)) (sym comes);
         its_event = k.its_event;
-        happened_is = ap (λ (l : List TraceItem). a ++ l) k.happened_is ∙ sym (append_assoc a k.done (begun k.recorded k.later));
+        happened_is = ap (λ (l : List TraceItem). a ++ l) k.happened_is ∙ sym (append_assoc a done (begun recorded later));
         left_open = k.left_open;
         answers = answers_then std top held ss n calls mid k.left_open a happened xs ys first k.answers;
       }
 
   -- what happened is a first part of the trace
-  happens_first : (at : Point) (n : ℕ) (calls : List Entered) (trace happened : List TraceItem) (written : List ℕ) (events : List Event) → InterruptedAt at n calls trace happened written events → (after : List TraceItem) × (happened ++ after ≡ trace)
-  happens_first at n calls trace happened written events k =
-      let after = after_begun k.recorded k.later in (
+  happens_first : (at : Point) (n : ℕ) (calls : List Entered) (recorded : Bool) (trace done later happened : List TraceItem) (written : List ℕ) (events : List Event) → InterruptedAt at n calls recorded trace done later happened written events → (after : List TraceItem) × (happened ++ after ≡ trace)
+  happens_first at n calls recorded trace done later happened written events k =
+      let after = after_begun recorded later in (
         after,
         ap (λ (l : List TraceItem). l ++ after) k.happened_is
-            ∙ append_assoc k.done (begun k.recorded k.later) after
-            ∙ ap (λ (l : List TraceItem). k.done ++ l) (sym (begun_and_after k.recorded k.later))
+            ∙ append_assoc done (begun recorded later) after
+            ∙ ap (λ (l : List TraceItem). done ++ l) (sym (begun_and_after recorded later))
             ∙ sym k.all,
       )
 
   -- the journal is that of the trace, as far as it goes
-  pub cut_journal : (at : Point) (n : ℕ) (calls : List Entered) (trace happened : List TraceItem) (written : List ℕ) (events : List Event) → InterruptedAt at n calls trace happened written events → Answers std top held ss n calls trace events
-  cut_journal at n calls trace happened written events k =
-      let first = happens_first at n calls trace happened written events k in
+  pub cut_journal : (at : Point) (n : ℕ) (calls : List Entered) (recorded : Bool) (trace done later happened : List TraceItem) (written : List ℕ) (events : List Event) → InterruptedAt at n calls recorded trace done later happened written events → Answers std top held ss n calls trace events
+  cut_journal at n calls recorded trace done later happened written events k =
+      let first = happens_first at n calls recorded trace done later happened written events k in
       let P : List TraceItem → Type 0 = λ l. Answers std top held ss n calls l events in
       let Q : List Event → Type 0 = λ l. Answers std top held ss n calls (happened ++ first.0) l in
       subst P first.1 (subst Q (append-nil events) (answers_so_far std top held ss n calls k.left_open happened first.0 events [] k.answers tt))
 
   -- what is written is a first part of the text
-  pub cut_text : (at : Point) (n : ℕ) (calls : List Entered) (trace happened : List TraceItem) (written : List ℕ) (events : List Event) → InterruptedAt at n calls trace happened written events → (unwritten : List ℕ) × (text tracing ss at trace ≡ written ++ unwritten)
-  cut_text at n calls trace happened written events k =
-      let comes = past_all ss at k.done in
-      let next = next_text tracing ss comes k.later in
-      let more = more_text tracing ss comes k.later in
-      let done = text tracing ss at k.done in (
+  pub cut_text : (at : Point) (n : ℕ) (calls : List Entered) (recorded : Bool) (trace done later happened : List TraceItem) (written : List ℕ) (events : List Event) → InterruptedAt at n calls recorded trace done later happened written events → (unwritten : List ℕ) × (text tracing ss at trace ≡ written ++ unwritten)
+  cut_text at n calls recorded trace done later happened written events k =
+      let comes = past_all ss at done in
+      let next = next_text tracing ss comes later in
+      let more = more_text tracing ss comes later in
+      let before = text tracing ss at done in (
         drop k.part next ++ more.0,
         ap (text tracing ss at) k.all
-            ∙ text-append tracing ss at k.done k.later
-            ∙ ap (λ (l : List ℕ). done ++ l) (more.1 ∙ ap (λ (l : List ℕ). l ++ more.0) (sym (take-append-drop k.part next)) ∙ append_assoc (take k.part next) (drop k.part next) more.0)
-            ∙ sym (append_assoc done (take k.part next) (drop k.part next ++ more.0))
+            ∙ text-append tracing ss at done later
+            ∙ ap (λ (l : List ℕ). before ++ l) (more.1 ∙ ap (λ (l : List ℕ). l ++ more.0) (sym (take-append-drop k.part next)) ∙ append_assoc (take k.part next) (drop k.part next) more.0)
+            ∙ sym (append_assoc before (take k.part next) (drop k.part next ++ more.0))
             ∙ ap (λ (l : List ℕ). l ++ (drop k.part next ++ more.0)) (sym k.text_is),
       )
 
   -- ---- interrupted at once
 
   -- with a part of the next text, and nothing recorded
-  pub cut_unrecorded : (at : Point) (n : ℕ) (calls : List Entered) (trace : List TraceItem) (part : ℕ) → IsPart in_line part (length (next_text tracing ss at trace)) → HasItsEvent false in_line trace → InterruptedAt at n calls trace [] (take part (next_text tracing ss at trace)) []
+  pub cut_unrecorded : (at : Point) (n : ℕ) (calls : List Entered) (trace : List TraceItem) (part : ℕ) → IsPart in_line part (length (next_text tracing ss at trace)) → HasItsEvent false in_line trace → InterruptedAt at n calls false trace [] trace [] (take part (next_text tracing ss at trace)) []
   cut_unrecorded at n calls trace part proper its_event = record {
-    done = [];
-    later = trace;
     all = refl;
     part = part;
     proper = proper;
     text_is = refl;
-    recorded = false;
     its_event = its_event;
     happened_is = refl;
     left_open = calls;
@@ -117,15 +111,12 @@ module _ (std : Standard) (top : ℕ) (held : Loc → ℕ) (tracing : Tracing) (
   }
 
   -- or with the next event recorded
-  pub cut_recorded : (at : Point) (n : ℕ) (calls calls' : List Entered) (h : TraceItem) (later : List TraceItem) (e : Event) (part : ℕ) → IsPart in_line part (length (item_text tracing ss at h)) → HasItsEvent true in_line (h ∷ later) → AnswersTo std top held ss n calls (h ∷ []) (e ∷ []) calls' → InterruptedAt at n calls (h ∷ later) (h ∷ []) (take part (item_text tracing ss at h)) (e ∷ [])
+  pub cut_recorded : (at : Point) (n : ℕ) (calls calls' : List Entered) (h : TraceItem) (later : List TraceItem) (e : Event) (part : ℕ) → IsPart in_line part (length (item_text tracing ss at h)) → HasItsEvent true in_line (h ∷ later) → AnswersTo std top held ss n calls (h ∷ []) (e ∷ []) calls' → InterruptedAt at n calls true (h ∷ later) [] (h ∷ later) (h ∷ []) (take part (item_text tracing ss at h)) (e ∷ [])
   cut_recorded at n calls calls' h later e part proper its_event answers = record {
-    done = [];
-    later = h ∷ later;
     all = refl;
     part = part;
     proper = proper;
     text_is = refl;
-    recorded = true;
     its_event = its_event;
     happened_is = refl;
     left_open = calls';

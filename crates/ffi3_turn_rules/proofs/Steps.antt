@@ -10,7 +10,8 @@ use Rattle.ffi3_run_rules.specs.Trace.{TraceItem, Enter, Line, Leave, written_ou
 use Rattle.ffi3_run_rules.proofs.Recursion.{act-is}
 use Rattle.ffi3_turn_rules.specs.Remainder.{Remainder, remainder_of, before, only, only_stops, Suspended, Bottom, as_main, served, CallStack, resumed_at, left_at, finished, through, rest, alone, inside}
 use Rattle.ffi3_turn_rules.specs.Step.{step_of, left_before}
-use Rattle.ffi3_turn_rules.specs.Laws.{GoesByStep, ServesAlike, result_of}
+use Rattle.ffi3_turn_rules.specs.Path.{Position, IsOnPath, path_begins, path_goes_on}
+use Rattle.ffi3_turn_rules.specs.Laws.{GoesByStep, PathFollows, ServesAlike, result_of}
 
 -- ---- what happens before may be set before all that is left
 
@@ -133,3 +134,13 @@ goes_by_step p = record {
 -- what follows, and then what follows after that
 pub follows_then : (first mid last : Remainder) (a b : List TraceItem) → first ≡ before a mid → mid ≡ before b last → first ≡ before (a ++ b) last
 follows_then first mid last a b one two = one ∙ ap (before a) two ∙ before-before a b last
+
+-- ALONG A PATH what happened and what is left make all of it
+path_follows : (p : Program) (bottom : Bottom) (start : Position) (own : List TraceItem) (x : Position) → IsOnPath p bottom start own x → rest p bottom start.call_stack start.closures start.moves ≡ before own (rest p bottom x.call_stack x.closures x.moves)
+path_follows p bottom start own x path_begins = refl
+path_follows p bottom start all_done there (path_goes_on own more x call_stack closures moves earlier counted leads) =
+    let one = ap (λ (n : ℕ). rest p bottom x.call_stack x.closures n) counted ∙ (goes_by_step p).one bottom x.call_stack x.closures moves ∙ ap (left_before p bottom moves) leads in
+    follows_then (rest p bottom start.call_stack start.closures start.moves) (rest p bottom x.call_stack x.closures x.moves) (rest p bottom call_stack closures moves) own more (path_follows p bottom start own x earlier) one
+
+pub paths_follow : (p : Program) → PathFollows p
+paths_follow p = λ bottom start own x path. path_follows p bottom start own x path

@@ -20,7 +20,8 @@ use Rattle.ffi3_run_rules.proofs.Texts.{registers_text}
 use Rattle.ffi3_turn_rules.specs.Remainder.{Remainder}
 use Rattle.ffi3_turn_rules.specs.Open.{open_after}
 use Rattle.ffi3_turn_rules.specs.Interrupted.{past_all}
-use Rattle.ffi3_turn_rules.specs.SoFar.{Base, main_base, text_start, text_after, Position, open_at, HasComeTo}
+use Rattle.ffi3_turn_rules.specs.SoFar.{Base, main_base, text_start, text_after, open_at, HasComeTo}
+use Rattle.ffi3_turn_rules.specs.Path.{Position}
 use Rattle.ffi3_turn_rules.specs.TracingOf.{IsTracedAsEntered, AreTracedAsEntered, IsTraced, IsTracingOf}
 use Rattle.ffi3_turn_rules.specs.MainTracing.{main_tracing}
 use Rattle.ffi3_turn_rules.proofs.Opens.{line_of, stop_of}

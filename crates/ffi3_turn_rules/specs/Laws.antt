@@ -9,8 +9,10 @@ use Rattle.ffi3_run_rules.specs.Meaning.{main_call, most_moves, stack_size}
 use Rattle.ffi3_run_rules.specs.Peak.{peak_of}
 use Rattle.ffi3_run_rules.specs.Trace.{TraceItem, Enter, written_out_one, trace_of}
 use Rattle.ffi3_run_rules.specs.Lines.{Point, Tracing, text}
-use Rattle.ffi3_turn_rules.specs.Remainder.{remainder_of, only_stops, Bottom, as_main, served, CallStack, rest, alone}
+use Rattle.ffi3_turn_rules.specs.Remainder.{remainder_of, only_stops, before, Bottom, as_main, served, CallStack}
+use Rattle.ffi3_turn_rules.specs.Remainder.{rest, alone}
 use Rattle.ffi3_turn_rules.specs.Step.{step, left_before}
+use Rattle.ffi3_turn_rules.specs.Path.{Position, IsOnPath}
 use Rattle.ffi3_turn_rules.specs.Depth.{deepest}
 use Rattle.ffi3_turn_rules.specs.Interrupted.{past_all}
 
@@ -21,6 +23,14 @@ pub record GoesByStep (p : Program) : Type 0 where
       → rest p bottom call_stack closures (suc moves) ≡ left_before p bottom moves (step p bottom call_stack closures)
   pub none : (bottom : Bottom) (call_stack : CallStack) (closures : Closures)
       → rest p bottom call_stack closures 0 ≡ only_stops MoveLimit closures 0
+
+-- WHO STANDS ON A RUN'S PATH has its trace behind, and before it what is left there: the two are all that was left at its start.
+abbrev pub PathFollows : Program → Type 0
+PathFollows p =
+    (bottom : Bottom) (start : Position) (own : List TraceItem) (x : Position)
+    → IsOnPath p bottom start own x
+    → rest p bottom start.call_stack start.closures start.moves
+    ≡ before own (rest p bottom x.call_stack x.closures x.moves)
 
 -- THE PEAK OF THE CALL TREE is that of its trace, and no run takes more stack than there is.
 pub record PeaksAlike (p : Program) : Type 0 where

@@ -9,14 +9,15 @@ use Rattle.ffi3_run_rules.specs.Meaning.{Program, End, stack_size}
 use Rattle.ffi3_run_rules.specs.Trace.{TraceItem}
 use Rattle.ffi3_run_rules.specs.Journal.{Entered, stack_top}
 use Rattle.ffi3_run_rules.specs.Lines.{OpenCall, Point, Tracing}
-use Rattle.ffi3_turn_rules.specs.Remainder.{Remainder, before, Suspended, Bottom, as_main, served, CallStack, rest}
+use Rattle.ffi3_turn_rules.specs.Remainder.{Remainder, before, Suspended, Bottom, as_main, served, rest}
 use Rattle.ffi3_turn_rules.specs.Remainder.{awaited}
+use Rattle.ffi3_turn_rules.specs.Path.{Position, IsOnPath, main_start}
 use Rattle.ffi3_turn_rules.specs.Nested.{depth_at, depth_of, IsNested}
 use Rattle.ffi3_turn_rules.specs.Open.{unreturned, open_calls, AnswersTo}
 use Rattle.ffi3_turn_rules.specs.Interrupted.{past_all}
 use Rattle.ffi3_turn_rules.specs.TraceInterrupted.{TraceWasInterrupted}
 
--- what a run begins with: the top of its stack and the bytes left below it, what reserved registers hold, the number of events before it, and the entries of the calls that are open
+-- what a run begins with: the top of its stack and the bytes left below it, what reserved registers hold, the number of events before it, the entries of the calls that are open, and where it stands
 pub record Base : Type 0 where
   pub standard : Standard
   pub top : ℕ
@@ -25,6 +26,7 @@ pub record Base : Type 0 where
   pub count : ℕ
   pub bottom : Bottom
   pub entries : List Event
+  pub start : Position
 
 -- main begins on a new machine
 abbrev pub main_base : Standard → Base
@@ -36,6 +38,7 @@ main_base std = record {
   count = 0;
   bottom = as_main;
   entries = [];
+  start = main_start;
 }
 
 -- the calls that are open as a run begins, as its text sees them: the entry of a call that is served came last
@@ -53,12 +56,6 @@ text_start p b =
 abbrev pub text_after : Program → Base → List TraceItem → Point
 text_after p b own = past_all p.signatures (text_start p b) own
 
--- where a run stands between two moves
-pub record Position : Type 0 where
-  pub call_stack : CallStack
-  pub closures : Closures
-  pub moves : ℕ
-
 abbrev pub left_at_position : Program → Base → Position → Remainder
 left_at_position p b x = rest p b.bottom x.call_stack x.closures x.moves
 
@@ -72,9 +69,10 @@ abbrev pub Answer : Program → Base → List TraceItem → List Event → List 
 Answer p b trace events left_open =
     AnswersTo b.standard b.top b.held p.signatures b.count (open_at p b [] []) trace events left_open
 
--- THE RUN HAS COME TO A POINT: of all that was left this trace is done, these events answer to it, and the call stack's calls are open, with the entries of the inner ones before those of the beginning.
+-- THE RUN HAS COME TO A POINT of its path: its activations with their functions, user data and results so far, its closures and the moves left are those that the direct meaning's steps lead to. Of all that was left this trace is done, these events answer to it, and the call stack's calls are open, with the entries of the inner ones before those of the beginning.
 pub record HasComeTo (p : Program) (b : Base) (all : Remainder) (own : List TraceItem) (events : List Event)
     (x : Position) : Type 0 where
+  pub path : IsOnPath p b.bottom b.start own x
   pub follows : all ≡ before own (left_at_position p b x)
   pub answers : Answer p b own events (open_at p b x.call_stack.suspended events)
   pub inner : List Event
@@ -92,9 +90,9 @@ pub record IsOver (p : Program) (b : Base) (all : Remainder) (end : End) (closur
   pub left_open : List Entered
   pub answers : Answer p b all.trace events left_open
 
--- THE RUN WAS INTERRUPTED since it began: of all that was left this happened, these bytes are written, and these events are recorded.
-abbrev pub IsInterrupted : Tracing → Program → Base → (in_line : Bool) → Remainder → (happened : List TraceItem)
-    → (written : List ℕ) → List Event → Type 0
-IsInterrupted tracing p b in_line all happened written events =
+-- THE RUN WAS INTERRUPTED since it began: of all that was left this is done and that comes later, this happened, these bytes are written, and these events are recorded.
+abbrev pub IsInterrupted : Tracing → Program → Base → (in_line recorded : Bool) → Remainder
+    → (done later happened : List TraceItem) → (written : List ℕ) → List Event → Type 0
+IsInterrupted tracing p b in_line recorded all done later happened written events =
     TraceWasInterrupted b.standard b.top b.held tracing p.signatures (text_start p b) b.count (open_at p b [] [])
-    in_line all.trace happened written events
+    in_line recorded all.trace done later happened written events

@@ -12,16 +12,13 @@ use Rattle.ffi3_turn_rules.specs.Interrupted.{past_all, next_text, begun, IsPart
 
 -- THE RUN WAS INTERRUPTED, in an item's lines or elsewhere: a first part of its trace is done, and a part of the next item's lines is written. What happened is what is done, and the next item where its event is recorded: to this the events answer wholly.
 pub record TraceWasInterrupted (std : Standard) (top : ℕ) (held : Loc → ℕ) (tracing : Tracing)
-    (signatures : List Signature) (at : Point) (n : ℕ) (unfinished : List Entered) (in_line : Bool)
-    (trace happened : List TraceItem) (written : List ℕ) (events : List Event) : Type 0 where
-  pub done : List TraceItem
-  pub later : List TraceItem
+    (signatures : List Signature) (at : Point) (n : ℕ) (unfinished : List Entered) (in_line recorded : Bool)
+    (trace done later happened : List TraceItem) (written : List ℕ) (events : List Event) : Type 0 where
   pub all : trace ≡ done ++ later
   pub part : ℕ
   pub proper : IsPart in_line part (length (next_text tracing signatures (past_all signatures at done) later))
   pub text_is : written
       ≡ text tracing signatures at done ++ take part (next_text tracing signatures (past_all signatures at done) later)
-  pub recorded : Bool
   pub its_event : HasItsEvent recorded in_line later
   pub happened_is : happened ≡ done ++ begun recorded later
   pub left_open : List Entered

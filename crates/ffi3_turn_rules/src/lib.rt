@@ -3,13 +3,15 @@
 #![tactic(auto)]
 
 ghost use Rattle.ffi3_run_rules.specs.Meaning.{Program};
-ghost use Rattle.ffi3_turn_rules.specs.Laws.{GoesByStep, PeaksAlike, ServesAlike, TextGoesByParts};
+ghost use Rattle.ffi3_turn_rules.specs.Laws.{GoesByStep, PathFollows, PeaksAlike, ServesAlike, TextGoesByParts};
 
 /// Does nothing. Its contract says that the direct meaning of every program goes step by step
-/// over a call stack of activations, from main or from a call that is served, that the stack its trace takes
-/// is that of its call tree, and that the text of a trace is that of its parts.
+/// over a call stack of activations, from main or from a call that is served, that along a run's path what
+/// happened and what is left make all of it, that the stack its trace takes is that of its call tree, and that
+/// the text of a trace is that of its parts.
 pub fn step_laws()
     ensures by_step { (p : Program) → GoesByStep p }
+    ensures paths { (p : Program) → PathFollows p }
     ensures serving { (p : Program) → ServesAlike p }
     ensures peaks { (p : Program) → PeaksAlike p }
     ensures texts { TextGoesByParts }

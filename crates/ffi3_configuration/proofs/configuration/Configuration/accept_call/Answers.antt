@@ -107,7 +107,7 @@ returns-clause-accepted g c = λ p arguments signatures needs shown holds known 
     let tracing = served_tracing c.args.trace std p.signatures closure.sig m in
     let lines = entry_told_as c.args.trace std std s (signature_at p.signatures closure.sig) m' _ refl (sym same) (entry_told p std closure arguments m m' incoming o b.table b.moves tracing needs below shows holds known few is c.args.trace) in
     let call : OpenCall = record { sig = closure.sig; incoming = incoming } in
-    let P = λ (x : State) (l : List (Waiting g.row.S.Denot)) (a : Activation g.row.S.Denot). IsBetween p (served_base std p.signatures closure.sig m) (served_left std p closure arguments m b.table b.moves) (served_beginning std (signature_at p.signatures closure.sig) m o' tracing) [] [] (run_state_with p.signatures (Some call) (reverse l) b.table b.moves x o' a) in
+    let P = λ (x : State) (l : List (Waiting g.row.S.Denot)) (a : Activation g.row.S.Denot). IsBetween p (served_base std p closure arguments m b.table b.moves) (served_left std p closure arguments m b.table b.moves) (served_beginning std (signature_at p.signatures closure.sig) m o' tracing) [] [] (run_state_with p.signatures (Some call) (reverse l) b.table b.moves x o' a) in
     let begins = served_begins p std closure arguments m m' incoming o' b.table b.moves tracing needs below shows holds known few is c.args.standing in
     let stands = subst (P m' b.suspended.items) (sym c.of_closure.ensures) (subst (λ (l : List (Waiting g.row.S.Denot)). P m' l (activation_of closure c.args.standing)) (sym c.requires.alone) begins) in
     (took_as o o' _ _ lines c.in_default.ensures, as_left (λ (x : State). P x b.suspended.items c.of_closure.result) m' _ stands search)

@@ -97,7 +97,7 @@ returns-in-Err-clause-turned g c = λ p base all first own events current standa
     let asks = subst (λ (x : RunState). IsAsking p base all first own events x (return v)) (popped_state p.signatures current b m o c.pop.new.self.items w c.in-Some.ensures.items) is in
     let site = ap (λ (l : List Signature). signature_at l w.call.sig) (sym signatures) in
     let ended = ended_as g.A.Abi.standard base.standard (signature_at c.args.cifs.now w.call.sig) (signature_at p.signatures w.call.sig) v m m' (sym standard) site c.in-Err.ensures.ended in
-    (return_cut_off p base all first own events b.served w outer b.table b.moves m o current v asks m' ended cut.NoMemory o refl, (omega arith, omega arith))
+    return_cut_off p base all first own events b.served w outer b.table b.moves m o current v asks m' ended cut.NoMemory o refl
 
 pub returns-in-Err-tell_return-clause-turned : goal.returns-in-Err-tell_return-clause-turned
 returns-in-Err-tell_return-clause-turned g c = λ p base all first own events current standard signatures tracing is.

@@ -1,4 +1,4 @@
-use Rattle.std.proofs.Common.{List, [], ◌∷◌, refl, sym, subst, arith}
+use Rattle.std.proofs.Common.{suc, inr, List, [], ◌∷◌, refl, sym, subst, arith}
 use Rattle.ffi3_type_rules.specs.Tree.{Tree}
 use Rattle.ffi3_type_rules.specs.Value.{ValueTree, void_value}
 use Rattle.ffi3_type_rules.specs.ValueText.{value_text_of}
@@ -22,10 +22,10 @@ use Rattle.ffi3_configuration.proofs.Moving.{cut_between, looks_as_itself, print
 use Rattle.ffi3_configuration.proofs.configuration.Configuration.print.Goals as goal
 
 -- a print whose line was interrupted
-print_cut : (p : Program) (base : Base) (all : Remainder) (first : Beginning) (own : List TraceItem) (events : List Event) (x : RunState) (t : Tree) (v : ValueTree) → IsAsking p base all first own events x (print t v) → (why : IoError) (output : SinkState) → LineInterrupted (a_line (value_text_of t v)) x.output output why → WasInterruptedAfter p base all first own why x.closures x.moves x.machine output
+print_cut : (p : Program) (base : Base) (all : Remainder) (first : Beginning) (own : List TraceItem) (events : List Event) (x : RunState) (t : Tree) (v : ValueTree) → IsAsking p base all first own events x (print t v) → (why : IoError) (output : SinkState) → LineInterrupted (a_line (value_text_of t v)) x.output output why → WasInterruptedAfter p base all first own (suc x.moves) why x.closures x.moves x.machine output
 print_cut p base all first own events x t v is cut.NoMemory output same =
-    let P = λ (o : SinkState). WasInterruptedAfter p base all first own cut.NoMemory x.closures x.moves x.machine o in
-    subst P (sym same) (cut_between p base all first own events (asking x) x.moves x.machine (omega arith, omega arith) (looks_as_itself x.machine) is.between)
+    let P = λ (o : SinkState). WasInterruptedAfter p base all first own (suc x.moves) cut.NoMemory x.closures x.moves x.machine o in
+    subst P (sym same) (cut_between p base all first own events (asking x) (suc x.moves) x.moves x.machine (inr refl) (omega arith, omega arith) (omega arith) (looks_as_itself x.machine) is.between)
 print_cut p base all first own events x t v is cut.Failed output failed =
     print_failed p base all first own events x (print t v) is t v refl output failed
 

@@ -5,8 +5,8 @@ use Rattle.ffi3_configuration.specs.Going.{StoppedBy}
 use Rattle.ffi3_configuration.proofs.Configuring.{stops_at_limit}
 use Rattle.ffi3_configuration.proofs.configuration.Configuration.stop_at_limit.Goals as goal
 
-pub returns : goal.returns
-returns g c = λ p base all first own events machine signatures is.
+pub returns-clause-turned : goal.returns-clause-turned
+returns-clause-turned g c = λ p base all first own events machine signatures is.
     let o = g.O.Sink.state c.args.output.now in
     let o' = g.O.Sink.state c.stop.new.output in
     let by = subst (λ (ss : List Signature). StoppedBy ss MoveLimit o o' c.stop.result) (sym signatures) c.stop.ensures in

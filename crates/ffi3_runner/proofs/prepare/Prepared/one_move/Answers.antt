@@ -1,4 +1,5 @@
-use Rattle.std.proofs.Common.{◌≡◌, suc, ◌-◌, ◌++◌, true, List, length, reverse, Some, refl, sym, ap, subst, rules, arith}
+use Rattle.std.proofs.Common.{◌≡◌, ℕ, inl, suc, ◌-◌, ◌++◌, true, List, length, take, drop, reverse, Some, refl, sym, ap, subst, rules, arith}
+use Rattle.ffi3_type_rules.specs.declared.limits.TheConstants.{STACK}
 use Rattle.std.proofs.lemmas.List.{length-map}
 use Rattle.ffi3_type_rules.specs.Signature.{Signature, signature_at}
 use Rattle.ffi3_type_rules.specs.Tree.{Tree}
@@ -27,7 +28,7 @@ returns-then-configuration-eq0-clause-turned g c = λ base all first own events 
     let m = c.args.machine.now in
     let is : b.innermost ≡ Some a = search rules in
     let between = between_of _ base all first own events b a m (g.O.Sink.state c.args.output.now) is h in
-    turned_as _ base all first own 0 b.moves c.stop_at_limit.new.self m (g.O.Sink.state c.stop_at_limit.new.output) c.stop_at_limit.result (sym c.if-configuration-eq0.true) (c.stop_at_limit.ensures _ base all first own events m (sym c.requires.prepared.are) between)
+    turned_as _ base all first own 0 b.moves c.stop_at_limit.new.self m (g.O.Sink.state c.stop_at_limit.new.output) c.stop_at_limit.result (sym c.if-configuration-eq0.true) (c.stop_at_limit.ensures.turned _ base all first own events m (sym c.requires.prepared.are) between)
 
 pub returns-then-configuration-eq0-clause-standing : goal.returns-then-configuration-eq0-clause-standing
 returns-then-configuration-eq0-clause-standing g c = λ more.
@@ -37,7 +38,7 @@ returns-then-configuration-eq0-clause-standing g c = λ more.
     let t = c.requires.between in
     let is : b.innermost ≡ Some a = search rules in
     let between = between_of _ t.0 t.1 t.2 t.3 t.4 b a m (g.O.Sink.state c.args.output.now) is t.7 in
-    absurd (never_more _ t.0 t.1 t.2 t.3 c.stop_at_limit.new.self m (g.O.Sink.state c.stop_at_limit.new.output) c.stop_at_limit.result (c.stop_at_limit.ensures _ t.0 t.1 t.2 t.3 t.4 m (sym c.requires.prepared.are) between) more)
+    absurd (never_more _ t.0 t.1 t.2 t.3 c.stop_at_limit.new.self m (g.O.Sink.state c.stop_at_limit.new.output) c.stop_at_limit.result (c.stop_at_limit.ensures.turned _ t.0 t.1 t.2 t.3 t.4 m (sym c.requires.prepared.are) between) more)
 
 pub returns-in_default-asked-clause-turned : goal.returns-in_default-asked-clause-turned
 returns-in_default-asked-clause-turned g c = λ base all first own events standard tracing h.
@@ -46,7 +47,7 @@ returns-in_default-asked-clause-turned g c = λ base all first own events standa
     let m = c.args.machine.now in
     let o = g.O.Sink.state c.args.output.now in
     let is : b.innermost ≡ Some a = search rules in
-    (cut_between _ base all first own events (run_state _ a b m o) b.moves m (omega arith, omega arith) (looks_as_itself m) (between_of _ base all first own events b a m o is h), (omega arith, omega arith))
+    cut_between _ base all first own events (run_state _ a b m o) b.moves b.moves m (inl refl) (omega arith, omega arith) (omega arith) (looks_as_itself m) (between_of _ base all first own events b a m o is h)
 
 pub sig_of-sig-requires-clause-below : goal.sig_of-sig-requires-clause-below
 sig_of-sig-requires-clause-below g c =
@@ -250,3 +251,54 @@ returns-in-Print-clause-standing g c = λ more.
     let stood = innermost_stands s _ cifs m b a is c.requires.standing in
     let stands = after_stands s _ cifs m (call_inside b.served (reverse b.suspended.items)) a z void_value c.asked.ensures.same stood.who c.asked.ensures.who (later std s _ cifs c.requires.prepared b m o a z c.take.new.self (b.moves - 1) is counted c.requires.standing c.asked.ensures.same _ (move_of c.in-Ok.asked) (print (tree_of c.in-Print.ty) (value_of c.in-Print.value)) c.in-Ok.ensures.asked (ap move_of c.in-Print.is) void_value refl) in
     went_stands s _ cifs m m b c.print.new.self (and_result z void_value) refl (ap (λ (x : Configuration Standing). x.innermost) goes) (ap (λ (x : Configuration Standing). x.served) goes) (ap (λ (x : Configuration Standing). x.suspended.items) goes) stands c.requires.standing.others
+
+-- ---- the stack after a move
+
+pub returns-then-configuration-eq0-clause-stack : goal.returns-then-configuration-eq0-clause-stack
+returns-then-configuration-eq0-clause-stack g c = λ more.
+    let b = c.args.configuration.now in
+    let a = c.in-Some.current in
+    let m = c.args.machine.now in
+    let t = c.requires.between in
+    let is : b.innermost ≡ Some a = search rules in
+    let between = between_of _ t.0 t.1 t.2 t.3 t.4 b a m (g.O.Sink.state c.args.output.now) is t.7 in
+    absurd (never_more _ t.0 t.1 t.2 t.3 c.stop_at_limit.new.self m (g.O.Sink.state c.stop_at_limit.new.output) c.stop_at_limit.result (c.stop_at_limit.ensures.turned _ t.0 t.1 t.2 t.3 t.4 m (sym c.requires.prepared.are) between) more)
+
+pub returns-in-Print-clause-stack : goal.returns-in-Print-clause-stack
+returns-in-Print-clause-stack g c = λ more address count before after. refl
+
+pub returns-in-Make-clause-stack : goal.returns-in-Make-clause-stack
+returns-in-Make-clause-stack g c = λ more address count before after.
+    ap (λ (bytes : List ℕ). take count (drop (address - STACK) bytes)) c.make.ensures.stack
+
+pub returns-in-Free-clause-stack : goal.returns-in-Free-clause-stack
+returns-in-Free-clause-stack g c = λ more address count before after.
+    ap (λ (bytes : List ℕ). take count (drop (address - STACK) bytes)) c.free.ensures.stack
+
+pub returns-in-Call-clause-stack : goal.returns-in-Call-clause-stack
+returns-in-Call-clause-stack g c = λ more address count before after. c.call.ensures.above more address count before
+
+pub returns-in-Return-clause-stack : goal.returns-in-Return-clause-stack
+returns-in-Return-clause-stack g c = λ more address count before after. c.leave.ensures.above more address count after
+
+-- ---- closures and moves where a write failed
+
+pub returns-then-configuration-eq0-clause-failed : goal.returns-then-configuration-eq0-clause-failed
+returns-then-configuration-eq0-clause-failed g c = λ failed.
+    let kept = c.stop_at_limit.ensures.kept in
+    (kept.0, omega (arith, kept.1, c.if-configuration-eq0.true))
+
+pub returns-in-Print-clause-failed : goal.returns-in-Print-clause-failed
+returns-in-Print-clause-failed g c = λ failed. c.print.ensures.kept failed
+
+pub returns-in-Make-clause-failed : goal.returns-in-Make-clause-failed
+returns-in-Make-clause-failed g c = λ failed. c.make.ensures.kept failed
+
+pub returns-in-Free-clause-failed : goal.returns-in-Free-clause-failed
+returns-in-Free-clause-failed g c = λ failed. c.free.ensures.kept failed
+
+pub returns-in-Call-clause-failed : goal.returns-in-Call-clause-failed
+returns-in-Call-clause-failed g c = λ failed. c.call.ensures.kept failed
+
+pub returns-in-Return-clause-failed : goal.returns-in-Return-clause-failed
+returns-in-Return-clause-failed g c = λ failed. c.leave.ensures.kept failed

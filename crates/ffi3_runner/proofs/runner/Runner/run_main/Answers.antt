@@ -1,6 +1,6 @@
 use Rattle.std.proofs.Common.{refl}
 use Rattle.ffi3_runner.specs.Ready.{traced_or_not}
-use Rattle.ffi3_runner.proofs.Ending.{ran_counted, ran_cut_by_memory, ran_cut_by_write, ran_done, ran_failed, ran_left, ran_left_at_stop, ran_left_when_cut, ran_never_falls, ran_no_memory, ran_part, ran_returned, ran_stopped, ran_stops}
+use Rattle.ffi3_runner.proofs.Ending.{ran_counted, ran_cut_by_memory, ran_cut_by_write, ran_done, ran_failed, ran_left, ran_left_at_stop, ran_never_falls, ran_no_memory, ran_part, ran_returned, ran_stopped, ran_stops}
 use Rattle.ffi3_runner.proofs.Main.{main_ran, start_between}
 use Rattle.ffi3_runner.proofs.runner.Runner.run_main.Goals as goal
 
@@ -129,12 +129,3 @@ returns-clause-left_at_stop g c =
     let o' = g.O.Sink.state c.run_on.new.output in
     let ran = main_ran std c.args.self.now.prepared.script.now _ c.args.self.now.prepared.cifs c.requires.prepared c.args.trace m o c.start.new.configuration (c.start.ensures.between c.args.trace m o c.requires.begun) c.run_on.new.configuration c.run_on.new.machine o' c.run_on.result c.run_on.ensures in
     ran_left_at_stop _ std c.args.trace c.run_on.new.configuration c.run_on.new.machine o o' c.run_on.result ran
-
-pub returns-clause-left_when_cut : goal.returns-clause-left_when_cut
-returns-clause-left_when_cut g c =
-    let std = g.A.Abi.standard in
-    let m = c.args.machine.now in
-    let o = g.O.Sink.state c.args.output.now in
-    let o' = g.O.Sink.state c.run_on.new.output in
-    let ran = main_ran std c.args.self.now.prepared.script.now _ c.args.self.now.prepared.cifs c.requires.prepared c.args.trace m o c.start.new.configuration (c.start.ensures.between c.args.trace m o c.requires.begun) c.run_on.new.configuration c.run_on.new.machine o' c.run_on.result c.run_on.ensures in
-    ran_left_when_cut _ std c.args.trace c.run_on.new.configuration c.run_on.new.machine o o' c.run_on.result ran
