@@ -52,20 +52,6 @@ def calls(moves, conditions=False):
     return text_of(FLAT, body, [call] * (moves // 2 - 1))
 
 
-def batches(large=False):
-    """A small script of 9,901 moves: a function makes a hundred calls of another, again and again. What it passes is a
-    number or, where asked, a struct of 1 KiB."""
-    kind = {"struct": ["uint64"] * 128} if large else "uint64"
-    value = list(range(128)) if large else 41
-    once = {"call": {"user": True}, "sig": 0, "args": [{"arg": 0}]}
-    functions = [{"name": "f", "sig": 0, "body": [{"return": None}]},
-                 {"name": "g", "sig": 0, "body": [once] * 100 + [{"return": None}]}]
-    main = [{"make": "f", "as": "f"}, {"make": "g", "user": {"res": "f"}, "as": "g"},
-            *[{"call": {"res": "g"}, "sig": 0, "args": [value]}] * 49, {"return": None}]
-    signatures = [{"ret": "void", "args": [kind]}]
-    return json.dumps({"version": 1, "signatures": signatures, "functions": functions, "main": main})
-
-
 def nested(moves, deepest):
     """Calls inside calls, as deep as this, and as often as makes so many moves: two for each call."""
     again = {"when": {"arg": 0}, "call": {"user": True}, "sig": 0,

@@ -6,12 +6,12 @@ libffi counts as one more compiler of the host's target: see `libffi.c`.
 import itertools
 import pathlib
 import re
-import shutil
 import subprocess
 from concurrent.futures import ThreadPoolExecutor
 
 import cases
 import differences
+import installed
 from emit import Chunk, index_of
 from places import FLOATING, GENERAL, Layout
 from signature import SIZES, text_of
@@ -54,22 +54,19 @@ def command_of(target, compiler):
 
 
 def missing(target, compiler):
-    """The programs that this target and compiler need and that are not installed."""
+    """The packages that this target and compiler need and that are not installed."""
     prefix, emulator, _ = TARGETS[target]
-    if compiler in ABIS:
-        return [] if libffi_version() else ["ffi.h"]
-    needed = [f"{prefix}-gcc", command_of(target, compiler)[0], *([emulator] if emulator else [])]
-    return [name for name in needed if shutil.which(name) is None]
+    headers = f"/usr/{prefix}/include" if emulator else "/usr/include"
+    needed = [f"{prefix}-gcc", f"{headers}/stdio.h", *([emulator] if emulator else [])]
+    return installed.missing(*needed, "ffi.h" if compiler in ABIS else command_of(target, compiler)[0])
 
 
 def libffi_version():
-    """The version that libffi's header names, or None where it is not installed."""
+    """The version that libffi's header names."""
     words = [*command_of("amd64", "gcc"), "-E", "-C", "-"]
-    if shutil.which(words[0]) is None:
-        return None
     ended = subprocess.run(words, input="#include <ffi.h>\n", capture_output=True, text=True)
     found = re.search(r"libffi (\d\S*)", ended.stdout)
-    return found and found[1]
+    return found[1]
 
 
 def version_of(target, compiler):

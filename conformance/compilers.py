@@ -4,10 +4,10 @@ What is said becomes a `_Static_assert` in a C file that nothing runs, so clang 
 """
 
 import re
-import shutil
 import subprocess
 from concurrent.futures import ThreadPoolExecutor
 
+import installed
 from declaration import Struct, leaves_of
 from signature import SIZES, Array
 
@@ -29,7 +29,7 @@ OTHERS = {f"clang for {name}": [*COMPILERS["clang"], f"--target={triple}", "-ffr
 
 
 def missing():
-    return [name for name in COMPILERS if shutil.which(name) is None]
+    return installed.missing(*COMPILERS, "/usr/include/stdio.h")
 
 
 def version_of(command):
