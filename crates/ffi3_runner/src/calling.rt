@@ -28,6 +28,7 @@ use crate::asked::{asked_by_callee, asked_by_main};
 use crate::prepare::Prepared;
 use ffi3_ask::{Move, Standing};
 use ffi3_configuration::{Activation, Configuration, Turn};
+use ffi3_invoke::entered_closure;
 use ffi3_io::Sink;
 use ffi3_machine::Machine;
 use ffi3_place::Abi;
@@ -111,17 +112,24 @@ impl<'a, A: Abi> Prepared<'a, A> {
         ensures standing { result ≡ Turn.More →
             PositionsAgree self.now.script.now (handed title meaning signatures self.now.natives.now.items) self.now.cifs machine.new configuration.new }
     {
-        let closure = match configuration.callee(machine, &self.cifs, ptr, sig) {
-            Ok(closure) => closure,
+        let _called = match configuration.callee(machine, &self.cifs, ptr, sig) {
+            Ok(called) => called,
             Err(why) => {
                 let alloc = self.alloc;
                 return configuration.stop_for(alloc, output, &self.cifs, current, why);
             }
         };
+        let Ok(()) = configuration.pass(machine, &self.cifs, ptr, sig, args) else {
+            return Turn::NoMemory;
+        };
+        // the callee's side: it knows what the machine shows
+        let Some(closure) = configuration.table.find(entered_closure(machine)) else {
+            unreachable!()
+        };
         let standing = Standing::in_function(self.alloc, self.script, self.natives, closure.func);
         let alloc = self.alloc;
         configuration.enter(
-            alloc, machine, output, &self.cifs, current, closure, standing, ptr, sig, args, trace,
+            alloc, machine, output, &self.cifs, current, closure, standing, sig, trace,
         )
     }
 }
