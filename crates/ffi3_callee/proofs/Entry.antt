@@ -27,6 +27,7 @@ use Rattle.ffi3_machine.specs.State.{State, image_of, scribbled, stack_at, with_
 use Rattle.ffi3_pieces.specs.Passing.{passing}
 use Rattle.ffi3_pieces.specs.Stored.{IsPlace, SameAt, WroteOnly, WroteWithin, with_journal_of}
 use Rattle.ffi3_pieces.specs.Standing.{AreReady}
+use Rattle.ffi3_pieces.proofs.Alike as alikes
 use Rattle.ffi3_pieces.proofs.Alike.{AreAlike, arguments_owned}
 use Rattle.ffi3_pieces.proofs.Composing.{wrote_wider}
 use Rattle.ffi3_pieces.proofs.Tables.{one_of_each}
@@ -190,6 +191,20 @@ pub address_owned : (std : Standard) (s : Signature) (m : State) (vs : List Valu
 address_owned std s m vs sound low own =
     address_at std.link (frame_of std s) m (plan_of std s).res low (hidden_in_frame std s sound) own.hidden
 
+behind_hidden : (link room : ℕ) (m : State) (r : Res) → STACK ≤ m.sp → OwnsHidden (image_of (link + room) m) link r → OwnsHidden (image_from (m.sp + link) room m) 0 r
+behind_hidden link room m Nothing low own = tt
+behind_hidden link room m (DirectRes pieces) low own = tt
+behind_hidden link room m (Hidden at buffer) low own =
+    let sum : m.sp + link + buffer ≡ m.sp + link + 0 + buffer = omega arith in
+    ap (λ n. word_at n 0 at) (sym (image_behind link room m low)) ∙ behind_word link (image_of (link + room) m) at ∙ own ∙ sum
+
+address_there : (base room : ℕ) (m : State) (r : Res) → STACK ≤ base → AllByRecursion (IsPlace room) (hidden_locs r) → OwnsHidden (image_from base room m) 0 r → IsAddressOf base (hidden_word base m (hidden_of r)) r
+address_there base room m Nothing inside lie own = tt
+address_there base room m (DirectRes pieces) inside lie own = tt
+address_there base room m (Hidden at buffer) inside lie own =
+    let sum : base + 0 + buffer ≡ base + buffer = omega arith in
+    sym (any_sp base base m at) ∙ sym (image_word (with_sp base m) room inside at lie.0) ∙ own ∙ sum
+
 address_or_zero : (base from address : ℕ) (m : State) (r : Res) → address ≡ hidden_word base m (hidden_of r) → IsAddressOf from address r → IsAddressOrZero from address r
 address_or_zero base from address m Nothing is known = is
 address_or_zero base from address m (DirectRes pieces) is known = is
@@ -200,12 +215,12 @@ remembered_is base address Nothing known = tt
 remembered_is base address (DirectRes pieces) known = tt
 remembered_is base address (Hidden at buffer) known = known
 
-pub address_known : (std : Standard) (s : Signature) (m : State) (vs : List ValueTree) (entry base address : ℕ) (hidden : Option Loc) → IsSound std s → STACK ≤ m.sp → OwnsAtEntry std s m vs → entry ≡ m.sp → base ≡ m.sp + std.link → hidden ≡ hidden_of (plan_of std s).res → address ≡ hidden_word base m hidden → IsAddressOrZero (entry + std.link) address (plan_of std s).res
-address_known std s m vs entry base address hidden sound low own entry_is base_is hidden_is address_is =
+pub address_known : (std : Standard) (s : Signature) (m x : State) (entry base address : ℕ) (hidden : Option Loc) → IsAddressOf (m.sp + std.link) (hidden_word (m.sp + std.link) x (hidden_of (plan_of std s).res)) (plan_of std s).res → entry ≡ m.sp → base ≡ m.sp + std.link → hidden ≡ hidden_of (plan_of std s).res → address ≡ hidden_word base x hidden → IsAddressOrZero (entry + std.link) address (plan_of std s).res
+address_known std s m x entry base address hidden passed entry_is base_is hidden_is address_is =
     let there : m.sp + std.link ≡ entry + std.link = omega (arith, entry_is) in
-    let word : address ≡ hidden_word (m.sp + std.link) m (hidden_of (plan_of std s).res) = address_is ∙ ap (λ q. hidden_word q m hidden) base_is ∙ ap (hidden_word (m.sp + std.link) m) hidden_is in
-    let known = subst (λ n. IsAddressOf n address (plan_of std s).res) there (subst (λ n. IsAddressOf (m.sp + std.link) n (plan_of std s).res) (sym word) (address_owned std s m vs sound low own)) in
-    address_or_zero (m.sp + std.link) (entry + std.link) address m (plan_of std s).res word known
+    let word : address ≡ hidden_word (m.sp + std.link) x (hidden_of (plan_of std s).res) = address_is ∙ ap (λ q. hidden_word q x hidden) base_is ∙ ap (hidden_word (m.sp + std.link) x) hidden_is in
+    let known = subst (λ n. IsAddressOf n address (plan_of std s).res) there (subst (λ n. IsAddressOf (m.sp + std.link) n (plan_of std s).res) (sym word) passed) in
+    address_or_zero (m.sp + std.link) (entry + std.link) address x (plan_of std s).res word known
 
 -- ---- all steps
 
@@ -227,6 +242,13 @@ module _ (std : Standard) (s : Signature) (block n : ℕ) (m b c d : State) (low
   pub found_between : (vs : List ValueTree) → IsSound std s → SignatureHasNoFault s → OwnsAtEntry std s m vs → AreFound (m.sp + std.link) (passing b) (plan_of std s).places
   found_between vs sound right own =
       found_where_owned std s (m.sp + std.link) (passing b) vs sound right (omega (arith, low)) (owned_between vs sound own)
+
+  -- a hidden result's address stands where it is passed
+  pub address_between : (vs : List ValueTree) → IsSound std s → OwnsAtEntry std s m vs → IsAddressOf (m.sp + std.link) (hidden_word (m.sp + std.link) (passing b) (hidden_of (plan_of std s).res)) (plan_of std s).res
+  address_between vs sound own =
+      let p = plan_of std s in
+      let owned = alikes.address_owned 0 0 (IsOnStackOrIn std.argument_registers) (image_from (m.sp + std.link) (frame_of std s) m) (image_from (m.sp + std.link) (frame_of std s) (passing b)) alike p.res (each_first (IsOnStackOrIn std.argument_registers) (hidden_locs p.res) (flat_map place_locs p.places) sound.passed) (behind_hidden std.link (frame_of std s) m p.res (omega (arith, low)) own.hidden) in
+      address_there (m.sp + std.link) (frame_of std s) (passing b) p.res (omega (arith, low)) (hidden_in_frame std s sound) owned
 
   pub received : IsSound std s → WroteOnly block (block + block_bytes s) (passing b) (passing c) → d ≡ scribbled n c → ((vs : List ValueTree) → OwnsArguments (image_from (m.sp + std.link) (frame_of std s) (passing b)) 0 s.arguments (plan_of std s).places vs → arguments_in s.arguments (stack_at block (block_bytes s) (passing c)) ≡ vs) → IsReceived std s m d
   received sound copies d_is values = record {

@@ -13,6 +13,7 @@ pub mod Poisoned
 pub mod Searching
 pub mod Beside
 pub mod OwnKept
+pub mod Whole
 pub mod ByStub
 pub mod WayBack
 pub mod Answered

@@ -1,5 +1,5 @@
 -- One more word that is saved, or given back.
-use Rattle.std.proofs.Common.{◌≡◌, ◌≢◌, ◌⊎◌, inl, inr, ⊎_elim, ℕ, zero, suc, ◌+◌, ◌-◌, ◌*◌, ◌^◌, ◌<◌, ◌≤◌, List, [], ◌∷◌, get_or, length, refl, ap, sym, ◌∙◌, subst, arith}
+use Rattle.std.proofs.Common.{◌≡◌, ◌≢◌, ◌⊎◌, inl, inr, ⊎_elim, ℕ, zero, suc, ◌+◌, ◌-◌, ◌*◌, ◌^◌, ◌<◌, ◌≤◌, List, [], ◌∷◌, drop, get_or, length, refl, ap, sym, ◌∙◌, subst, arith}
 use Rattle.std.specs.Prelude.{Option}
 use Rattle.std.specs.List.{AllByRecursion}
 use Rattle.std.specs.Int.{w64, to_le_bytes}
@@ -17,8 +17,21 @@ use Rattle.ffi3_pieces.proofs.Putting.{only_stored, stored_inside, stored_outsid
 use Rattle.ffi3_pieces.proofs.Stepping.{same_word_in}
 use Rattle.ffi3_place_rules.specs.declared.SaveWord.{SaveWord}
 use Rattle.ffi3_place_rules.specs.declared.SaveWord.TheVariants.{Register, Hidden, Spare}
-use Rattle.ffi3_callee.specs.Saved.{AreGivenBack, AreSaved, HoldRegisters, IsHiddenWord, IsRestorable, IsToSave, hidden_word, saved_word, word_to_save}
+use Rattle.ffi3_callee.specs.Saved.{AreGivenBack, AreSaved, HoldRegisters, IsHiddenWord, IsRestorable, IsToSave, hidden_word, saved_word, with_given_back, with_saved, with_word, word_to_save}
 use Rattle.ffi3_callee.proofs.Copying.{place_above}
+
+-- ---- the words from one on
+
+first_of : (ws : List SaveWord) (i : ℕ) (w : SaveWord) → i < length ws → w ≡ get_or ws i w → drop i ws ≡ w ∷ drop (suc i) ws
+first_of [] i w h is = absurd (omega (arith, h))
+first_of (x ∷ ws) zero w h is = λ k. sym is k ∷ ws
+first_of (x ∷ ws) (suc i) w h is = first_of ws i w (omega (arith, h)) is
+
+none_from : (ws : List SaveWord) (i : ℕ) → length ws ≤ i → drop i ws ≡ []
+none_from [] zero h = refl
+none_from [] (suc i) h = refl
+none_from (x ∷ ws) zero h = absurd (omega (arith, h))
+none_from (x ∷ ws) (suc i) h = none_from ws i (omega (arith, h))
 
 -- ---- saving
 
@@ -45,15 +58,22 @@ stored_is_one base m hidden Spare = tt
 module _ (from base : ℕ) (hidden : Option Loc) (words : List SaveWord) (first : State) where
   pub record AreSavedTo (i : ℕ) (m : State) : Type 0 where
     pub only : WroteOnly from (from + 8 * length words) first m
+    pub whole : with_saved from base hidden i (drop i words) m ≡ with_saved from base hidden 0 words first
     pub each : (j : ℕ) (w : SaveWord) → j < i → j < length words → w ≡ get_or words j w → saved_word from j m ≡ word_to_save base first hidden w
 
   pub none_saved : AreSavedTo 0 first
-  none_saved = record { only = only_nothing from (from + 8 * length words) first; each = λ j w h below is. absurd (omega (arith, h)) }
+  none_saved = record { only = only_nothing from (from + 8 * length words) first; whole = refl; each = λ j w h below is. absurd (omega (arith, h)) }
 
   pub one_more_saved : (i addr : ℕ) (word : SaveWord) (n : ℕ) (bytes : List ℕ) (a b : State) → STACK ≤ from → from + 8 * length words ≤ base → base ≤ STACK_TOP → length first.stack ≡ STACK_BYTES → i < length words → word ≡ get_or words i word → n < 2 ^ 64 → n ≡ word_to_save base a hidden word → bytes ≡ to_le_bytes w64 n → length bytes ≡ 8 → addr ≡ from + 8 * i → b ≡ stored addr bytes a → AreSavedTo i a → AreSavedTo (i + 1) b
   one_more_saved i addr word n bytes a b low below high sized inside is small n_is bytes_is eight addr_is b_is before =
-      record { only = only_then from (from + 8 * length words) first a b before.only wrote; each = each }
+      record { only = only_then from (from + 8 * length words) first a b before.only wrote; whole = whole; each = each }
     where
+      whole : with_saved from base hidden (i + 1) (drop (i + 1) words) b ≡ with_saved from base hidden 0 words first
+      whole =
+          let next : i + 1 ≡ suc i = omega arith in
+          let there : b ≡ stored (from + 8 * i) (to_le_bytes w64 (word_to_save base a hidden word)) a = b_is ∙ ap (λ q. stored q bytes a) addr_is ∙ ap (λ q. stored (from + 8 * i) q a) (bytes_is ∙ ap (to_le_bytes w64) n_is) in
+          ap (λ k. with_saved from base hidden k (drop k words) b) next ∙ ap (with_saved from base hidden (suc i) (drop (suc i) words)) there ∙ ap (λ ws. with_saved from base hidden i ws a) (sym (first_of words i word inside is)) ∙ before.whole
+
       fits : addr - STACK + length bytes ≤ length a.stack
       fits = omega (arith, eight, addr_is, inside, below, high, low, sized, before.only.within.size)
 
@@ -89,6 +109,10 @@ module _ (from base : ℕ) (hidden : Option Loc) (words : List SaveWord) (first 
   pub all_saved : (i : ℕ) (m : State) → length words ≤ i → AreSavedTo i m → AreSaved from base hidden words first m
   all_saved i m end saved j w below is =
       subst (IsToSave base first hidden w) (sym (saved.each j w (omega (arith, below, end)) below is)) (stored_is_one base first hidden w)
+
+  pub all_stored : (i : ℕ) (m : State) → length words ≤ i → AreSavedTo i m → m ≡ with_saved from base hidden 0 words first
+  all_stored i m end saved =
+      ap (λ ws. with_saved from base hidden i ws m) (sym (none_from words i end)) ∙ saved.whole
 
 -- ---- giving back
 
@@ -131,19 +155,26 @@ module _ (from : ℕ) (words : List SaveWord) (first : State) where
   pub record AreBackTo (i : ℕ) (m : State) : Type 0 where
     pub within : WroteWithin STACK_TOP STACK_TOP first m
     pub stays : Stays STACK_TOP (saved_registers words) first m
+    pub whole : with_given_back from i (drop i words) m ≡ with_given_back from 0 words first
     pub each : (value : Loc → ℕ) → HoldRegisters from words value first → (j : ℕ) (at : Loc) → j < i → j < length words → Register at ≡ get_or words j (Register at) → word_in STACK_TOP m at ≡ value at
 
   pub none_back : AreBackTo 0 first
   none_back = record {
     within = wrote_nothing STACK_TOP STACK_TOP first;
     stays = record { sp = refl; size = refl; others = λ l none. same_itself STACK_TOP l first };
+    whole = refl;
     each = λ value hold j at h below is. absurd (omega (arith, h));
   }
 
-  pub one_more_back : (i : ℕ) (word : SaveWord) (a b : State) → STACK ≤ from → i < length words → word ≡ get_or words i word → AllByRecursion (IsRestorable first.target) words → ((at : Loc) → word ≡ Register at → word_in STACK_TOP b at ≡ saved_word from i a) → Stays STACK_TOP (saved_registers (word ∷ [])) a b → WroteWithin STACK_TOP STACK_TOP a b → AreBackTo i a → AreBackTo (i + 1) b
-  one_more_back i word a b low inside is registers set stays within before =
-      record { within = wrote_then STACK_TOP STACK_TOP first a b before.within within; stays = stays_all; each = each }
+  pub one_more_back : (i : ℕ) (word : SaveWord) (a b : State) → STACK ≤ from → i < length words → word ≡ get_or words i word → AllByRecursion (IsRestorable first.target) words → ((at : Loc) → word ≡ Register at → word_in STACK_TOP b at ≡ saved_word from i a) → Stays STACK_TOP (saved_registers (word ∷ [])) a b → WroteWithin STACK_TOP STACK_TOP a b → b ≡ with_word word (saved_word from i a) a → AreBackTo i a → AreBackTo (i + 1) b
+  one_more_back i word a b low inside is registers set stays within b_is before =
+      record { within = wrote_then STACK_TOP STACK_TOP first a b before.within within; stays = stays_all; whole = whole; each = each }
     where
+      whole : with_given_back from (i + 1) (drop (i + 1) words) b ≡ with_given_back from 0 words first
+      whole =
+          let next : i + 1 ≡ suc i = omega arith in
+          ap (λ k. with_given_back from k (drop k words) b) next ∙ ap (with_given_back from (suc i) (drop (suc i) words)) b_is ∙ ap (λ ws. with_given_back from i ws a) (sym (first_of words i word inside is)) ∙ before.whole
+
       stays_all : Stays STACK_TOP (saved_registers words) first b
       stays_all = record {
         sp = stays.sp ∙ before.stays.sp;
@@ -191,3 +222,7 @@ module _ (from : ℕ) (words : List SaveWord) (first : State) where
 
   pub all_back : (i : ℕ) (m : State) → length words ≤ i → AreBackTo i m → (value : Loc → ℕ) → AreGivenBack from words value first m
   all_back i m end back value hold j at below is = back.each value hold j at (omega (arith, below, end)) below is
+
+  pub all_given : (i : ℕ) (m : State) → length words ≤ i → AreBackTo i m → m ≡ with_given_back from 0 words first
+  all_given i m end back =
+      ap (λ ws. with_given_back from i ws m) (sym (none_from words i end)) ∙ back.whole

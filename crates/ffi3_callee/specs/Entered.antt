@@ -1,16 +1,22 @@
 -- The machine once a callee is entered.
-use Rattle.std.specs.Prelude.{◌≡◌, ℕ, ◌+◌, ◌-◌, false, Option}
+use Rattle.std.specs.Prelude.{◌≡◌, ℕ, ◌+◌, ◌-◌, Bool, true, false, Option}
 use Rattle.std.specs.List.{AllByRecursion}
 use Rattle.ffi3_type_rules.specs.Isa.{isa_of}
 use Rattle.ffi3_place_rules.specs.declared.Loc.{Loc}
 use Rattle.ffi3_place_rules.specs.Standard.{Standard}
-use Rattle.ffi3_machine.specs.State.{State}
+use Rattle.ffi3_machine.specs.State.{State, with_sp, with_x}
 use Rattle.ffi3_machine.specs.Stubs.{Entry}
-use Rattle.ffi3_stubs.specs.Calls.{steps_of}
+use Rattle.ffi3_stubs.specs.Calls.{after_entry, steps_of}
 use Rattle.ffi3_pieces.specs.Passing.{by_exchange, passing, steps_if}
 use Rattle.ffi3_pieces.specs.Stored.{SameAt, WroteWithin, with_journal_of}
 use Rattle.ffi3_callee.specs.Given.{ReservedStay}
-use Rattle.ffi3_callee.specs.Saved.{AreSaved}
+use Rattle.ffi3_callee.specs.Saved.{AreSaved, with_saved}
+
+-- the machine in the callee, whose block begins at an address: through the stub Entry, which is told that address, or by saving word after word
+abbrev pub entered_if : Bool → Standard → Option Loc → ℕ → State → State
+entered_if true std hidden block s = after_entry (isa_of s.target) (with_x 528 block s)
+entered_if false std hidden block s =
+    with_sp block (with_saved (s.sp - std.save) (s.sp + std.link) hidden 0 std.save_area s)
 
 -- THE CALLEE IS ENTERED: what it is to give back is saved below the entry's sp, arguments are passed as they came in registers, and sp is its block's address.
 pub record IsEntered (std : Standard) (hidden : Option Loc) (block : ℕ) (entry m : State) : Type 0 where

@@ -8,12 +8,18 @@ use Rattle.ffi3_place_rules.specs.Image.{Image, register}
 use Rattle.ffi3_place_rules.specs.Standard.{Standard}
 use Rattle.ffi3_place_rules.specs.Agrees.{saved_registers}
 use Rattle.ffi3_place_rules.specs.Sound.{IsNoneOf, IsOneOf}
-use Rattle.ffi3_machine.specs.State.{State, HasReturnAddress, HasReturnAt, returned}
-use Rattle.ffi3_machine.specs.Stubs.{Exit}
-use Rattle.ffi3_stubs.specs.Calls.{steps_of}
+use Rattle.ffi3_machine.specs.State.{State, HasReturnAddress, HasReturnAt, returned, with_pc, with_sp, with_x}
+use Rattle.ffi3_machine.specs.Stubs.{Exit, stub_at}
+use Rattle.ffi3_stubs.specs.Calls.{after_exit, steps_of}
 use Rattle.ffi3_pieces.specs.Passing.{by_exchange, passing, steps_if}
 use Rattle.ffi3_pieces.specs.Stored.{IsPlace, SameAt, WroteWithin, with_journal_of}
-use Rattle.ffi3_callee.specs.Saved.{AreGivenBack, HoldRegisters}
+use Rattle.ffi3_callee.specs.Saved.{AreGivenBack, HoldRegisters, with_given_back}
+
+-- the machine that has gone back, whose sp at the entry was `entry`: through the stub Exit, which is told the save area's address, or by giving back word after word
+abbrev pub gone_back_if : Bool → Standard → (entry : ℕ) → State → State
+gone_back_if true std entry s =
+    after_exit (isa_of s.target) (with_pc (stub_at (isa_of s.target) Exit) (with_x 536 (entry - std.save) s))
+gone_back_if false std entry s = with_sp entry (with_given_back (entry - std.save) 0 std.save_area s)
 
 -- the machine at its return: the stub Exit has returned; without stubs the machine's own return is still to be made
 abbrev pub returned_if : Bool → State → State

@@ -1,5 +1,5 @@
 -- The machine after a callee took its arguments, and what the callee remembers of its entry.
-use Rattle.std.specs.Prelude.{◌≡◌, ◌+◌, ◌-◌, ◌≤◌, false, List, Option, Some, None}
+use Rattle.std.specs.Prelude.{◌≡◌, ◌+◌, ◌-◌, ◌≤◌, Bool, false, List, Option, Some, None, length}
 use Rattle.ffi3_type_rules.specs.declared.limits.TheConstants.{STACK, STACK_TOP}
 use Rattle.ffi3_type_rules.specs.Isa.{isa_of}
 use Rattle.ffi3_type_rules.specs.Signature.{Signature}
@@ -9,12 +9,13 @@ use Rattle.ffi3_place_rules.specs.declared.Res.{Res}
 use Rattle.ffi3_place_rules.specs.declared.Res.TheVariants.{Nothing, Direct, Hidden}
 use Rattle.ffi3_place_rules.specs.Standard.{Standard, block_bytes, frame_of, plan_of}
 use Rattle.ffi3_place_rules.specs.Holds.{Own}
-use Rattle.ffi3_machine.specs.State.{State, image_of, stack_at}
+use Rattle.ffi3_machine.specs.State.{State, image_of, scribbled, stack_at}
 use Rattle.ffi3_body.specs.SeenActivation.{arguments_in}
 use Rattle.ffi3_machine.specs.Stubs.{Entry}
 use Rattle.ffi3_stubs.specs.Calls.{steps_of}
 use Rattle.ffi3_pieces.specs.Passing.{by_exchange, steps_if}
 use Rattle.ffi3_pieces.specs.Stored.{WroteWithin, with_journal_of}
+use Rattle.ffi3_callee.specs.Entered.{entered_if}
 use Rattle.ffi3_callee.specs.Given.{IsAddressOrZero}
 use Rattle.ffi3_callee.specs.Saved.{AreSaved}
 use Rattle.ffi3_callee.specs.Remembered.{Remembered}
@@ -35,6 +36,16 @@ pub record IsIncoming (std : Standard) (s : Signature) (incoming : Remembered) :
   pub entry : incoming.block + block_bytes s + std.save ≡ incoming.entry
   pub high : incoming.entry + std.link + frame_of std s ≤ STACK_TOP
   pub address : IsAddressOrZero (incoming.entry + std.link) incoming.address (plan_of std s).res
+
+-- THE MACHINE AFTER: the callee is entered, and scribbles. The arguments that it copies into its block change stack and mark alone, which are those of `after`.
+abbrev pub received_if : Bool → Standard → Signature → (entry after : State) → State
+received_if b std s entry after =
+    record
+    (scribbled (length entry.events)
+    (entered_if b std (hidden_of (plan_of std s).res) (entry.sp - std.save - block_bytes s) entry)) {
+      stack = after.stack;
+      mark = after.mark;
+    }
 
 -- THE BLOCK HAS EVERY LIST OF VALUES THAT THE ENTRY OWNS, the words are saved above it, and of the stack nothing is written from the entry's sp on
 pub record IsReceived (std : Standard) (s : Signature) (entry m : State) : Type 0 where

@@ -1,12 +1,13 @@
 -- The words of a save area: what each is to hold, and what is given back from it.
-use Rattle.std.specs.Prelude.{◌≡◌, ℕ, ◌*◌, ◌<◌, ⊤, List, get_or, length, Option, Some, None}
+use Rattle.std.specs.Prelude.{◌≡◌, ℕ, suc, ◌+◌, ◌*◌, ◌<◌, ⊤, List, [], ◌∷◌, get_or, length, Option, Some, None}
+use Rattle.std.specs.Int.{w64, to_le_bytes}
 use Rattle.ffi3_type_rules.specs.declared.Target.{Target}
 use Rattle.ffi3_type_rules.specs.declared.limits.TheConstants.{STACK_TOP}
 use Rattle.ffi3_place_rules.specs.declared.Loc.{Loc}
-use Rattle.ffi3_place_rules.specs.declared.Loc.TheVariants.{S}
+use Rattle.ffi3_place_rules.specs.declared.Loc.TheVariants.{G, F, S}
 use Rattle.ffi3_place_rules.specs.declared.SaveWord.{SaveWord}
 use Rattle.ffi3_place_rules.specs.declared.SaveWord.TheVariants.{Register, Hidden, Spare}
-use Rattle.ffi3_machine.specs.State.{State}
+use Rattle.ffi3_machine.specs.State.{State, stored, with_floating, with_general}
 use Rattle.ffi3_pieces.specs.Stored.{IsPlace, IsWritable, word_in}
 
 -- word i of those that stand one behind the other from an address on
@@ -73,3 +74,27 @@ abbrev pub HaveRegisters : List SaveWord → ℕ → State → State → Type 0
 HaveRegisters words base entry m =
     (i : ℕ) (at : Loc) → i < length words → Register at ≡ get_or words i (Register at)
     → word_in STACK_TOP m at ≡ word_in base entry at
+
+-- ---- the machine itself, where no stub saves and loads
+
+-- the words are stored one behind the other, word i first, where word 0 stands at an address
+abbrev pub with_saved : ℕ → ℕ → Option Loc → ℕ → List SaveWord → State → State
+with_saved from base hidden i [] s = s
+with_saved from base hidden i (w ∷ ws) s =
+    with_saved from base hidden (suc i) ws (stored (from + 8 * i) (to_le_bytes w64 (word_to_save base s hidden w)) s)
+
+abbrev pub with_register : Loc → ℕ → State → State
+with_register (G k) value s = with_general k value s
+with_register (F k) value s = with_floating k value s
+with_register (S n) value s = s
+
+-- a register gets what its word holds
+abbrev pub with_word : SaveWord → ℕ → State → State
+with_word (Register at) value s = with_register at value s
+with_word Hidden value s = s
+with_word Spare value s = s
+
+-- the registers of the words get what these hold, that of word i first
+abbrev pub with_given_back : ℕ → ℕ → List SaveWord → State → State
+with_given_back from i [] s = s
+with_given_back from i (w ∷ ws) s = with_given_back from (suc i) ws (with_word w (saved_word from i s) s)

@@ -9,9 +9,9 @@ ghost use Rattle.ffi3_place_rules.specs.Isa.{area_bytes, hidden_register, to_lis
 ghost use Rattle.ffi3_place_rules.specs.Sound.{IsOneOf};
 ghost use Rattle.ffi3_machine.specs.State.{with_x};
 ghost use Rattle.ffi3_machine.specs.Stubs.{Entry};
-ghost use Rattle.ffi3_stubs.specs.Calls.{HasEntered, steps_of};
+ghost use Rattle.ffi3_stubs.specs.Calls.{HasEntered, after_entry, steps_of};
 ghost use Rattle.ffi3_pieces.specs.Passing.{by_exchange};
-ghost use Rattle.ffi3_callee.specs.Entered.{IsEntered};
+ghost use Rattle.ffi3_callee.specs.Entered.{IsEntered, entered_if};
 ghost use Rattle.ffi3_callee.specs.Saved.{HiddenLies};
 
 use crate::saving::save_words;
@@ -25,6 +25,7 @@ fn enter_by_stub(machine: &mut Machine, block: u64)
     requires entry { machine.old.pc ≡ ENTRY }
     requires low { STACK + area_bytes (isa_of machine.old.target) ≤ machine.old.sp }
     requires high { machine.old.sp ≤ STACK_TOP }
+    ensures whole { machine.new ≡ after_entry (isa_of machine.old.target) (with_x 528 block machine.old) }
     ensures says { HasEntered (isa_of machine.old.target) (with_x 528 block machine.old) machine.new }
     ensures counted { machine.new.steps ≡ (machine.old.steps + steps_of (isa_of machine.old.target) Entry) % 2 ^ 64 }
 {
@@ -42,7 +43,8 @@ pub fn enter<A: Abi>(machine: &mut Machine, base: StackBase, block: u64, hidden:
     requires below { block ≤ machine.old.sp }
     requires hidden { HiddenLies (STACK_TOP - base) hidden }
     requires hidden_saved { by_exchange machine.old.target ≡ true → AllByRecursion (IsOneOf (G (hidden_register (isa_of A.standard.target)) ∷ [])) (to_list hidden) }
-    ensures { IsEntered A.standard hidden block machine.old machine.new }
+    ensures whole { machine.new ≡ entered_if (by_exchange machine.old.target) A.standard hidden block machine.old }
+    ensures entered { IsEntered A.standard hidden block machine.old machine.new }
 {
     // its contract tells where it lies
     let _at = base.address();

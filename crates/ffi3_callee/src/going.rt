@@ -7,13 +7,13 @@ ghost use Rattle.ffi3_place_rules.specs.Isa.{area_bytes, pushed_bytes};
 ghost use Rattle.ffi3_place_rules.specs.Image.{Image, register};
 ghost use Rattle.ffi3_place_rules.specs.Standard.{frame_of};
 ghost use Rattle.ffi3_place_rules.specs.Holds.{HoldsResult, Kept, SameIn};
-ghost use Rattle.ffi3_machine.specs.State.{image_of, with_x};
-ghost use Rattle.ffi3_machine.specs.Stubs.{Exit};
-ghost use Rattle.ffi3_stubs.specs.Calls.{HasLeft, steps_of};
-ghost use Rattle.ffi3_pieces.specs.Passing.{passing};
+ghost use Rattle.ffi3_machine.specs.State.{image_of, with_pc, with_x};
+ghost use Rattle.ffi3_machine.specs.Stubs.{Exit, stub_at};
+ghost use Rattle.ffi3_stubs.specs.Calls.{HasLeft, after_exit, steps_of};
+ghost use Rattle.ffi3_pieces.specs.Passing.{by_exchange, passing};
 ghost use Rattle.ffi3_callee.specs.Loaded.{image_from};
 ghost use Rattle.ffi3_callee.specs.Given.{ReservedStay};
-ghost use Rattle.ffi3_callee.specs.GoneBack.{HasGoneBack, returned_by};
+ghost use Rattle.ffi3_callee.specs.GoneBack.{HasGoneBack, gone_back_if, returned_by};
 ghost use Rattle.ffi3_callee.specs.Received.{IsIncoming};
 ghost use Rattle.ffi3_callee.specs.Saved.{HoldRegisters};
 
@@ -28,6 +28,7 @@ use ffi3_stubs::run_exit;
 fn leave_by_stub(machine: &mut Machine, area: u64)
     requires low { STACK ≤ area }
     requires high { area + area_bytes (isa_of machine.old.target) + pushed_bytes (isa_of machine.old.target) ≤ STACK_TOP }
+    ensures whole { machine.new ≡ after_exit (isa_of machine.old.target) (with_pc (stub_at (isa_of machine.old.target) Exit) (with_x 536 area machine.old)) }
     ensures says { HasLeft (isa_of machine.old.target) (with_x 536 area machine.old) machine.new }
     ensures counted { machine.new.steps ≡ (machine.old.steps + steps_of (isa_of machine.old.target) Exit) % 2 ^ 64 }
 {
@@ -41,7 +42,8 @@ fn leave_by_stub(machine: &mut Machine, area: u64)
 fn go<A: Abi>(machine: &mut Machine, cif: &Cif<A>, incoming: Incoming)
     requires target { machine.old.target ≡ A.TARGET }
     requires incoming { IsIncoming A.standard cif.now incoming }
-    ensures { HasGoneBack A.standard incoming.entry machine.old machine.new }
+    ensures whole { machine.new ≡ gone_back_if (by_exchange machine.old.target) A.standard incoming.entry machine.old }
+    ensures back { HasGoneBack A.standard incoming.entry machine.old machine.new }
 {
     // its contract tells what is true of every machine
     let _m = machine.sp();
@@ -59,6 +61,7 @@ fn go<A: Abi>(machine: &mut Machine, cif: &Cif<A>, incoming: Incoming)
 pub fn go_back<A: Abi>(machine: &mut Machine, cif: &Cif<A>, incoming: Incoming)
     requires target { machine.old.target ≡ A.TARGET }
     requires incoming { IsIncoming A.standard cif.now incoming }
+    ensures whole { machine.new ≡ gone_back_if (by_exchange machine.old.target) A.standard incoming.entry machine.old }
     ensures back { HasGoneBack A.standard incoming.entry machine.old machine.new }
     ensures reserved { ReservedStay A.standard machine.old machine.new }
     ensures kept { (e : Image) (room : ℕ) → e.sp ≡ incoming.entry → HoldRegisters (incoming.entry - A.standard.save) A.standard.save_area (register e) machine.old → SameIn A.standard.reserved e (image_of 0 machine.old) → Kept A.standard e (image_of room (returned_by machine.new)) }

@@ -11,11 +11,12 @@ ghost use Rattle.ffi3_place_rules.specs.Holds.{OwnsArguments};
 ghost use Rattle.ffi3_place_rules.specs.Standard.{block_bytes, frame_of, plan_of};
 ghost use Rattle.ffi3_machine.specs.State.{scribbled_floating, scribbled_general, stack_at};
 ghost use Rattle.ffi3_body.specs.SeenActivation.{arguments_in, block_offset};
-ghost use Rattle.ffi3_pieces.specs.Passing.{passing};
+ghost use Rattle.ffi3_pieces.specs.Passing.{by_exchange, passing};
 ghost use Rattle.ffi3_pieces.specs.Stored.{WroteOnly};
 ghost use Rattle.ffi3_callee.specs.Loaded.{AreFound, image_from};
 ghost use Rattle.ffi3_callee.specs.Given.{ReservedStay};
-ghost use Rattle.ffi3_callee.specs.Received.{IsIncoming, IsReceived, OwnsAtEntry, hidden_of};
+ghost use Rattle.ffi3_callee.specs.Received.{IsIncoming, IsReceived, OwnsAtEntry, hidden_of, received_if};
+ghost use Rattle.ffi3_callee.specs.Saved.{HiddenLies, hidden_word};
 
 mod answering;
 mod entering;
@@ -30,6 +31,7 @@ pub use answering::answer;
 use entering::enter;
 use ffi3_cif::Cif;
 use ffi3_machine::{Machine, StackBase};
+use ffi3_pieces::place_word;
 use ffi3_place::{Abi, Loc, Res};
 use ffi3_type_rules::round_up;
 use ffi3_types::CheckedSig;
@@ -37,7 +39,6 @@ pub use giving::give_result;
 pub use going::go_back;
 pub use poisoning::poison;
 pub use restoring::restore;
-use saving::hidden_word;
 use std::marker::Model;
 use taking::copy_argument;
 
@@ -115,6 +116,18 @@ fn hidden_place(place: &Res) -> Option<Loc>
     }
 }
 
+// A hidden result's address, or 0. It stands where arguments are passed: where calls go by stubs, Entry has stored it in
+// the exchange region.
+fn passed_address(machine: &Machine, base: StackBase, hidden: Option<Loc>) -> u64
+    requires { HiddenLies (STACK_TOP - base) hidden }
+    ensures { result ≡ hidden_word base (passing machine.now) hidden }
+{
+    match hidden {
+        Some(at) => place_word(machine, base, at),
+        None => 0,
+    }
+}
+
 /// At an entry: saves the registers that are to be given back, by the stub Entry where calls go by stubs, copies the
 /// arguments into the block below them, where sp then is, and scribbles on every register but sp and the reserved ones.
 /// It does not know the values.
@@ -124,6 +137,7 @@ pub fn receive<A: Abi>(machine: &mut Machine, cif: &Cif<A>) -> Incoming
     requires room { STACK + A.standard.save + block_bytes cif.now ≤ machine.old.sp }
     requires frame { machine.old.sp + A.standard.link + frame_of A.standard cif.now ≤ STACK_TOP }
     requires some { (vs : List ValueTree) × OwnsAtEntry A.standard cif.now machine.old vs }
+    ensures whole { machine.new ≡ received_if (by_exchange machine.old.target) A.standard cif.now machine.old machine.new }
     ensures received { IsReceived A.standard cif.now machine.old machine.new }
     ensures incoming { IsIncoming A.standard cif.now result }
     ensures general { machine.new.general ≡ scribbled_general (isa_of machine.old.target) (length machine.old.events) machine.old.general }
@@ -138,10 +152,10 @@ pub fn receive<A: Abi>(machine: &mut Machine, cif: &Cif<A>) -> Incoming
     let base = StackBase::at(entry + A::LINK);
     let block = entry - A::SAVE - cif.block();
     let hidden = hidden_place(cif.result_place());
-    let address = hidden_word(machine, base, hidden);
     enter::<A>(machine, base, block, hidden);
     // its contract tells what is true of every machine
     let _entered = machine.sp();
+    let address = passed_address(machine, base, hidden);
     copy_arguments(machine, cif, base, block);
     let _copied = machine.sp();
     let number = machine.events().len() as u64;

@@ -10,6 +10,7 @@ ghost use Rattle.ffi3_pieces.specs.Stored.{IsPlace, IsWordPut, IsWritable};
 ghost use Rattle.ffi3_callee.specs.Poison.{IsPoisoned, address_has, byte_number, carries, copy_has, hidden_has, is_argument_register, is_leaf_byte, piece_has, place_has};
 ghost use Rattle.ffi3_callee.specs.Received.{OwnsAtEntry};
 ghost use Rattle.ffi3_callee.specs.Overwritten.{AreRegistersDone, IsFrameDone, IsRegisterDone};
+ghost use Rattle.ffi3_callee.specs.Saved.{with_register};
 
 use ffi3_cif::Cif;
 use ffi3_machine::{Machine, StackBase};
@@ -162,6 +163,7 @@ fn poisoned<A: Abi>(cif: &Cif<A>, at: Loc, word: u64, byte: u8) -> u64
 pub fn set_register(machine: &mut Machine, at: Loc, word: u64)
     requires register { IsPlace 0 at }
     requires writable { IsWritable machine.old.target at }
+    ensures whole { machine.new ≡ with_register at word machine.old }
     ensures put { (base : ℕ) → IsWordPut base at word machine.old machine.new }
     ensures mark { machine.new.mark ≡ machine.old.mark }
 {

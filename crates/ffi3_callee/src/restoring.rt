@@ -6,12 +6,12 @@ ghost use Rattle.ffi3_place_rules.specs.declared.Loc.{Loc};
 ghost use Rattle.ffi3_place_rules.specs.Agrees.{saved_registers};
 ghost use Rattle.ffi3_place_rules.specs.Standard.{frame_of};
 ghost use Rattle.ffi3_place_rules.specs.Holds.{HoldsResult, Kept};
-ghost use Rattle.ffi3_machine.specs.State.{State, image_of, returned};
+ghost use Rattle.ffi3_machine.specs.State.{State, image_of, returned, with_sp};
 ghost use Rattle.ffi3_pieces.specs.Stored.{WroteWithin};
 ghost use Rattle.ffi3_callee.specs.Loaded.{image_from};
 ghost use Rattle.ffi3_callee.specs.Given.{RegistersStay, ReservedStay};
 ghost use Rattle.ffi3_callee.specs.Received.{IsIncoming};
-ghost use Rattle.ffi3_callee.specs.Saved.{AreGivenBack, AreSaved, HaveRegisters};
+ghost use Rattle.ffi3_callee.specs.Saved.{AreGivenBack, AreSaved, HaveRegisters, with_given_back};
 
 use crate::Incoming;
 use crate::saving::restore_words;
@@ -24,6 +24,7 @@ use ffi3_place::Abi;
 pub fn restore<A: Abi>(machine: &mut Machine, cif: &Cif<A>, incoming: Incoming)
     requires target { machine.old.target ≡ A.TARGET }
     requires incoming { IsIncoming A.standard cif.now incoming }
+    ensures whole { machine.new ≡ with_sp incoming.entry (with_given_back (incoming.entry - A.standard.save) 0 A.standard.save_area machine.old) }
     ensures given_back { (value : Loc → ℕ) → AreGivenBack (incoming.entry - A.standard.save) A.standard.save_area value machine.old machine.new }
     ensures entry { (base : ℕ) (hidden : Option Loc) (entry : State) → AreSaved (incoming.entry - A.standard.save) base hidden A.standard.save_area entry machine.old → HaveRegisters A.standard.save_area base entry machine.new }
     ensures others { RegistersStay (saved_registers A.standard.save_area) machine.old machine.new }

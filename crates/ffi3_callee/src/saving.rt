@@ -5,7 +5,7 @@ ghost use Rattle.ffi3_type_rules.specs.declared.limits.TheConstants.{STACK, STAC
 ghost use Rattle.ffi3_place_rules.specs.declared.Loc.{Loc};
 ghost use Rattle.ffi3_place_rules.specs.Agrees.{saved_registers};
 ghost use Rattle.ffi3_pieces.specs.Stored.{Stays, WroteOnly, WroteWithin, word_in};
-ghost use Rattle.ffi3_callee.specs.Saved.{AreGivenBack, AreSaved, HiddenLies, IsRestorable, IsSaveable, hidden_word, saved_word, word_to_save};
+ghost use Rattle.ffi3_callee.specs.Saved.{AreGivenBack, AreSaved, HiddenLies, IsRestorable, IsSaveable, hidden_word, saved_word, with_given_back, with_register, with_saved, with_word, word_to_save};
 
 use crate::poisoning;
 use ffi3_machine::{Machine, StackBase};
@@ -27,8 +27,8 @@ fn word_at<A: Abi>(i: u8) -> SaveWord
     A::saved_word(i)
 }
 
-/// A hidden result's address, or 0.
-pub fn hidden_word(machine: &Machine, base: StackBase, hidden: Option<Loc>) -> u64
+// A hidden result's address, or 0.
+fn hidden_word(machine: &Machine, base: StackBase, hidden: Option<Loc>) -> u64
     requires { HiddenLies (STACK_TOP - base) hidden }
     ensures { result ≡ hidden_word base machine.now hidden }
 {
@@ -58,6 +58,7 @@ pub fn save_words<A: Abi>(machine: &mut Machine, from: u64, base: StackBase, hid
     requires below { from + 8 * length A.standard.save_area ≤ base }
     requires lie { AllByRecursion (IsSaveable (STACK_TOP - base)) A.standard.save_area }
     requires hidden { HiddenLies (STACK_TOP - base) hidden }
+    ensures whole { machine.new ≡ with_saved from base hidden 0 A.standard.save_area machine.old }
     ensures saved { AreSaved from base hidden A.standard.save_area machine.old machine.new }
     ensures only { WroteOnly from (from + 8 * length A.standard.save_area) machine.old machine.new }
 {
@@ -73,6 +74,7 @@ pub fn save_words<A: Abi>(machine: &mut Machine, from: u64, base: StackBase, hid
 /// Sets a register.
 pub fn set_register(machine: &mut Machine, at: Loc, word: u64)
     requires register { IsRestorable machine.old.target (SaveWord.Register at) }
+    ensures whole { machine.new ≡ with_register at word machine.old }
     ensures is { word_in STACK_TOP machine.new at ≡ word }
     ensures stays { Stays STACK_TOP (saved_registers (SaveWord.Register at ∷ [])) machine.old machine.new }
     ensures within { WroteWithin STACK_TOP STACK_TOP machine.old machine.new }
@@ -84,6 +86,7 @@ pub fn set_register(machine: &mut Machine, at: Loc, word: u64)
 fn restore_word(machine: &mut Machine, from: StackBase, i: u32, word: SaveWord)
     requires high { from + 8 * i + 8 ≤ STACK_TOP }
     requires register { IsRestorable machine.old.target word }
+    ensures whole { machine.new ≡ with_word word (saved_word from i machine.old) machine.old }
     ensures is { (at : Loc) → word ≡ SaveWord.Register at → word_in STACK_TOP machine.new at ≡ saved_word from i machine.old }
     ensures stays { Stays STACK_TOP (saved_registers (word ∷ [])) machine.old machine.new }
     ensures within { WroteWithin STACK_TOP STACK_TOP machine.old machine.new }
@@ -101,6 +104,7 @@ fn restore_word(machine: &mut Machine, from: StackBase, i: u32, word: SaveWord)
 pub fn restore_words<A: Abi>(machine: &mut Machine, from: StackBase)
     requires high { from + 8 * length A.standard.save_area ≤ STACK_TOP }
     requires registers { AllByRecursion (IsRestorable machine.old.target) A.standard.save_area }
+    ensures whole { machine.new ≡ with_given_back from 0 A.standard.save_area machine.old }
     ensures given_back { (value : Loc → ℕ) → AreGivenBack from A.standard.save_area value machine.old machine.new }
     ensures stays { Stays STACK_TOP (saved_registers A.standard.save_area) machine.old machine.new }
     ensures within { WroteWithin STACK_TOP STACK_TOP machine.old machine.new }

@@ -17,3 +17,4 @@ mod Made
 mod Served
 pub mod Accepting
 mod Transports
+mod Passing

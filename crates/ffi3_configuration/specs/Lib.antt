@@ -4,6 +4,7 @@ pub mod Known
 pub mod Activations
 pub mod Stack
 pub mod Going
+pub mod Passed
 pub mod Outermost
 pub mod CallSteps
 pub mod Counted

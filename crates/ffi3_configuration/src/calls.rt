@@ -1,10 +1,10 @@
 //! Calls that are entered, and returns.
-ghost use Rattle.std.specs.Prelude.{◌≡◌, ℕ, ◌<◌, ◌≤◌, IfOk, List, None, length, reverse, suc, true};
+ghost use Rattle.std.specs.Prelude.{◌≡◌, ℕ, ◌<◌, ◌≤◌, IfOk, List, None, OnErr, OnOk, length, reverse, suc, true, vec_capacity, vec_len};
 ghost use Rattle.ffi3_type_rules.specs.declared.limits.TheConstants.{STACK_TOP};
 ghost use Rattle.ffi3_type_rules.specs.Layout.{size_of};
 ghost use Rattle.ffi3_type_rules.specs.Signature.{signature_at};
 ghost use Rattle.ffi3_type_rules.specs.Tree.{trees_of};
-ghost use Rattle.ffi3_type_rules.specs.Value.{all_fit, fits, values_of};
+ghost use Rattle.ffi3_type_rules.specs.Value.{ValueTree, all_fit, fits, values_of};
 ghost use Rattle.ffi3_values.specs.ValueOf.{value_of};
 ghost use Rattle.ffi3_place_rules.specs.declared.Loc.{Loc};
 ghost use Rattle.ffi3_place_rules.specs.Event.{Event};
@@ -15,13 +15,15 @@ ghost use Rattle.ffi3_run_rules.specs.Trace.{TraceItem};
 ghost use Rattle.ffi3_turn_rules.specs.Remainder.{Remainder};
 ghost use Rattle.ffi3_turn_rules.specs.SoFar.{Base};
 ghost use Rattle.ffi3_turn_rules.specs.TracingOf.{IsTracingOf};
-ghost use Rattle.ffi3_machine.specs.State.{stack_at};
+ghost use Rattle.ffi3_io.specs.Sink.{SinkState};
+ghost use Rattle.ffi3_machine.specs.State.{State, stack_at};
 ghost use Rattle.ffi3_closures.specs.Slots.{HoldsMap};
 ghost use Rattle.ffi3_callee.specs.Received.{IsIncoming};
 ghost use Rattle.ffi3_invoke.specs.Calls.{HasEnded, IsCalled};
 ghost use Rattle.ffi3_configuration.specs.Between.{Beginning, IsAsking, run_state};
 ghost use Rattle.ffi3_configuration.specs.Going.{HasGoneBack, HasGoneIn};
 ghost use Rattle.ffi3_configuration.specs.Known.{CanEnter};
+ghost use Rattle.ffi3_configuration.specs.Passed.{IsPassed};
 ghost use Rattle.ffi3_configuration.specs.Activations.{AreShort, call_inside, calls_of, result_type_at};
 ghost use Rattle.ffi3_configuration.specs.Stack.{HoldsCalls};
 ghost use Rattle.ffi3_configuration.specs.Turned.{KeepsClosures, Turned};
@@ -30,7 +32,7 @@ use crate::tracing::{tell_entry, tell_return};
 use crate::{Activation, Cifs, Configuration, OpenCall, Turn, Waiting};
 use ffi3_callee::Incoming;
 use ffi3_cif::Cif;
-use ffi3_invoke::{begin_call, end_call};
+use ffi3_invoke::{accept, end_call, pass_arguments};
 use ffi3_io::Sink;
 use ffi3_machine::Machine;
 use ffi3_pieces::SMALL;
@@ -39,7 +41,7 @@ use ffi3_run_rules::Closure;
 use ffi3_type_rules::limits::LARGEST_TYPE;
 use ffi3_types::NoMemory;
 use ffi3_values::{Value, Values, value_from_bytes};
-use std::alloc::Global;
+use std::alloc::{AllocError, Global};
 
 /// Returns from the callee of a call, and reads the result by way of `out`, which has as many bytes.
 fn end_by<A: Abi>(
@@ -93,9 +95,45 @@ fn end_with<A: Abi>(
 }
 
 impl<S: Drop> Configuration<S> {
-    /// Calls a closure that the call can enter: its function's activation, which stands here before
-    /// its first move, is then the innermost. Where the run is traced, the entry is told. But for
-    /// its lines all memory is taken before the call begins.
+    /// Passes the arguments of a call that can be made, up to the entry of the closure at its pointer: the machine then
+    /// shows the call. But for the lines of the entry all memory is taken before it begins.
+    pub fn pass<A: Abi>(
+        &mut self,
+        machine: &mut Machine,
+        cifs: &Cifs<A>,
+        ptr: u64,
+        sig: u32,
+        args: &Values,
+    ) -> Result<(), NoMemory>
+        requires target { machine.old.target ≡ A.TARGET }
+        requires site { sig < length cifs.now }
+        requires fit { all_fit (trees_of (signature_at cifs.now sig).arguments) (values_of args.now) ≡ true }
+        requires can { (closure : Closure) × CanEnter A.standard cifs.now self.old.table ptr sig machine.old.sp closure }
+        requires top { machine.old.sp ≤ STACK_TOP }
+        requires holds { HoldsMap machine.old.target self.old.table machine.old.code }
+        ensures passed { OnOk result (IsPassed A.standard (signature_at cifs.now sig) ptr args.now machine.old machine.new) }
+        ensures waits { OnOk result (vec_len self.new.suspended < vec_capacity self.new.suspended) }
+        ensures same { self.new ≡ record self.old { suspended = self.new.suspended } }
+        ensures items { self.new.suspended.items ≡ self.old.suspended.items }
+        ensures refused { OnErr result ((p : Program) (base : Base) (all : Remainder) (first : Beginning) (own : List TraceItem) (events : List Event) (current : Activation S) (output : SinkState) →
+            IsAsking p base all first own events (run_state p.signatures current self.old machine.old output) (asks.call ptr sig args.now) →
+            Turned p base all first own (suc self.old.moves) self.new machine.new output Turn.NoMemory) }
+    {
+        // its contract tells what is true of every machine
+        let _sp = machine.sp();
+        let cif = cifs.get(sig);
+        let Ok(()) = self.suspended.reserve(1) else {
+            return Err(AllocError);
+        };
+        let Ok(()) = machine.journal_room(A::LINK + cif.frame()) else {
+            return Err(AllocError);
+        };
+        pass_arguments(machine, &self.table, cif, args, ptr);
+        Ok(())
+    }
+
+    /// Enters the closure that the machine shows at its entry, once the arguments are passed: its function's activation,
+    /// which stands here before its first move, is then the innermost. Where the run is traced, the entry is told.
     pub fn enter<A: Abi, O: Sink>(
         &mut self,
         alloc: Global,
@@ -105,36 +143,29 @@ impl<S: Drop> Configuration<S> {
         current: Activation<S>,
         closure: Closure,
         standing: S,
-        ptr: u64,
         sig: u32,
-        args: &Values,
         trace: bool,
     ) -> Turn
-        requires target { machine.old.target ≡ A.TARGET }
         requires site { sig < length cifs.now }
-        requires fit { all_fit (trees_of (signature_at cifs.now sig).arguments) (values_of args.now) ≡ true }
-        requires can { CanEnter A.standard cifs.now self.old.table ptr sig machine.old.sp closure }
-        requires top { machine.old.sp ≤ STACK_TOP }
-        requires holds { HoldsMap machine.old.target self.old.table machine.old.code }
+        requires below { closure.sig < length cifs.now }
+        requires same { signature_at cifs.now sig ≡ signature_at cifs.now closure.sig }
+        requires passed { (before : State) × (ptr : ℕ) × (args : List ValueTree) × IsPassed A.standard (signature_at cifs.now sig) ptr args before machine.old }
+        requires waits { vec_len self.old.suspended < vec_capacity self.old.suspended }
         ensures kept { result ≡ Turn.Failed → KeepsClosures self.old self.new }
         ensures goes { result ≡ Turn.More → HasGoneIn closure standing sig current self.old self.new }
-        ensures above { result ≡ Turn.More →
-            (address count : ℕ) → machine.old.sp ≤ address → stack_at address count machine.new ≡ stack_at address count machine.old }
-        ensures turned { (p : Program) (base : Base) (all : Remainder) (first : Beginning) (own : List TraceItem) (events : List Event) →
+        ensures above { result ≡ Turn.More → (before : State) (ptr : ℕ) (args : List ValueTree) →
+            IsPassed A.standard (signature_at cifs.now sig) ptr args before machine.old →
+            (address count : ℕ) → before.sp ≤ address → stack_at address count machine.new ≡ stack_at address count before }
+        ensures turned { (p : Program) (base : Base) (all : Remainder) (first : Beginning) (own : List TraceItem) (events : List Event) (before : State) (ptr : ℕ) (args : List ValueTree) →
             base.standard ≡ A.standard → p.signatures ≡ cifs.now → IsTracingOf p base trace first.tracing →
-            IsAsking p base all first own events (run_state p.signatures current self.old machine.old (O.state output.old)) (asks.call ptr sig args.now) →
-            effect_of p (run_state p.signatures current self.old machine.old (O.state output.old)).innermost self.old.table (asks.call ptr sig args.now) ≡
-            enters ptr sig (callee_of p (run_state p.signatures current self.old machine.old (O.state output.old)).innermost sig args.now closure) →
+            IsPassed A.standard (signature_at cifs.now sig) ptr args before machine.old →
+            IsAsking p base all first own events (run_state p.signatures current self.old before (O.state output.old)) (asks.call ptr sig args) →
+            effect_of p (run_state p.signatures current self.old before (O.state output.old)).innermost self.old.table (asks.call ptr sig args) ≡
+            enters ptr sig (callee_of p (run_state p.signatures current self.old before (O.state output.old)).innermost sig args closure) →
             Turned p base all first own (suc self.old.moves) self.new machine.new (O.state output.new) result }
     {
-        let cif = cifs.get(sig);
-        let Ok(()) = self.suspended.reserve(1) else {
-            return Turn::NoMemory;
-        };
-        let Ok(()) = machine.journal_room(A::LINK + cif.frame()) else {
-            return Turn::NoMemory;
-        };
-        let incoming = begin_call(machine, &self.table, cif, args, ptr);
+        let cif = cifs.get(closure.sig);
+        let incoming = accept(machine, cif);
         let told = tell_entry(alloc, machine, output, cif, trace);
         if let Err(why) = told {
             return Turn::cut_off(why);

@@ -8,6 +8,7 @@ mod Last
 mod Running
 mod Ready
 mod Serving
+mod Showing
 mod Main
 mod Preparing
 mod Returning

@@ -29,6 +29,7 @@ use crate::asked::{asked_by_callee, asked_by_main};
 use crate::prepare::Prepared;
 use ffi3_ask::{Move, Standing};
 use ffi3_configuration::{Activation, Configuration, Turn};
+use ffi3_invoke::entered_closure;
 use ffi3_io::Sink;
 use ffi3_machine::Machine;
 use ffi3_place::Abi;
@@ -115,17 +116,24 @@ impl<'a, A: Abi> Prepared<'a, A> {
             (address count : ℕ) → machine.old.sp ≤ address → stack_at address count machine.new ≡ stack_at address count machine.old }
         ensures kept { result ≡ Turn.Failed → KeepsClosures configuration.old configuration.new }
     {
-        let closure = match configuration.callee(machine, &self.cifs, ptr, sig) {
-            Ok(closure) => closure,
+        let _called = match configuration.callee(machine, &self.cifs, ptr, sig) {
+            Ok(called) => called,
             Err(why) => {
                 let alloc = self.alloc;
                 return configuration.stop_for(alloc, output, &self.cifs, current, why);
             }
         };
+        let Ok(()) = configuration.pass(machine, &self.cifs, ptr, sig, args) else {
+            return Turn::NoMemory;
+        };
+        // the callee's side: it knows what the machine shows
+        let Some(closure) = configuration.table.find(entered_closure(machine)) else {
+            unreachable!()
+        };
         let standing = Standing::in_function(self.alloc, self.script, self.natives, closure.func);
         let alloc = self.alloc;
         configuration.enter(
-            alloc, machine, output, &self.cifs, current, closure, standing, ptr, sig, args, trace,
+            alloc, machine, output, &self.cifs, current, closure, standing, sig, trace,
         )
     }
 }

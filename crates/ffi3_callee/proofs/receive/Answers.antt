@@ -1,21 +1,21 @@
-use Rattle.std.proofs.Common.{◌≡◌, ◌+◌, ◌-◌, ◌≤◌, length, ap, subst, sym, ◌∙◌, arith}
-use Rattle.ffi3_type_rules.specs.declared.limits.TheConstants.{STACK}
+use Rattle.std.proofs.Common.{◌≡◌, ◌+◌, ◌-◌, length, ap, subst, sym, ◌∙◌, arith}
 use Rattle.ffi3_type_rules.specs.Isa.{isa_of}
 use Rattle.ffi3_place_rules.specs.Holds.{OwnsArguments}
 use Rattle.ffi3_place_rules.specs.Standard.{block_bytes, frame_of, plan_of}
-use Rattle.ffi3_machine.specs.State.{scribbled_floating, scribbled_general}
-use Rattle.ffi3_pieces.specs.Passing.{passing}
-use Rattle.ffi3_callee.specs.Entered.{IsEntered}
+use Rattle.ffi3_machine.specs.State.{scribbled, scribbled_floating, scribbled_general}
+use Rattle.ffi3_pieces.specs.Passing.{by_exchange, passing}
+use Rattle.ffi3_callee.specs.Entered.{IsEntered, entered_if}
 use Rattle.ffi3_callee.specs.Loaded.{AreFound, image_from}
 use Rattle.ffi3_callee.specs.Received.{hidden_of}
-use Rattle.ffi3_callee.proofs.Entry.{address_known, found_between, hidden_lies, hidden_to_list, received, stands}
+use Rattle.ffi3_callee.proofs.Entry.{address_between, address_known, found_between, hidden_lies, hidden_to_list, received, stands}
 use Rattle.ffi3_callee.proofs.Keeping.{reserved_scribbled, reserved_then, scribbled_alike}
 use Rattle.ffi3_callee.proofs.OwnKept.{own_list, own_reserved_of}
 use Rattle.ffi3_callee.proofs.WayBack.{result_law_of}
+use Rattle.ffi3_callee.proofs.Whole.{only_written, scribbled_beside}
 use Rattle.ffi3_callee.proofs.receive.Goals as goal
 
-pub hidden_word-address-requires : goal.hidden_word-address-requires
-hidden_word-address-requires g c =
+pub passed_address-address-requires : goal.passed_address-address-requires
+passed_address-address-requires g c =
     let std = g.A.Abi.standard in
     let s = c.args.cif.now in
     let m = c.args.machine.now in
@@ -56,7 +56,7 @@ copy_arguments-requires-clause-found g c =
     let block = c.sp-entry.result - c.SAVE.result - c.block.result in
     let there = stands std s m c.sp-entry.result c.LINK.result c.SAVE.result c.block.result c.hidden_place-hidden.result c.result_place.result.now c.sp-entry.ensures.value (c.LINK.ensures ∙ sym g.met.A.Abi.link_is) (c.SAVE.ensures ∙ sym g.met.A.Abi.save_is) c.block.ensures c.hidden_place-hidden.ensures c.result_place.ensures c.requires.room in
     let block_is : c.sp-entry.result - c.SAVE.result - c.block.result + block_bytes s + std.save ≡ m.sp = omega (arith, there.block_is, there.area_is, c.requires.room) in
-    let entered = subst (λ h. IsEntered std h block m c.enter.new.machine) there.hidden_is c.enter.ensures in
+    let entered = subst (λ h. IsEntered std h block m c.enter.new.machine) there.hidden_is c.enter.ensures.entered in
     subst (λ q. AreFound q (passing c.enter.new.machine) (plan_of std s).places) (sym (c.at-base.ensures ∙ there.base_is))
     (found_between std s block 0 m c.enter.new.machine c.enter.new.machine c.enter.new.machine c.requires.room c.requires.frame g.met.A.Abi.agrees.area c.sp-entry.ensures.machine.stack block_is entered c.requires.some.0 sound c.sig-sig.ensures.faultless c.requires.some.1)
 
@@ -70,7 +70,7 @@ returns-clause-received g c =
     let there = stands std s m c.sp-entry.result c.LINK.result c.SAVE.result c.block.result c.hidden_place-hidden.result c.result_place.result.now c.sp-entry.ensures.value (c.LINK.ensures ∙ sym g.met.A.Abi.link_is) (c.SAVE.ensures ∙ sym g.met.A.Abi.save_is) c.block.ensures c.hidden_place-hidden.ensures c.result_place.ensures c.requires.room in
     let block_is : c.sp-entry.result - c.SAVE.result - c.block.result + block_bytes s + std.save ≡ m.sp = omega (arith, there.block_is, there.area_is, c.requires.room) in
     let b = c.enter.new.machine in
-    let entered = subst (λ h. IsEntered std h block m b) there.hidden_is c.enter.ensures in
+    let entered = subst (λ h. IsEntered std h block m b) there.hidden_is c.enter.ensures.entered in
     received std s block c.len-number.result m b c.copy_arguments.new.machine c.scribble.new.self c.requires.room c.requires.frame g.met.A.Abi.agrees.area c.sp-entry.ensures.machine.stack block_is entered sound c.copy_arguments.ensures.only c.scribble.ensures
     (λ vs own. c.copy_arguments.ensures.values vs (subst (λ q. OwnsArguments (image_from q (frame_of std s) (passing b)) 0 s.arguments (plan_of std s).places vs) (sym (c.at-base.ensures ∙ there.base_is)) own))
 
@@ -81,12 +81,15 @@ returns-clause-incoming g c =
     let m = c.args.machine.now in
     let sound = g.met.A.Abi.sound s in
     let there = stands std s m c.sp-entry.result c.LINK.result c.SAVE.result c.block.result c.hidden_place-hidden.result c.result_place.result.now c.sp-entry.ensures.value (c.LINK.ensures ∙ sym g.met.A.Abi.link_is) (c.SAVE.ensures ∙ sym g.met.A.Abi.save_is) c.block.ensures c.hidden_place-hidden.ensures c.result_place.ensures c.requires.room in
-    let inside : STACK ≤ m.sp = omega (arith, c.requires.room) in
+    let b = c.enter.new.machine in
+    let block_is : c.sp-entry.result - c.SAVE.result - c.block.result + block_bytes s + std.save ≡ m.sp = omega (arith, there.block_is, there.area_is, c.requires.room) in
+    let entered = subst (λ h. IsEntered std h (c.sp-entry.result - c.SAVE.result - c.block.result) m b) there.hidden_is c.enter.ensures.entered in
+    let between = address_between std s (c.sp-entry.result - c.SAVE.result - c.block.result) 0 m b b b c.requires.room c.requires.frame g.met.A.Abi.agrees.area c.sp-entry.ensures.machine.stack block_is entered c.requires.some.0 sound c.requires.some.1 in
     record {
       low = omega (arith, there.block_is, there.area_is, c.requires.room);
       entry = omega (arith, there.block_is, there.area_is, c.requires.room, c.sp-entry.ensures.value);
       high = omega (arith, c.sp-entry.ensures.value, c.requires.frame);
-      address = address_known std s m c.requires.some.0 c.sp-entry.result c.at-base.result c.hidden_word-address.result c.hidden_place-hidden.result sound inside c.requires.some.1 c.sp-entry.ensures.value (c.at-base.ensures ∙ there.base_is) there.hidden_is c.hidden_word-address.ensures;
+      address = address_known std s m (passing b) c.sp-entry.result c.at-base.result c.passed_address-address.result c.hidden_place-hidden.result between c.sp-entry.ensures.value (c.at-base.ensures ∙ there.base_is) there.hidden_is c.passed_address-address.ensures;
     }
 
 pub returns-clause-general : goal.returns-clause-general
@@ -96,7 +99,7 @@ returns-clause-general g c =
     let b = c.enter.new.machine in
     let d = c.copy_arguments.new.machine in
     let copies = c.copy_arguments.ensures.only in
-    let entered = c.enter.ensures in
+    let entered = c.enter.ensures.entered in
     let target_is = copies.within.target ∙ entered.within.target in
     let same = c.requires.target ∙ sym g.met.A.Abi.target_is in
     let number : c.len-number.result ≡ length m.events = c.len-number.ensures ∙ ap (λ j. length j.events) c.events.ensures ∙ ap length (copies.within.events ∙ entered.events) in
@@ -107,7 +110,7 @@ pub returns-clause-floating : goal.returns-clause-floating
 returns-clause-floating g c =
     let m = c.args.machine.now in
     let copies = c.copy_arguments.ensures.only in
-    let number : c.len-number.result ≡ length m.events = c.len-number.ensures ∙ ap (λ j. length j.events) c.events.ensures ∙ ap length (copies.within.events ∙ c.enter.ensures.events) in
+    let number : c.len-number.result ≡ length m.events = c.len-number.ensures ∙ ap (λ j. length j.events) c.events.ensures ∙ ap length (copies.within.events ∙ c.enter.ensures.entered.events) in
     ap (λ q. q.floating) c.scribble.ensures ∙ ap scribbled_floating number
 
 pub returns-clause-reserved : goal.returns-clause-reserved
@@ -117,11 +120,28 @@ returns-clause-reserved g c =
     let b = c.enter.new.machine in
     let d = c.copy_arguments.new.machine in
     let copies = c.copy_arguments.ensures.only in
-    let entered = c.enter.ensures in
+    let entered = c.enter.ensures.entered in
     let target_is = copies.within.target ∙ entered.within.target ∙ c.requires.target ∙ sym g.met.A.Abi.target_is in
     let still = own_reserved_of b d c.sp-entered.ensures.machine c.sp-copied.ensures.machine std g.met.A.Abi.agrees (c.sp-entry.result - c.SAVE.result - c.block.result) (c.sp-entry.result - c.SAVE.result - c.block.result + block_bytes c.args.cif.now) copies in
     reserved_then std m d c.scribble.new.self (reserved_then std m b d entered.reserved still) (reserved_scribbled std g.met.A.Abi.agrees c.len-number.result d c.scribble.new.self target_is c.scribble.ensures)
 
 pub returns-clause-block : goal.returns-clause-block
 returns-clause-block g c =
-    sym (ap (λ q. q.sp) c.scribble.ensures ∙ c.copy_arguments.ensures.only.sp ∙ c.enter.ensures.sp)
+    sym (ap (λ q. q.sp) c.scribble.ensures ∙ c.copy_arguments.ensures.only.sp ∙ c.enter.ensures.entered.sp)
+
+pub returns-clause-whole : goal.returns-clause-whole
+returns-clause-whole g c =
+    let std = g.A.Abi.standard in
+    let s = c.args.cif.now in
+    let m = c.args.machine.now in
+    let b = c.enter.new.machine in
+    let d = c.copy_arguments.new.machine in
+    let r = c.scribble.new.self in
+    let copies = c.copy_arguments.ensures.only in
+    let block = c.sp-entry.result - c.SAVE.result - c.block.result in
+    let there = stands std s m c.sp-entry.result c.LINK.result c.SAVE.result c.block.result c.hidden_place-hidden.result c.result_place.result.now c.sp-entry.ensures.value (c.LINK.ensures ∙ sym g.met.A.Abi.link_is) (c.SAVE.ensures ∙ sym g.met.A.Abi.save_is) c.block.ensures c.hidden_place-hidden.ensures c.result_place.ensures c.requires.room in
+    let at : c.sp-entry.result - c.SAVE.result - c.block.result ≡ m.sp - std.save - block_bytes s = omega (arith, there.block_is, there.area_is, c.requires.room) in
+    let number : c.len-number.result ≡ length m.events = c.len-number.ensures ∙ ap (λ j. length j.events) c.events.ensures ∙ ap length (copies.within.events ∙ c.enter.ensures.entered.events) in
+    let beside = only_written b d c.sp-entered.ensures.machine c.sp-copied.ensures.machine (c.sp-entry.result - c.SAVE.result - c.block.result) (c.sp-entry.result - c.SAVE.result - c.block.result + block_bytes s) copies in
+    let callee = c.enter.ensures.whole ∙ ap (λ h. entered_if (by_exchange m.target) std h block m) there.hidden_is ∙ ap (λ k. entered_if (by_exchange m.target) std (hidden_of (plan_of std s).res) k m) at in
+    scribbled_beside (length m.events) b d r _ (c.scribble.ensures ∙ ap (λ n. scribbled n d) number) beside callee

@@ -4,11 +4,11 @@ use Rattle.ffi3_callee.proofs.going.go_back.Goals as goal
 
 pub returns-clause-reserved : goal.returns-clause-reserved
 returns-clause-reserved g c =
-    gone_reserved g.A.Abi.standard g.met.A.Abi.agrees c.args.incoming.entry c.args.machine.now c.go.new.machine c.go.ensures
+    gone_reserved g.A.Abi.standard g.met.A.Abi.agrees c.args.incoming.entry c.args.machine.now c.go.new.machine c.go.ensures.back
 
 pub returns-clause-kept : goal.returns-clause-kept
 returns-clause-kept g c = λ e room sp hold same.
-    gone_kept g.A.Abi.standard g.met.A.Abi.agrees c.args.incoming.entry c.args.machine.now c.go.new.machine c.go.ensures e room sp hold same
+    gone_kept g.A.Abi.standard g.met.A.Abi.agrees c.args.incoming.entry c.args.machine.now c.go.new.machine c.go.ensures.back e room sp hold same
 
 pub returns-clause-keeps : goal.returns-clause-keeps
 returns-clause-keeps g c = λ base v held.
@@ -17,4 +17,4 @@ returns-clause-keeps g c = λ base v held.
     let m = c.args.machine.now in
     let sound = g.met.A.Abi.sound s in
     let same : std.target ≡ m.target = g.met.A.Abi.target_is ∙ sym c.requires.target in
-    gone_keeps std g.met.A.Abi.agrees c.args.incoming.entry m c.go.new.machine c.go.ensures s sound (λ e. laws_of std m.target g.met.A.Abi.by_stubs same e) (λ e. result_law_of std s m.target (g.met.A.Abi.result_by_stubs s) same e) base v held
+    gone_keeps std g.met.A.Abi.agrees c.args.incoming.entry m c.go.new.machine c.go.ensures.back s sound (λ e. laws_of std m.target g.met.A.Abi.by_stubs same e) (λ e. result_law_of std s m.target (g.met.A.Abi.result_by_stubs s) same e) base v held

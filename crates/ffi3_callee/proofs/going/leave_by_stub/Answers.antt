@@ -1,10 +1,10 @@
-use Rattle.std.proofs.Common.{◌≡◌, ◌+◌, ◌≤◌, ◌%◌, ◌^◌, sym, subst, arith}
+use Rattle.std.proofs.Common.{◌≡◌, ◌+◌, ◌≤◌, ◌%◌, ◌^◌, ap, sym, ◌∙◌, subst, arith}
 use Rattle.ffi3_type_rules.specs.declared.limits.TheConstants.{STACK, STACK_TOP}
 use Rattle.ffi3_type_rules.specs.Isa.{isa_of}
 use Rattle.ffi3_place_rules.specs.Isa.{area_bytes, pushed_bytes}
-use Rattle.ffi3_machine.specs.State.{State, with_x, x_of}
-use Rattle.ffi3_machine.specs.Stubs.{Exit}
-use Rattle.ffi3_stubs.specs.Calls.{HasLeft, steps_of}
+use Rattle.ffi3_machine.specs.State.{State, with_pc, with_x, x_of}
+use Rattle.ffi3_machine.specs.Stubs.{Exit, stub_at}
+use Rattle.ffi3_stubs.specs.Calls.{HasLeft, after_exit, steps_of}
 use Rattle.ffi3_pieces.proofs.Passing.{told_there}
 use Rattle.ffi3_callee.proofs.going.leave_by_stub.Goals as goal
 
@@ -27,3 +27,7 @@ returns-clause-says c =
 pub returns-clause-counted : goal.returns-clause-counted
 returns-clause-counted c =
     subst (λ (x : State). c.run_exit.new.machine.steps ≡ (x.steps + steps_of (isa_of x.target) Exit) % 2 ^ 64) c.set_x.ensures c.run_exit.ensures.counted
+
+pub returns-clause-whole : goal.returns-clause-whole
+returns-clause-whole c =
+    c.run_exit.ensures.whole ∙ ap (λ (x : State). after_exit (isa_of x.target) (with_pc (stub_at (isa_of x.target) Exit) x)) c.set_x.ensures

@@ -3,7 +3,8 @@ use Rattle.ffi3_type_rules.specs.declared.limits.TheConstants.{STACK_TOP}
 use Rattle.ffi3_place_rules.specs.declared.SaveWord.TheVariants.{Register}
 use Rattle.ffi3_place_rules.specs.Agrees.{saved_registers}
 use Rattle.ffi3_pieces.specs.Stored.{word_in}
-use Rattle.ffi3_callee.specs.Saved.{AreGivenBack, AreSaved}
+use Rattle.ffi3_machine.specs.State.{with_sp}
+use Rattle.ffi3_callee.specs.Saved.{AreGivenBack, AreSaved, with_given_back}
 use Rattle.ffi3_callee.proofs.Keeping.{kept_return, reserved_not_saved, reserved_stay, reserved_then}
 use Rattle.ffi3_callee.proofs.Laws.{result_apart, returned_apart, returned_settable, words_restorable_at}
 use Rattle.ffi3_callee.proofs.Results.{registers_stay}
@@ -75,3 +76,10 @@ returns-clause-kept g c = λ base len room hidden entry sp_is saved reserved.
 pub returns-clause-within : goal.returns-clause-within
 returns-clause-within g c =
     within_any_sp STACK_TOP STACK_TOP c.entry-entry.result c.args.machine.now c.restore_words.new.machine c.set_sp.new.self c.set_sp.ensures c.restore_words.ensures.within
+
+pub returns-clause-whole : goal.returns-clause-whole
+returns-clause-whole g c =
+    let std = g.A.Abi.standard in
+    let m = c.args.machine.now in
+    let area : c.at-area.result ≡ c.args.incoming.entry - std.save = omega (arith, c.at-area.ensures, c.entry-entry.ensures, c.SAVE.ensures, g.met.A.Abi.save_is) in
+    c.set_sp.ensures ∙ ap (with_sp c.entry-entry.result) (c.restore_words.ensures.whole ∙ ap (λ n. with_given_back n 0 std.save_area m) area) ∙ ap (λ n. with_sp n (with_given_back (c.args.incoming.entry - std.save) 0 std.save_area m)) c.entry-entry.ensures

@@ -1,5 +1,5 @@
 use Rattle.std.proofs.Common.{rules, ◌≡◌, ◌+◌, ◌*◌, ◌^◌, ◌<◌, length, ap, arith}
-use Rattle.ffi3_callee.proofs.SavedWords.{all_saved, one_more_saved}
+use Rattle.ffi3_callee.proofs.SavedWords.{all_saved, all_stored, one_more_saved}
 use Rattle.ffi3_callee.proofs.saving.save_words.Goals as goal
 
 pub loop-i-preserved : goal.loop-i-preserved
@@ -13,3 +13,7 @@ loop-i-preserved g c =
 pub returns-clause-saved : goal.returns-clause-saved
 returns-clause-saved g c =
     all_saved c.args.from c.args.base c.args.hidden g.A.Abi.standard.save_area c.args.machine.now c.loop-i.i c.loop-i.machine (omega (arith, c.loop-i-test.false, c.count_of_words-i-end.ensures)) c.loop-i.invariant
+
+pub returns-clause-whole : goal.returns-clause-whole
+returns-clause-whole g c =
+    all_stored c.args.from c.args.base c.args.hidden g.A.Abi.standard.save_area c.args.machine.now c.loop-i.i c.loop-i.machine (omega (arith, c.loop-i-test.false, c.count_of_words-i-end.ensures)) c.loop-i.invariant
