@@ -1,4 +1,5 @@
-// The types that nodes without a fault are, from the last node on: a struct takes as many as it counts of those that stand behind it.
+// The types that nodes without a fault are, from the last node on: a struct takes as many as it counts of those that
+// stand behind it.
 ghost use Rattle.std.specs.Prelude.{◌≡◌, ◌<◌, ◌≤◌, ◌^◌, IfOk, OnOk, IfSome, List, Some, None, [], ◌∷◌, drop, take, length, slice_get};
 ghost use Rattle.ffi3_type_rules.specs.Tree.{struct_of};
 ghost use Rattle.ffi3_types.specs.TreeOf.{tree_of};
