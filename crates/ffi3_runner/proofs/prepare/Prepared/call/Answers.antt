@@ -88,3 +88,7 @@ returns-clause-standing g c = λ more.
     let known = known_at _ b.table c.args.ptr closure asking.between.known found in
     let goes = gone_in closure c.in_function-standing.result c.args.sig c.args.current b b₁ c.enter.new.self c.pass.ensures.same c.pass.ensures.items (c.enter.ensures.goes more) in
     entered_stands _ _ c.args.self.now.cifs m c.enter.new.machine m.sp (c.enter.ensures.above more m c.args.ptr c.args.args.now c.in-Ok-pass.ensures.passed) b c.enter.new.self closure c.in_function-standing.result c.args.sig c.args.current goes above c.requires.others c.requires.will c.in_function-standing.ensures.who (λ z here none. c.in_function-standing.ensures.agrees g.A.Abi.standard z (own_at g.A.Abi.standard c.args.self.now.script.now _ c.args.self.now.cifs c.requires.prepared closure.func c.args.sig closure.sig z known.signature site here) none)
+
+pub returns-clause-above : goal.returns-clause-above
+returns-clause-above g c = λ more.
+    c.enter.ensures.above more c.args.machine.now c.args.ptr c.args.args.now c.in-Ok-pass.ensures.passed
