@@ -19,7 +19,7 @@
 enum { MUCH = 1 << 19, ALL = 200, PAINT = 0xA5 };
 
 #ifdef PLANTED
-// ffi3_place with one of the errors that are to be found; tools/check_c lists them.
+// ffi3_place with one of the errors that are to be found; tools/check_shipped lists them.
 uint32_t __real_ffi3_place(uint32_t target, const char *text, size_t length, struct ffi3_call *call,
                            struct ffi3_piece *pieces, size_t capacity);
 
