@@ -41,7 +41,7 @@ static size_t count;
 static pthread_barrier_t all_there;
 
 #ifdef PLANTED
-// ffi3_place with one of the errors that are to be found; tools/check_shipped lists them.
+// ffi3_place with an error that is to be found: all threads write one struct, or much of the stack is taken.
 uint32_t __real_ffi3_place(uint32_t target, const char *text, size_t length, struct ffi3_call *call,
                            struct ffi3_piece *pieces, size_t capacity);
 
