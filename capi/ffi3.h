@@ -50,7 +50,7 @@ extern "C" {
 #define FFI3_AAPCS64 1 /* Arm AAPCS64: Linux, the BSDs. Apple's arm64 is another: it packs arguments on the stack, has
                           there all that stands for `...`, and skips no register. Windows' has its own `...` too */
 #define FFI3_RISCV 2   /* RISC-V psABI, LP64D */
-#define FFI3_WIN64 3   /* Microsoft x64, with a long of 64 bits */
+#define FFI3_WIN64 3   /* Microsoft x64 */
 
 /* ANSWERS of ffi3_place, ffi3_layout and ffi3_arguments. */
 #define FFI3_OK 0
