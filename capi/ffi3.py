@@ -154,12 +154,12 @@ def _load():
     if not name:
         raise OSError("libffi3.so is not found: run capi/build, or name it in FFI3_LIBRARY")
     library = ctypes.CDLL(name)
-    uint32, size, text = ctypes.c_uint32, ctypes.c_size_t, ctypes.c_char_p
     # An older version may have other structs, and is lent none. Later ones with the same first number only add to them.
-    library.ffi3_version.restype, library.ffi3_version.argtypes = uint32, []
+    library.ffi3_version.restype, library.ffi3_version.argtypes = ctypes.c_uint32, []
     found = library.ffi3_version()
     if found < VERSION or found // 10000 != VERSION // 10000:
         raise VersionError(found, VERSION, name)
+    uint32, size, text = ctypes.c_uint32, ctypes.c_size_t, ctypes.c_char_p
     for function, result, parameters in (
         ("place", uint32, [uint32, text, size, ctypes.POINTER(_Call), ctypes.POINTER(_Piece), size]),
         ("layout", uint32, [text, size, uint32, ctypes.POINTER(_Layout), ctypes.POINTER(_Leaf), size]),
