@@ -13,21 +13,24 @@
  * Build with `pkg-config --cflags --libs ffi3`.
  *
  * DECLARATIONS. A text is the declaration of one function, with or without a semicolon: `int printf(const char *,
- * ...);`. Types are char with a sign, short, int, long and long long (a long has 64 bits), __int128, the names of
- * <stdint.h> as int32_t, size_t, float, double, pointers to anything, and structs that are written out where they
- * are used, `struct { int8_t a[2][3]; }`, with arrays in them. There is no preprocessor, typedef, union, enum or
- * comment. Of a variadic function (`, ...`) the named arguments are placed. At most 64 arguments, 4,096 bytes a
- * struct, and structs and arrays 16 deep.
+ * ...);`. Types are char with a sign, short, int, long and long long, __int128, float, double, pointers to anything,
+ * structs that are written out where they are used, `struct { int8_t a[2][3]; }`, with arrays in them, and of the names
+ * of <stdint.h> and <stddef.h> int8_t to int64_t, uint8_t to uint64_t, intptr_t, uintptr_t and size_t. No other name is
+ * a type by itself: not ptrdiff_t, intmax_t, int_fast8_t or wchar_t. A long has 64 bits for each standard, also for
+ * Microsoft's, where C's has 32: what is a long there is written int. There is no preprocessor, typedef, union, enum or
+ * comment. Of a variadic function (`, ...`) the named arguments are placed. At most 64 arguments, 4,096 bytes a struct,
+ * and structs and arrays 16 deep.
  *
- * DUTIES OF A CALLER. No pointer is NULL, and each points to memory of its type that the caller may read, and, where it
- * is not const, write; to as many elements as the length or the capacity behind it says. Where that is 0, nothing is
- * read or written there, but the pointer is none the less that of an object, or of the end of one. No two of them
- * overlap, and no other thread writes what a call reads, or touches what it writes. What is written need not be
- * initialized. No function is called from a signal handler, nor in the forked child of a process with threads.
+ * DUTIES OF A CALLER. Each pointer points to memory of its type that the caller may read, and, where it is not const,
+ * write: to as many elements as the length or the capacity behind it says, else to one. Where that length or capacity
+ * is 0, nothing is read or written there, and the pointer may be anything, also NULL; no other may be NULL. No two of
+ * them overlap, and no other thread writes what a call reads, or touches what it writes. What is written need not be
+ * initialized. Where malloc may not be called, no function may but ffi3_register_name and ffi3_version: not from a
+ * signal handler, nor in the forked child of a process with threads.
  *
  * Nothing that the library makes outlives a call, so there is nothing to free, and any number of threads may call. It
  * takes memory from malloc and gives it back before it returns. No function ends the program: where memory is refused
- * it says so.
+ * it says so. A call takes less than 24 KiB of stack, what malloc takes among them: a thread with 64 KiB has enough.
  */
 #ifndef FFI3_H
 #define FFI3_H
@@ -44,7 +47,8 @@ extern "C" {
 
 /* CALLING STANDARDS, by their machines. */
 #define FFI3_AMD64 0   /* System V psABI for AMD64: Linux, macOS, the BSDs */
-#define FFI3_AAPCS64 1 /* Arm AAPCS64 */
+#define FFI3_AAPCS64 1 /* Arm AAPCS64: Linux, the BSDs. Apple's arm64 is another: it packs arguments on the stack, has
+                          there all that stands for `...`, and skips no register. Windows' has its own `...` too */
 #define FFI3_RISCV 2   /* RISC-V psABI, LP64D */
 #define FFI3_WIN64 3   /* Microsoft x64 */
 
@@ -105,7 +109,10 @@ struct ffi3_fault {
 #define FFI3_FLOATING 1 /* a floating or vector register */
 #define FFI3_STACK 2    /* the stack, from where stack arguments begin: on Windows from the 32-byte shadow store on */
 
-/* What the REST of a register, or of the last eight bytes on the stack, holds. */
+/* What a caller writes into the REST of an argument's register, or of its last eight bytes on the stack, and a callee
+ * into that of a result's. Who reads it looks at the value's own bytes, and counts on the rest only where the standard
+ * says so: that of FFI3_RISCV says the last two. The others ask for no extension to 64 bits; it stands here since it is
+ * right for whoever counts on 32. */
 #define FFI3_REST_FREE 0           /* anything */
 #define FFI3_REST_EXTENDED 1       /* the integer is sign- or zero-extended to 64 bits, by its type */
 #define FFI3_REST_EXTENDED_BY_32 2 /* so to 32 bits, and from there sign-extended to 64 */

@@ -23,6 +23,7 @@ import ctypes.util
 import os
 import struct
 import sys
+from operator import index
 from pathlib import Path
 from typing import NamedTuple
 
@@ -42,6 +43,20 @@ _KINDS = ("uint8", "sint8", "uint16", "sint16", "uint32", "sint32", "uint64", "s
 _SIZES = dict(zip(_KINDS, (1, 1, 2, 2, 4, 4, 8, 8, 16, 16, 4, 8, 8)))
 _NODE_KINDS = (*_KINDS, "void", "complex float", "complex double", "long double", "complex long double", "vector",
                "struct", "array")
+
+
+# Of the library that this module knows, as FFI3_VERSION of ffi3.h.
+VERSION = 200
+
+
+class VersionError(ImportError):
+    """A library that has not what this module wants of one: both versions, of 1.2.3 10203, and the library's file."""
+
+    def __init__(self, found, wanted, path):
+        super().__init__(f"{path} has version {_shown(found)}, and ffi3.py wants {_shown(wanted)}, or a later one with "
+                         f"the same first number", name="ffi3", path=path)
+        self.found = found
+        self.wanted = wanted
 
 
 class Error(ValueError):
@@ -151,12 +166,21 @@ class _Arguments(ctypes.Structure):
                 ("argument", ctypes.c_uint32), ("fault", _Fault)]
 
 
+def _shown(version):
+    return f"{version // 10000}.{version // 100 % 100}.{version % 100}"
+
+
 def _load():
     beside = Path(__file__).resolve().parent / "out" / "libffi3.so"
     name = os.environ.get("FFI3_LIBRARY") or (str(beside) if beside.exists() else ctypes.util.find_library("ffi3"))
     if not name:
         raise OSError("libffi3.so is not found: run capi/build, or name it in FFI3_LIBRARY")
     library = ctypes.CDLL(name)
+    # An older version may have other structs, and is lent none. Later ones with the same first number only add to them.
+    library.ffi3_version.restype, library.ffi3_version.argtypes = ctypes.c_uint32, []
+    found = library.ffi3_version()
+    if found < VERSION or found // 10000 != VERSION // 10000:
+        raise VersionError(found, VERSION, name)
     uint32, size, text = ctypes.c_uint32, ctypes.c_size_t, ctypes.c_char_p
     nodes, whole = ctypes.POINTER(_Node), ctypes.POINTER(_Type)
     for function, result, parameters in (
@@ -171,7 +195,6 @@ def _load():
                                text, size]),
         ("fault_text", size, [ctypes.POINTER(_Fault), text, size]),
         ("register_name", size, [uint32, uint32, uint32, text, size]),
-        ("version", uint32, []),
     ):
         exported = getattr(library, f"ffi3_{function}")
         exported.restype, exported.argtypes = result, parameters
@@ -183,8 +206,7 @@ _library = _load()
 
 def version():
     """The library's version, as "0.2.0"."""
-    number = _library.ffi3_version()
-    return f"{number // 10000}.{number // 100 % 100}.{number % 100}"
+    return _shown(_library.ffi3_version())
 
 
 def _bytes_of(text):
@@ -300,7 +322,10 @@ def layout(declaration, value=RESULT):
 
     Raises Error where the text declares none, and IndexError where it has no such argument.
     """
-    text, told, number = _bytes_of(declaration), _Layout(), _RESULT if value == RESULT else value
+    text, told, number = _bytes_of(declaration), _Layout(), _RESULT
+    if value != RESULT:
+        # a number that C has no room for, as -1, is that of no argument either
+        number = index(value) if 0 <= index(value) < _HIDDEN else _HIDDEN
 
     def ask(array, capacity):
         status = _library.ffi3_layout(text, len(text), number, ctypes.byref(told), array, capacity)

@@ -1,0 +1,311 @@
+// Tries the exports of the C library between pages without access: try_guarded FILE, with one declaration a line.
+//
+// Each text, each array and each struct stands once at the end of its pages and once at their start, so that the
+// program is stopped at the first byte before or behind it, whoever touches it; texts, registers and stacks can only be
+// read. Arrays have room for nothing up to two elements more than is wanted, and stacks any number of bytes; where that
+// is nothing the pointer is NULL. Texts are whole, cut short, and with one byte changed. What has no room is left as it
+// was, and all else is what comes where there is much room. The last lines are 'answers N', a sum of all answers, and
+// 'N passed, M failed'.
+#define _DEFAULT_SOURCE
+#include "ffi3.h"
+
+#include <signal.h>
+#include <stdio.h>
+#include <stdlib.h>
+#include <string.h>
+#include <sys/mman.h>
+#include <unistd.h>
+
+enum { MUCH = 1 << 19, ALL = 200, PAINT = 0xA5 };
+
+#ifdef PLANTED
+// ffi3_place with one of the errors that are to be found; tools/check_shipped lists them.
+uint32_t __real_ffi3_place(uint32_t target, const char *text, size_t length, struct ffi3_call *call,
+                           struct ffi3_piece *pieces, size_t capacity);
+
+uint32_t __wrap_ffi3_place(uint32_t target, const char *text, size_t length, struct ffi3_call *call,
+                           struct ffi3_piece *pieces, size_t capacity)
+{
+    const volatile char *read = text;
+    uint32_t status = __real_ffi3_place(target, text, length, call, pieces, capacity);
+    if (PLANTED == 0 && read[length] == 'x')
+        call->need = 0;
+    if (PLANTED == 1 && read[-1] == 'x')
+        call->need = 0;
+    if (PLANTED == 2 && length)
+        *(volatile char *)(uintptr_t)text = text[0];
+    if (PLANTED == 3 && !capacity && ((const volatile struct ffi3_piece *)pieces)->part == 7)
+        call->need = 0;
+    if (PLANTED == 4 && status == FFI3_OK)
+        pieces[capacity].part = 0;
+    if (PLANTED == 5 && status == FFI3_TOO_SMALL && capacity)
+        pieces[capacity - 1].rest = FFI3_REST_FREE;
+    return status;
+}
+#endif
+
+static long passed, failed;
+static uint64_t answers = UINT64_C(14695981039346656037);
+static char line[1 << 16];
+
+static void check(int holds, const char *what)
+{
+    if (holds) {
+        passed++;
+    } else {
+        failed++;
+        printf("FAILED: %s: %s", what, line);
+    }
+}
+
+static void stopped(int signal)
+{
+    static const char said[] = "FAILED: something outside is touched: ";
+    (void)signal;
+    if (write(1, said, sizeof said - 1) < 0 || write(1, line, strlen(line)) < 0)
+        _exit(2);
+    _exit(1);
+}
+
+// FNV-1a over what is answered.
+static void add(const void *from, size_t size)
+{
+    const unsigned char *bytes = from;
+    for (size_t i = 0; i < size; i++)
+        answers = (answers ^ bytes[i]) * UINT64_C(1099511628211);
+}
+
+// Pages, and before and behind them one without access.
+struct room {
+    unsigned char *start, *end;
+};
+
+static struct room texts, calls, arrays, registers, stacks;
+
+static struct room make_room(size_t size)
+{
+    size_t page = (size_t)sysconf(_SC_PAGESIZE), whole = (size + page - 1) / page * page;
+    unsigned char *at = mmap(NULL, whole + 2 * page, PROT_NONE, MAP_PRIVATE | MAP_ANONYMOUS, -1, 0);
+    if (at == MAP_FAILED || mprotect(at + page, whole, PROT_READ | PROT_WRITE))
+        abort();
+    return (struct room){at + page, at + page + whole};
+}
+
+static void may_write(const struct room *room, int may)
+{
+    if (mprotect(room->start, (size_t)(room->end - room->start), may ? PROT_READ | PROT_WRITE : PROT_READ))
+        abort();
+}
+
+// So many bytes of a room, at its end or at its start, all painted; NULL where there are none.
+static void *place_in(const struct room *room, size_t size, int at_end)
+{
+    void *at = at_end ? room->end - size : room->start;
+    return size ? memset(at, PAINT, size) : NULL;
+}
+
+// The same, with bytes that can only be read from now on.
+static const void *lend(const struct room *room, const void *from, size_t size, int at_end)
+{
+    may_write(room, 1);
+    void *at = place_in(room, size, at_end);
+    if (size)
+        memcpy(at, from, size);
+    may_write(room, 0);
+    return at;
+}
+
+static int is_painted(const unsigned char *bytes, size_t size)
+{
+    for (size_t i = 0; i < size; i++)
+        if (bytes[i] != PAINT)
+            return 0;
+    return 1;
+}
+
+// Compares an array with what came where there was much room: `used` elements of it, if there is room for them.
+static void check_array(const void *array, const void *whole, size_t size, size_t used, size_t capacity,
+                        const char *what)
+{
+    size_t written = used <= capacity ? used * size : 0;
+    const unsigned char *bytes = array;
+    check((!written || !memcmp(bytes, whole, written)) && is_painted(bytes + written, capacity * size - written), what);
+}
+
+// The next number of elements that is tried, behind this one: all where few are wanted, else the first and the last.
+static size_t next(size_t capacity, size_t wanted)
+{
+    return capacity == ALL && wanted > ALL + 4 ? wanted - 2 : capacity + 1;
+}
+
+static void try_place(uint32_t target, const char *text, size_t length, int all, int at_end)
+{
+    static struct ffi3_piece whole[MUCH / sizeof(struct ffi3_piece)];
+    static struct ffi3_call found;
+    uint32_t told = ffi3_place(target, text, length, &found, whole, sizeof whole / sizeof *whole);
+    size_t wanted = found.pieces;
+    add(&told, sizeof told);
+    add(&found, sizeof found);
+    add(whole, wanted * sizeof *whole);
+    for (size_t capacity = all ? 0 : wanted; capacity <= wanted + 2; capacity = next(capacity, wanted)) {
+        struct ffi3_call *call = place_in(&calls, sizeof *call, at_end);
+        struct ffi3_piece *pieces = place_in(&arrays, capacity * sizeof *pieces, at_end);
+        uint32_t status = ffi3_place(target, text, length, call, pieces, capacity);
+        check(status == (told == FFI3_OK && capacity < wanted ? FFI3_TOO_SMALL : told)
+                  && !memcmp(call, &found, sizeof found), "place");
+        check_array(pieces, whole, sizeof *pieces, wanted, capacity, "pieces");
+    }
+}
+
+static size_t try_layout(const char *text, size_t length, uint32_t value, int all, int at_end)
+{
+    static struct ffi3_leaf whole[MUCH / sizeof(struct ffi3_leaf)];
+    static struct ffi3_layout found;
+    uint32_t told = ffi3_layout(text, length, value, &found, whole, sizeof whole / sizeof *whole);
+    size_t wanted = found.leaves;
+    add(&told, sizeof told);
+    add(&found, sizeof found);
+    add(whole, wanted * sizeof *whole);
+    for (size_t capacity = all ? 0 : wanted; capacity <= wanted + 2; capacity = next(capacity, wanted)) {
+        struct ffi3_layout *layout = place_in(&calls, sizeof *layout, at_end);
+        struct ffi3_leaf *leaves = place_in(&arrays, capacity * sizeof *leaves, at_end);
+        uint32_t status = ffi3_layout(text, length, value, layout, leaves, capacity);
+        check(status == (told == FFI3_OK && capacity < wanted ? FFI3_TOO_SMALL : told)
+                  && !memcmp(layout, &found, sizeof found), "layout");
+        check_array(leaves, whole, sizeof *leaves, wanted, capacity, "leaves");
+    }
+    return found.arguments;
+}
+
+// A number that is the same on each machine.
+static uint64_t drawn(void)
+{
+    static uint64_t state = 1;
+    state ^= state << 13, state ^= state >> 7, state ^= state << 17;
+    return state;
+}
+
+// Addresses around the ends of so many bytes from sp on, and among them, and now and then any number.
+static uint64_t address_near(uint64_t sp, size_t deep)
+{
+    uint64_t number = drawn();
+    return number % 16 == 0 ? number : sp + (number >> 8) % (deep + 16) - 8;
+}
+
+static void add_found(uint32_t status, const struct ffi3_arguments *found)
+{
+    uint64_t row[] = {status, found->arguments, found->size, found->stack, found->address, found->argument,
+                      found->fault.kind, found->fault.offset};
+    add(row, sizeof row);
+}
+
+static void try_arguments(uint32_t target, const char *text, size_t length, int all, int at_end)
+{
+    static struct ffi3_registers held;
+    static unsigned char bytes[1 << 16], whole[MUCH];
+    static struct ffi3_arguments found;
+    size_t deep = 4096;
+    held.sp = UINT64_C(0x7FFF00001000);
+    for (size_t i = 0; i < 32; i++)
+        held.general[i] = address_near(held.sp, deep), held.floating[i] = drawn();
+    for (size_t i = 0; i < sizeof bytes; i += 8) {
+        uint64_t word = address_near(held.sp, deep);
+        memcpy(bytes + i, &word, 8);
+    }
+    const struct ffi3_registers *lent = lend(&registers, &held, sizeof held, at_end);
+    uint32_t is = ffi3_arguments(target, text, length, lent, bytes, sizeof bytes, &found, whole, sizeof whole);
+    size_t least = found.stack, room = is == FFI3_OK ? found.size : 64;
+    for (size_t there = all ? 0 : least; there <= least + 2; there = next(there, least)) {
+        const unsigned char *stack = lend(&stacks, bytes, there, at_end);
+        struct ffi3_arguments *told = place_in(&calls, sizeof *told, at_end);
+        unsigned char *values = place_in(&arrays, room, at_end);
+        uint32_t status = ffi3_arguments(target, text, length, lent, stack, there, told, values, room);
+        add_found(status, told);
+        check(status == FFI3_OK ? is == FFI3_OK && told->size == room : is_painted(values, room), "arguments");
+        check((status == FFI3_SHORT_STACK) == (told->stack > there), "short stack");
+    }
+    const unsigned char *stack = lend(&stacks, bytes, deep, at_end);
+    is = ffi3_arguments(target, text, length, lent, stack, deep, &found, whole, sizeof whole);
+    size_t wanted = is == FFI3_OK ? found.size : 0;
+    add(whole, wanted);
+    for (size_t capacity = all ? 0 : wanted; capacity <= wanted + 2; capacity = next(capacity, wanted)) {
+        struct ffi3_arguments *told = place_in(&calls, sizeof *told, at_end);
+        unsigned char *values = place_in(&arrays, capacity, at_end);
+        uint32_t status = ffi3_arguments(target, text, length, lent, stack, deep, told, values, capacity);
+        check(status == (is == FFI3_OK && capacity < wanted ? FFI3_TOO_SMALL : is) && told->size == found.size
+                  && told->stack == found.stack && told->address == found.address, "arguments with less room");
+        check_array(values, whole, 1, wanted, capacity, "values");
+    }
+}
+
+static void try_text(const char *from, size_t length, int all)
+{
+    for (int at_end = 0; at_end < 2; at_end++) {
+        const char *text = lend(&texts, from, length, at_end);
+        for (uint32_t target = FFI3_AMD64; target <= FFI3_WIN64 + 1; target++) {
+            try_place(target, text, length, all, at_end);
+            try_arguments(target, text, length, all, at_end);
+        }
+        size_t arguments = try_layout(text, length, FFI3_RESULT, all, at_end);
+        for (uint32_t value = 0; value <= arguments; value++)
+            try_layout(text, length, value, all, at_end);
+    }
+}
+
+static void try_damaged(size_t length)
+{
+    static const char others[] = {0, ' ', '{', '}', '[', '9', ',', '*', 'x', '.', (char)0x80, (char)0xC3};
+    static char changed[sizeof line];
+    for (size_t at = 0; at < length; at++) {
+        try_text(line, at, 0);
+        memcpy(changed, line, length);
+        changed[at] = others[(at * 5 + length) % sizeof others];
+        try_text(changed, length, 0);
+    }
+}
+
+// Names of registers and words of faults with each room, where NULL stands for none.
+static void try_names(void)
+{
+    struct ffi3_fault fault = {FFI3_TOO_LARGE, 0, 0, 5000};
+    char words[64], name[8];
+    for (int at_end = 0; at_end < 2; at_end++) {
+        const struct ffi3_fault *lent = lend(&registers, &fault, sizeof fault, at_end);
+        size_t wanted = ffi3_fault_text(lent, words, sizeof words);
+        for (size_t room = 0; room <= wanted + 2; room++) {
+            char *text = place_in(&arrays, room, at_end);
+            check(ffi3_fault_text(lent, text, room) == wanted, "words of a fault");
+            check_array(text, words, 1, wanted + 1, room, "words of a fault");
+        }
+        wanted = ffi3_register_name(FFI3_RISCV, FFI3_FLOATING, 10, name, sizeof name);
+        for (size_t room = 0; room <= wanted + 2; room++) {
+            char *text = place_in(&arrays, room, at_end);
+            check(ffi3_register_name(FFI3_RISCV, FFI3_FLOATING, 10, text, room) == wanted, "name of a register");
+            check_array(text, name, 1, wanted + 1, room, "name of a register");
+        }
+    }
+}
+
+int main(int count, char **words)
+{
+    FILE *file = count == 2 ? fopen(words[1], "r") : NULL;
+    struct sigaction action = {.sa_handler = stopped};
+    if (!file || sigaction(SIGSEGV, &action, NULL) || sigaction(SIGBUS, &action, NULL))
+        return 2;
+    texts = make_room(sizeof line);
+    calls = make_room(4096);
+    arrays = make_room(MUCH);
+    registers = make_room(4096);
+    stacks = make_room(1 << 16);
+    try_text("", 0, 1);
+    try_names();
+    while (fgets(line, sizeof line, file)) {
+        size_t length = strcspn(line, "\n");
+        try_text(line, length, length < 400);
+        if (length < 200)
+            try_damaged(length);
+    }
+    fclose(file);
+    printf("answers %016llx\n%ld passed, %ld failed\n", (unsigned long long)answers, passed, failed);
+    return failed != 0;
+}

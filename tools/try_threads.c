@@ -1,0 +1,175 @@
+// Calls the exports of the C library in threads at once, each on a stack of 64 KiB: try_threads FILE, with one
+// declaration a line.
+//
+// Each thread asks the same of all declarations, and must be told what one thread alone was told. Its stack is painted
+// before, so that the deepest byte that a call touched is known. The last lines are 'stack N', the most bytes of stack
+// that a call took, what malloc took among them, and 'N passed, M failed'.
+#define _GNU_SOURCE
+#include "ffi3.h"
+
+#include <pthread.h>
+#include <stdio.h>
+#include <stdlib.h>
+#include <string.h>
+#include <sys/mman.h>
+#include <unistd.h>
+
+// A sanitizer needs more of the stack than what it looks at.
+#ifndef STACK
+#define STACK (64 << 10)
+#endif
+
+enum { THREADS = 8, LINES = 4096, PIECES = 1024, LEAVES = 4096, VALUES = 1 << 19, PAINT = 0xA5 };
+
+// What one thread has: nothing is shared but the texts.
+struct work {
+    unsigned char *stack; /* its stack, and below that a page without access */
+    unsigned char *begin; /* where the stack stood when it called */
+    uint64_t answers;
+    struct ffi3_registers held;
+    unsigned char bytes[4096]; /* of a machine's stack */
+    struct ffi3_call call;
+    struct ffi3_layout layout;
+    struct ffi3_arguments found;
+    struct ffi3_piece pieces[PIECES];
+    struct ffi3_leaf leaves[LEAVES];
+    unsigned char values[VALUES];
+};
+
+static char *texts[LINES];
+static size_t count;
+static pthread_barrier_t all_there;
+
+#ifdef PLANTED
+// ffi3_place with an error that is to be found: all threads write one struct, or much of the stack is taken.
+uint32_t __real_ffi3_place(uint32_t target, const char *text, size_t length, struct ffi3_call *call,
+                           struct ffi3_piece *pieces, size_t capacity);
+
+uint32_t __wrap_ffi3_place(uint32_t target, const char *text, size_t length, struct ffi3_call *call,
+                           struct ffi3_piece *pieces, size_t capacity)
+{
+    static struct ffi3_call shared;
+    volatile unsigned char deep[PLANTED == 1 ? 48 << 10 : 1];
+    uint32_t status = __real_ffi3_place(target, text, length, call, pieces, capacity);
+    if (PLANTED == 0) {
+        shared = *call;
+        *call = shared;
+    }
+    deep[0] = 0;
+    return status + deep[0];
+}
+#endif
+
+// FNV-1a over what is answered.
+static void add(struct work *work, const void *from, size_t size)
+{
+    const unsigned char *bytes = from;
+    for (size_t i = 0; i < size; i++)
+        work->answers = (work->answers ^ bytes[i]) * UINT64_C(1099511628211);
+}
+
+static void ask(struct work *work, const char *text, size_t length, uint32_t target)
+{
+    uint32_t told[] = {
+        ffi3_place(target, text, length, &work->call, work->pieces, PIECES),
+        ffi3_layout(text, length, FFI3_RESULT, &work->layout, work->leaves, LEAVES),
+        ffi3_arguments(target, text, length, &work->held, work->bytes, sizeof work->bytes, &work->found, work->values,
+                       VALUES),
+    };
+    add(work, told, sizeof told);
+    add(work, &work->call, sizeof work->call);
+    add(work, &work->layout, sizeof work->layout);
+    add(work, work->pieces, work->call.pieces * sizeof *work->pieces);
+    add(work, work->leaves, work->layout.leaves * sizeof *work->leaves);
+    if (told[2] == FFI3_OK)
+        add(work, work->values, work->found.size);
+    if (told[0] == FFI3_NOT_DECLARED) {
+        char words[64];
+        add(work, words, ffi3_fault_text(&work->call.fault, words, sizeof words));
+    }
+}
+
+static void *ask_all(void *given)
+{
+    struct work *work = given;
+    unsigned char here;
+    work->begin = &here;
+    work->answers = UINT64_C(14695981039346656037);
+    pthread_barrier_wait(&all_there);
+    for (size_t i = 0; i < count; i++)
+        for (uint32_t target = FFI3_AMD64; target <= FFI3_WIN64; target++)
+            ask(work, texts[i], strlen(texts[i]), target);
+    return NULL;
+}
+
+static struct work *new_work(void)
+{
+    size_t page = (size_t)sysconf(_SC_PAGESIZE);
+    struct work *made = calloc(1, sizeof *made);
+    unsigned char *at = mmap(NULL, STACK + page, PROT_READ | PROT_WRITE, MAP_PRIVATE | MAP_ANONYMOUS, -1, 0);
+    if (!made || at == MAP_FAILED || mprotect(at, page, PROT_NONE))
+        abort();
+    memset(&made->held, 0x10, sizeof made->held);
+    memset(made->bytes, 0x10, sizeof made->bytes);
+    made->stack = memset(at + page, PAINT, STACK);
+    return made;
+}
+
+static size_t touched(const struct work *work)
+{
+    const unsigned char *at = work->stack;
+    while (at < work->begin && *at == PAINT)
+        at++;
+    return (size_t)(work->begin - at);
+}
+
+// Runs so many threads at once; the most stack that one took behind its begin.
+static size_t run(struct work **works, unsigned threads)
+{
+    pthread_t ids[THREADS];
+    pthread_attr_t attributes;
+    size_t most = 0;
+    pthread_barrier_init(&all_there, NULL, threads);
+    for (unsigned i = 0; i < threads; i++) {
+        pthread_attr_init(&attributes);
+        if (pthread_attr_setstack(&attributes, works[i]->stack, STACK)
+            || pthread_create(&ids[i], &attributes, ask_all, works[i]))
+            abort();
+        pthread_attr_destroy(&attributes);
+    }
+    for (unsigned i = 0; i < threads; i++)
+        pthread_join(ids[i], NULL);
+    for (unsigned i = 0; i < threads; i++)
+        most = touched(works[i]) > most ? touched(works[i]) : most;
+    pthread_barrier_destroy(&all_there);
+    return most;
+}
+
+int main(int words, char **word)
+{
+    static char line[1 << 16];
+    struct work *alone = new_work(), *works[THREADS];
+    long passed = 0, failed = 0;
+    FILE *file = words == 2 ? fopen(word[1], "r") : NULL;
+    if (!file)
+        return 2;
+    while (count < LINES && fgets(line, sizeof line, file)) {
+        line[strcspn(line, "\n")] = 0;
+        texts[count++] = strdup(line);
+    }
+    fclose(file);
+    size_t most = run(&alone, 1);
+    for (unsigned i = 0; i < THREADS; i++)
+        works[i] = new_work();
+    size_t at_once = run(works, THREADS);
+    for (unsigned i = 0; i < THREADS; i++) {
+        if (works[i]->answers == alone->answers) {
+            passed++;
+        } else {
+            failed++;
+            printf("FAILED: thread %u is told something else than a thread alone\n", i);
+        }
+    }
+    printf("stack %zu\n%ld passed, %ld failed\n", most > at_once ? most : at_once, passed, failed);
+    return failed != 0;
+}
