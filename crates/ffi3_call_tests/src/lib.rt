@@ -7,6 +7,8 @@ mod adapters;
 #[cfg(test)]
 mod arguments;
 #[cfg(test)]
+mod calls;
+#[cfg(test)]
 mod classes;
 #[cfg(test)]
 mod encodings;

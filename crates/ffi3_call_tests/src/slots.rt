@@ -237,7 +237,7 @@ pub struct Came {
 }
 
 /// The first bytes, and zeros where there are fewer.
-fn first_bytes(bytes: &[u8]) -> [u8; 32] {
+pub fn first_bytes(bytes: &[u8]) -> [u8; 32] {
     let mut first = [0; 32];
     for k in 0..first.len() {
         if k < bytes.len() {
