@@ -1,0 +1,58 @@
+-- A prepared call interface: a target, whose calls go by its standard, and a signature without fault.
+use Rattle.std.specs.Prelude.{◌≡◌, ℕ, ⊤, List, Option}
+use Rattle.ffi3_type_rules.specs.declared.Target.{Target}
+use Rattle.ffi3_type_rules.specs.declared.Target.TheVariants.{Amd64 as ForAmd64, Aapcs64 as ForAapcs64, Riscv as ForRiscv, Win64 as ForWin64}
+use Rattle.ffi3_type_rules.specs.Layout.{size_of}
+use Rattle.ffi3_type_rules.specs.Signature.{Signature, SignatureHasNoFault}
+use Rattle.ffi3_place_rules.specs.Standard.{Standard, frame_of}
+use Rattle.ffi3_explain_rules.specs.Standards.{standard_of}
+use Rattle.ffi3_nodes.specs.declared.Node.{Node}
+use Rattle.ffi3_nodes.specs.Nodes.{IsSignatureOf}
+use Rattle.ffi3_nodes.specs.Read.{IsOfNone, IsRefused}
+use Rattle.ffi3_transfer.specs.Packed.{packed_size}
+use Rattle.ffi3_prepared.specs.declared.CallSizes.{CallSizes}
+use Rattle.ffi3_prepared.specs.declared.Prepared.{Prepared}
+use Rattle.ffi3_prepared.specs.declared.Prepared.TheVariants.{Amd64, Aapcs64, Riscv, Win64}
+use Rattle.ffi3_prepared.specs.declared.Unprepared.{Unprepared}
+use Rattle.ffi3_prepared.specs.declared.Unprepared.TheVariants.{Nodes, NoMemory}
+
+abbrev pub target_in : Prepared → Target
+target_in (Amd64 s) = ForAmd64
+target_in (Aapcs64 s) = ForAapcs64
+target_in (Riscv s) = ForRiscv
+target_in (Win64 s) = ForWin64
+
+abbrev pub standard_in : Prepared → Standard
+standard_in p = standard_of (target_in p)
+
+abbrev pub signature_in : Prepared → Signature
+signature_in (Amd64 s) = s
+signature_in (Aapcs64 s) = s
+signature_in (Riscv s) = s
+signature_in (Win64 s) = s
+
+-- THE INTERFACE of a target and of the one signature that has these nodes
+pub record IsPrepared (to : Target) (ns : List Node) (fixed : Option ℕ) (p : Prepared) : Type 0 where
+  pub to_is : target_in p ≡ to
+  pub signature : IsSignatureOf ns fixed (signature_in p)
+  pub faultless : SignatureHasNoFault (signature_in p)
+  pub only : (other : Signature) → IsSignatureOf ns fixed other → other ≡ signature_in p
+
+-- OR WHY THERE IS NONE. Memory alone is free.
+abbrev pub IsUnprepared : List Node → Option ℕ → Unprepared → Type 0
+IsUnprepared ns fixed (Nodes r) = IsRefused ns fixed r
+IsUnprepared ns fixed NoMemory = ⊤
+
+-- Nodes that are refused, but where they are too deep, are those of no signature.
+abbrev pub IsUnpreparedOfNone : List Node → Unprepared → Type 0
+IsUnpreparedOfNone ns (Nodes r) = IsOfNone ns r
+IsUnpreparedOfNone ns NoMemory = ⊤
+
+-- THE SIZES of a call, in bytes: of its values as they are packed, of its result, of the return address on the stack, of the frame
+abbrev pub sizes_of : Standard → Signature → CallSizes
+sizes_of std s = record {
+  values = packed_size s.arguments;
+  result = size_of s.result_type;
+  link = std.link;
+  frame = frame_of std s;
+}

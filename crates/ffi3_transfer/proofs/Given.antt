@@ -1,0 +1,170 @@
+-- A result that a callee gives, in registers or in the buffer whose address was passed.
+use Rattle.std.specs.Prelude.{Option, Some, None, true}
+use Rattle.std.proofs.Common.{◌≡◌, ◌⊎◌, inl, inr, ℕ, ◌+◌, ◌-◌, ◌<◌, ◌≤◌, List, [], ◌∷◌, take, drop, get_or, length, refl, ap, sym, ◌∙◌, subst, arith, length-drop}
+use Rattle.std.specs.List.{AllByRecursion}
+use Rattle.std.proofs.lemmas.Bool.{cases_lt}
+use Rattle.std.proofs.lemmas.List.{ext_get_or, drop-drop}
+use Rattle.ffi3_type_rules.specs.Tree.{Tree}
+use Rattle.ffi3_type_rules.specs.Layout.{size_of}
+use Rattle.ffi3_type_rules.specs.Signature.{Signature, SignatureHasNoFault}
+use Rattle.ffi3_type_rules.specs.Value.{part, value_in}
+use Rattle.ffi3_type_rules.specs.Isa.{isa_of}
+use Rattle.ffi3_type_rules.proofs.Fitting.{value_fits}
+use Rattle.ffi3_type_rules.proofs.Right.{result_is_laid_out}
+use Rattle.ffi3_place_rules.specs.declared.Loc.{Loc}
+use Rattle.ffi3_place_rules.specs.declared.Loc.TheVariants.{G, F, S}
+use Rattle.ffi3_place_rules.specs.declared.Piece.{Piece}
+use Rattle.ffi3_place_rules.specs.declared.Res.TheVariants.{Direct as DirectRes, Hidden}
+use Rattle.ffi3_place_rules.specs.Isa.{to_list}
+use Rattle.ffi3_place_rules.specs.Image.{Image, byte_at, word_at}
+use Rattle.ffi3_place_rules.specs.Standard.{Standard, plan_of}
+use Rattle.ffi3_place_rules.specs.Holds.{FillsAs, FillsResult, OwnsHidden, OwnsResult, RegisterHolds}
+use Rattle.ffi3_place_rules.specs.Sound.{IsNoneOf, IsSound, piece_locs, result_locs}
+use Rattle.ffi3_pieces.specs.Stored.{IsPlace}
+use Rattle.ffi3_pieces.proofs.Lawful.{machine_places}
+use Rattle.ffi3_explain_rules.specs.Arguments.{is_in_image}
+use Rattle.ffi3_transfer.specs.Stored.{KeepsAbove, SameAt, Stays, PieceStands}
+use Rattle.ffi3_transfer.specs.Calls.{IsBeside, IsGiven, IsGivenBy, ResultKeeps, at_return, given_locs}
+use Rattle.ffi3_transfer.proofs.Owning.{pieces_stand, pieces_filled}
+
+-- ---- registers alone
+
+none_of_registers : (ls : List Loc) (n : ℕ) → AllByRecursion (IsPlace 0) ls → IsNoneOf ls (S n)
+none_of_registers [] n h = tt
+none_of_registers (G r ∷ ls) n h = (tt, none_of_registers ls n h.1)
+none_of_registers (F r ∷ ls) n h = (tt, none_of_registers ls n h.1)
+none_of_registers (S k ∷ ls) n h = absurd (omega (arith, h.0))
+
+-- where registers alone are written the stack stays
+pub stack_same : (base : ℕ) (ls : List Loc) (a b : Image) → AllByRecursion (IsPlace 0) ls → Stays base ls a b → b.stack ≡ a.stack
+stack_same base ls a b registers s =
+    ext_get_or 0 b.stack a.stack s.size (λ i h. each i)
+  where
+    each : (i : ℕ) → get_or b.stack i 0 ≡ get_or a.stack i 0
+    each i =
+        elim (cases_lt i base) [
+          | inl low ↦ s.below i low
+          | inr high ↦
+              let there : base + (i - base) + 0 ≡ i = omega (arith, high) in
+              subst (λ k. get_or b.stack k 0 ≡ get_or a.stack k 0) there (s.others (S (i - base)) (none_of_registers ls (i - base) registers) 0 (omega arith))
+        ]
+
+-- a register is the same whatever the stack's places count from
+register_same : (base : ℕ) (l : Loc) (a b : Image) → IsPlace 0 l → SameAt base l a b → SameAt 0 l a b
+register_same base (G r) a b h same = same
+register_same base (F r) a b h same = same
+register_same base (S n) a b h same = absurd (omega (arith, h))
+
+byte_moved : (std : Standard) (base : ℕ) (l : Loc) (m : Image) (k : ℕ) → IsPlace 0 l → byte_at (at_return std m) 0 l k ≡ byte_at m base l k
+byte_moved std base (G r) m k h = refl
+byte_moved std base (F r) m k h = refl
+byte_moved std base (S n) m k h = absurd (omega (arith, h))
+
+word_moved : (std : Standard) (base : ℕ) (l : Loc) (m : Image) → IsPlace 0 l → word_at (at_return std m) 0 l ≡ word_at m base l
+word_moved std base (G r) m h = refl
+word_moved std base (F r) m h = refl
+word_moved std base (S n) m h = absurd (omega (arith, h))
+
+pieces_moved : (std : Standard) (base : ℕ) (t : Tree) (bytes : List ℕ) (m : Image) (ps : List Piece) → AllByRecursion (IsPlace 0) (piece_locs ps) → AllByRecursion (PieceStands base m t bytes) ps → AllByRecursion (PieceStands 0 (at_return std m) t bytes) ps
+pieces_moved std base t bytes m [] lie stand = tt
+pieces_moved std base t bytes m (p ∷ ps) lie stand = (
+  record {
+    held = λ k h. byte_moved std base p.loc m k lie.0 ∙ stand.0.held k h;
+    filled = subst (λ w. FillsAs p.ext w t (value_in t bytes)) (sym (word_moved std base p.loc m lie.0)) stand.0.filled;
+  },
+  pieces_moved std base t bytes m ps lie.1 stand.1,
+)
+
+-- what a register keeps, whatever the stack's places count from
+from_base : (base : ℕ) (l : Loc) (m : Image) (k : ℕ) → IsPlace 0 l → byte_at m 0 l k ≡ byte_at m base l k
+from_base base (G r) m k h = refl
+from_base base (F r) m k h = refl
+from_base base (S n) m k h = absurd (omega (arith, h))
+
+keeps_moved : (base : ℕ) (old new : Image) (ps : List Piece) → AllByRecursion (IsPlace 0) (piece_locs ps) → AllByRecursion (KeepsAbove base old new) ps → AllByRecursion (KeepsAbove 0 old new) ps
+keeps_moved base old new [] lie keep = tt
+keeps_moved base old new (p ∷ ps) lie keep = (
+  λ free k from below. from_base base p.loc new k lie.0 ∙ keep.0 free k from below ∙ sym (from_base base p.loc old k lie.0),
+  keeps_moved base old new ps lie.1 keep.1,
+)
+
+told_moved : (std : Standard) (o : Option Loc) (n : ℕ) (m : Image) → AllByRecursion (IsPlace 0) (to_list o) → RegisterHolds m o n → RegisterHolds (at_return std m) o n
+told_moved std None n m h told = tt
+told_moved std (Some at) n m h told = word_moved std 0 at m h.0 ∙ told
+
+module _ (std : Standard) (s : Signature) (sound : IsSound std s) (right : SignatureHasNoFault s) (bytes : List ℕ) (sized : length bytes ≡ size_of s.result_type) (old new : Image) where
+  abbrev t : Tree
+  t = s.result_type
+
+  -- ---- in registers
+
+  module _ (pieces : List Piece) (is : (plan_of std s).res ≡ DirectRes pieces) where
+    pub result_registers : AllByRecursion (IsPlace 0) (piece_locs pieces)
+    result_registers =
+        subst (λ r. AllByRecursion (IsPlace 0) (result_locs r)) is (machine_places (isa_of std.target) 0 (result_locs (plan_of std s).res) sound.result_in_registers)
+
+    pub direct_given : (base : ℕ) → AllByRecursion (PieceStands base new s.result_type bytes) pieces → AllByRecursion (KeepsAbove base old new) pieces → Stays base (piece_locs pieces) old new → IsGiven std s bytes old new
+    direct_given base stand keep stays =
+        let moved = pieces_moved std base s.result_type bytes new pieces result_registers stand in
+        let owns = pieces_stand 0 (at_return std new) s.result_type bytes pieces moved in
+        let fills = pieces_filled 0 (at_return std new) s.result_type bytes pieces moved in
+        let same = stack_same base (piece_locs pieces) old new result_registers stays in
+        record {
+          given = subst (λ r. IsGivenBy std s.result_type r bytes old new) (sym is) (owns, fills);
+          holds = λ room hidden. record {
+            own = record {
+              reaches = omega (arith, room, length-drop std.link new.stack, stays.size);
+              fitting = value_fits s.result_type bytes (result_is_laid_out s right) sized;
+              stands = subst (λ r. OwnsResult (at_return std new) s.result_type r (value_in s.result_type bytes)) (sym is) owns;
+            };
+            filled = subst (λ r. FillsResult std (at_return std new) s.result_type r (value_in s.result_type bytes)) (sym is) fills;
+          };
+          sp = stays.sp;
+          size = stays.size;
+          registers = λ l place none. register_same base l old new place (stays.others l (subst (λ r. IsNoneOf (given_locs std r) l) is none));
+          kept = subst (ResultKeeps old new) (sym is) (keeps_moved base old new pieces result_registers keep);
+          beside = λ i clear. ap (λ xs. get_or xs i 0) same;
+        }
+
+  -- ---- in the buffer
+
+  module _ (at : Loc) (buffer : ℕ) (is : (plan_of std s).res ≡ Hidden at buffer) where
+    pub hidden_given : (base from address : ℕ) (mid : List ℕ) (returned : Option Loc)
+        → AllByRecursion (IsPlace 0) (to_list std.returned_address) → returned ≡ std.returned_address → address ≡ word_at old std.link at → is_in_image old address (size_of s.result_type) ≡ true → from ≡ address - old.sp → old.sp ≤ address
+        → part mid from (length bytes) ≡ bytes → length mid ≡ length old.stack → ((i : ℕ) → (i < from) ⊎ (from + length bytes ≤ i) → get_or mid i 0 ≡ get_or old.stack i 0)
+        → RegisterHolds new returned address → Stays base (to_list returned) (record old { stack = mid }) new → new.stack ≡ mid → IsGiven std s bytes old new
+    hidden_given base from address mid returned settable returned_is address_is inside from_is above there size beside told stays stack =
+        let told_there = subst (λ o. RegisterHolds new o address) returned_is told in
+        let moved = told_moved std std.returned_address address new settable told_there in
+        let has : part new.stack (address - old.sp) (size_of s.result_type) ≡ bytes = ap (λ xs. part xs (address - old.sp) (size_of s.result_type)) stack ∙ ap (λ n. part mid n (size_of s.result_type)) (sym from_is) ∙ subst (λ n. part mid from n ≡ bytes) sized there in
+        record {
+          given = subst (λ r. IsGivenBy std s.result_type r bytes old new) (sym is)
+              (subst (λ a. (is_in_image old a (size_of s.result_type) ≡ true) × (part new.stack (a - old.sp) (size_of s.result_type) ≡ bytes) × RegisterHolds (at_return std new) std.returned_address a) address_is (inside, has, moved));
+          holds = λ room hidden.
+              let owned : word_at old std.link at ≡ old.sp + std.link + buffer = subst (OwnsHidden old std.link) is hidden in
+              let offset : address - old.sp ≡ std.link + (0 + buffer) = omega (arith, owned, address_is) in
+              let stands : value_in s.result_type (take (size_of s.result_type) (drop (0 + buffer) (drop std.link new.stack))) ≡ value_in s.result_type bytes = ap (λ xs. value_in s.result_type (take (size_of s.result_type) xs)) (drop-drop (0 + buffer) std.link new.stack) ∙ ap (λ n. value_in s.result_type (part new.stack n (size_of s.result_type))) (sym offset) ∙ ap (value_in s.result_type) has in
+              let where_is : address ≡ new.sp + std.link + buffer = omega (arith, owned, address_is, stays.sp) in
+              record {
+                own = record {
+                  reaches = omega (arith, room, length-drop std.link new.stack, ap length stack, size);
+                  fitting = value_fits s.result_type bytes (result_is_laid_out s right) sized;
+                  stands = subst (λ r. OwnsResult (at_return std new) s.result_type r (value_in s.result_type bytes)) (sym is) stands;
+                };
+                filled = subst (λ r. FillsResult std (at_return std new) s.result_type r (value_in s.result_type bytes)) (sym is) (subst (RegisterHolds (at_return std new) std.returned_address) where_is moved);
+              };
+          sp = stays.sp;
+          size = ap length stack ∙ size;
+          registers = λ l place none. register_back l place (register_same base l (record old { stack = mid }) new place (stays.others l (subst (λ o. IsNoneOf (to_list o) l) (sym returned_is) (subst (λ r. IsNoneOf (given_locs std r) l) is none))));
+          kept = subst (ResultKeeps old new) (sym is) tt;
+          beside = λ i clear. ap (λ xs. get_or xs i 0) stack ∙ beside i (apart i (subst (λ r. IsBeside std s.result_type r old i) is clear));
+        }
+      where
+        register_back : (l : Loc) → IsPlace 0 l → SameAt 0 l (record old { stack = mid }) new → SameAt 0 l old new
+        register_back (G r) h same = same
+        register_back (F r) h same = same
+        register_back (S n) h same = absurd (omega (arith, h))
+
+        apart : (i : ℕ) → (old.sp + i < word_at old std.link at) ⊎ (word_at old std.link at + size_of s.result_type ≤ old.sp + i) → (i < from) ⊎ (from + length bytes ≤ i)
+        apart i (inl below) = inl (omega (arith, below, address_is, from_is))
+        apart i (inr high) = inr (omega (arith, high, address_is, from_is, above, sized))

@@ -1,0 +1,14 @@
+pub mod Puts
+pub mod Filling
+pub mod Composing
+pub mod Stepping
+pub mod Copying
+pub mod Packing
+pub mod Arguments
+pub mod Owning
+pub mod Clear
+pub mod Whole
+pub mod Results
+pub mod Given
+pub mod Turns
+pub mod Cleared

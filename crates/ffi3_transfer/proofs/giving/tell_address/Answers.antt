@@ -1,0 +1,11 @@
+use Rattle.std.proofs.Common.{subst}
+use Rattle.std.specs.List.{AllByRecursion}
+use Rattle.ffi3_place_rules.specs.Isa.{to_list}
+use Rattle.ffi3_pieces.specs.Stored.{IsPlace}
+use Rattle.ffi3_transfer.specs.Stored.{image_in}
+use Rattle.ffi3_transfer.proofs.Given.{stack_same}
+use Rattle.ffi3_transfer.proofs.giving.tell_address.Goals as goal
+
+pub returns-in-Some-clause-stack : goal.returns-in-Some-clause-stack
+returns-in-Some-clause-stack c =
+    stack_same c.args.base _ (image_in c.args.registers.now c.args.stack.now) (image_in c.put_word.new.registers c.put_word.new.stack) (subst (λ o. AllByRecursion (IsPlace 0) (to_list o)) c.in-Some.is c.requires) c.put_word.ensures.stays

@@ -1,0 +1,5 @@
+pub mod Stored
+pub mod Packed
+pub mod Standing
+pub mod Calls
+pub mod Collected

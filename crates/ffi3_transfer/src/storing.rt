@@ -1,0 +1,202 @@
+// Values at their places: what a caller stores for its callee.
+ghost use Rattle.std.specs.Prelude.{◌≡◌, ◌+◌, ◌-◌, ◌^◌, ◌<◌, ◌≤◌, length, IfErr, OnErr, OnOk};
+ghost use Rattle.std.specs.List.{AllByRecursion};
+ghost use Rattle.ffi3_type_rules.specs.Layout.{size_of};
+ghost use Rattle.ffi3_place_rules.specs.Isa.{to_list};
+ghost use Rattle.ffi3_place_rules.specs.Standard.{plan_of};
+ghost use Rattle.ffi3_place_rules.specs.Holds.{OwnsHidden, RegisterHolds};
+ghost use Rattle.ffi3_place_rules.specs.Sound.{Apart, AreApart, hidden_locs, IsPieceOf, PlaceHasAll, piece_locs, stack_words_for};
+ghost use Rattle.ffi3_pieces.specs.Stored.{IsPlace};
+ghost use Rattle.ffi3_pieces.specs.Standing.{PlaceLies, all_uses, place_uses};
+ghost use Rattle.ffi3_explain.specs.Places.{HiddenIsThere};
+ghost use Rattle.ffi3_transfer.specs.Stored.{KeepsAbove, Stays, image_in};
+ghost use Rattle.ffi3_transfer.specs.Packed.{packed_size};
+ghost use Rattle.ffi3_transfer.specs.Standing.{AllStand, IsCopied, PiecesStand, PlaceKeeps, PlaceStands, PlacesKeep};
+ghost use Rattle.ffi3_transfer.specs.Calls.{IsCallStored, IsNotStored, entry_bytes};
+
+use crate::putting::{fill_piece, put_word};
+use crate::{Registers, Unstored};
+use ffi3_cif::Cif;
+use ffi3_place::{Abi, Loc, Pieces, Place, Res};
+use ffi3_type_rules::round_up;
+use ffi3_types::CheckedType;
+
+/// Stores all pieces of a value.
+pub(crate) fn store_pieces(
+    registers: &mut Registers,
+    stack: &mut [u8],
+    base: u64,
+    pieces: &Pieces,
+    ty: &CheckedType<'_>,
+    bytes: &[u8],
+)
+    requires lie { AllByRecursion (IsPlace (length stack.old - base)) (piece_locs pieces.now) }
+    requires apart { AreApart (piece_locs pieces.now) }
+    requires parts { AllByRecursion (IsPieceOf ty.now) pieces.now }
+    requires sized { length bytes.now ≡ size_of ty.now }
+    ensures stand { PiecesStand base (image_in registers.new stack.new) ty.now bytes.now pieces.now }
+    ensures kept { AllByRecursion (KeepsAbove base (image_in registers.old stack.old) (image_in registers.new stack.new)) pieces.now }
+    ensures stays { Stays base (piece_locs pieces.now) (image_in registers.old stack.old) (image_in registers.new stack.new) }
+{
+    for j in (0..pieces.len()).rev() {
+        fill_piece(registers, stack, base, *pieces.get(j), ty, bytes);
+    }
+}
+
+// Stores an argument by reference: a copy, and its address in a place.
+fn store_copy(
+    registers: &mut Registers,
+    stack: &mut [u8],
+    base: u64,
+    at: Loc,
+    copy: u32,
+    ty: &CheckedType<'_>,
+    bytes: &[u8],
+)
+    requires fits { base + copy + size_of ty.now ≤ length stack.old }
+    requires high { registers.old.sp + length stack.old < 2 ^ 64 }
+    requires lies { IsPlace (length stack.old - base) at }
+    requires apart { AllByRecursion (Apart at) (stack_words_for copy ty.now) }
+    requires sized { length bytes.now ≡ size_of ty.now }
+    ensures { IsCopied base ty.now bytes.now at copy (image_in registers.old stack.old) (image_in registers.new stack.new) }
+{
+    // its length tells that the sums below are small
+    let _len = stack.len();
+    let from = base as usize + copy as usize;
+    stack[from..from + bytes.len()].copy_from_slice(bytes);
+    let address = registers.sp + base + copy as u64;
+    put_word(registers, stack, base, at, address);
+}
+
+// Stores an argument at its place.
+fn store_place(
+    registers: &mut Registers,
+    stack: &mut [u8],
+    base: u64,
+    place: &Place,
+    ty: &CheckedType<'_>,
+    bytes: &[u8],
+)
+    requires base { base ≤ length stack.old }
+    requires lies { PlaceLies (length stack.old - base) ty.now place.now }
+    requires high { registers.old.sp + length stack.old < 2 ^ 64 }
+    requires apart { AreApart (place_uses ty.now place.now) }
+    requires has_all { PlaceHasAll ty.now place.now }
+    requires sized { length bytes.now ≡ size_of ty.now }
+    ensures stands { PlaceStands base (image_in registers.new stack.new) ty.now bytes.now place.now }
+    ensures kept { PlaceKeeps base (image_in registers.old stack.old) (image_in registers.new stack.new) ty.now place.now }
+    ensures stays { Stays base (place_uses ty.now place.now) (image_in registers.old stack.old) (image_in registers.new stack.new) }
+{
+    match place {
+        Place::Direct(pieces) => store_pieces(registers, stack, base, pieces, ty, bytes),
+        Place::ByRef { at, copy } => store_copy(registers, stack, base, *at, *copy, ty, bytes),
+    }
+}
+
+// Stores all arguments.
+fn store_arguments<A: Abi>(cif: &Cif<A>, values: &[u8], registers: &mut Registers, stack: &mut [u8])
+    requires sized { length values.now ≡ packed_size cif.now.arguments }
+    requires frame { entry_bytes A.standard cif.now ≤ length stack.old }
+    requires high { registers.old.sp + length stack.old < 2 ^ 64 }
+    ensures stand { AllStand A.standard.link (image_in registers.new stack.new) cif.now.arguments (plan_of A.standard cif.now).places values.now }
+    ensures kept { PlacesKeep A.standard.link (image_in registers.old stack.old) (image_in registers.new stack.new) cif.now.arguments (plan_of A.standard cif.now).places }
+    ensures stays { Stays A.standard.link (all_uses cif.now.arguments (plan_of A.standard cif.now).places) (image_in registers.old stack.old) (image_in registers.new stack.new) }
+{
+    let sig = cif.checked_sig();
+    let base = A::LINK;
+    let mut at = values.len();
+    for i in (0..sig.count()).rev() {
+        let ty = sig.arg(i);
+        let size = ty.size();
+        at -= round_up(size, 8) as usize;
+        store_place(
+            registers,
+            stack,
+            base,
+            cif.place(i),
+            &ty,
+            &values[at..at + size as usize],
+        );
+    }
+}
+
+// Stores the address of a hidden result's buffer.
+fn store_hidden(registers: &mut Registers, stack: &mut [u8], base: u64, res: &Res)
+    requires base { base ≤ length stack.old }
+    requires there { HiddenIsThere (image_in registers.old stack.old) base res.now }
+    ensures stands { OwnsHidden (image_in registers.new stack.new) base res.now }
+    ensures stays { Stays base (hidden_locs res.now) (image_in registers.old stack.old) (image_in registers.new stack.new) }
+{
+    match res {
+        Res::Hidden { at, buffer } => {
+            let address = registers.sp + base + *buffer as u64;
+            put_word(registers, stack, base, *at, address);
+        }
+        Res::Nothing => {}
+        Res::Direct(_) => {}
+    }
+}
+
+// Tells how many vector registers the arguments use, where a register tells it.
+fn store_count(
+    registers: &mut Registers,
+    stack: &mut [u8],
+    base: u64,
+    count: Option<Loc>,
+    vectors: u8,
+)
+    requires { AllByRecursion (IsPlace 0) (to_list count) }
+    ensures told { RegisterHolds (image_in registers.new stack.new) count vectors }
+    ensures stays { Stays base (to_list count) (image_in registers.old stack.old) (image_in registers.new stack.new) }
+{
+    match count {
+        Some(at) => put_word(registers, stack, base, at, vectors as u64),
+        None => {}
+    }
+}
+
+/// How many bytes the values of a signature's arguments take, one after another, each from a multiple of 8 on.
+pub fn packed_size<A: Abi>(cif: &Cif<A>) -> usize
+    ensures { result ≡ packed_size cif.now.arguments }
+{
+    let sig = cif.checked_sig();
+    let mut size = 0;
+    for i in (0..sig.count()).rev() {
+        size += round_up(sig.arg(i).size(), 8) as usize;
+    }
+    size
+}
+
+/// Stores the values of a call for its callee, in registers and memory as they will be at the callee's first
+/// instruction: `stack` is the memory from `registers.sp` on, where the return address will stand, if the standard has
+/// it on the stack.
+pub fn store<A: Abi>(
+    cif: &Cif<A>,
+    values: &[u8],
+    registers: &mut Registers,
+    stack: &mut [u8],
+) -> Result<(), Unstored>
+    ensures ok { OnOk result (IsCallStored A.standard cif.now values.now (image_in registers.old stack.old) (image_in registers.new stack.new)) }
+    ensures err { IfErr result (λ f. IsNotStored A.standard cif.now values.now (image_in registers.old stack.old) f) }
+    ensures registers { OnErr result (registers.new ≡ registers.old) }
+    ensures stack { OnErr result (stack.new ≡ stack.old) }
+{
+    // its contract tells what is true of every interface
+    let _sig = cif.sig();
+    let wanted = packed_size(cif);
+    if values.len() != wanted {
+        return Err(Unstored::WrongSize(wanted));
+    }
+    let base = A::LINK;
+    let wanted = base as usize + cif.frame() as usize;
+    if stack.len() < wanted {
+        return Err(Unstored::ShortStack(wanted));
+    }
+    if u64::MAX - registers.sp < stack.len() as u64 {
+        return Err(Unstored::HighStack);
+    }
+    store_arguments(cif, values, registers, stack);
+    store_hidden(registers, stack, base, cif.result_place());
+    store_count(registers, stack, base, A::vector_count(), cif.vectors());
+    Ok(())
+}
