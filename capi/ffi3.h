@@ -43,7 +43,7 @@ extern "C" {
 #endif
 
 /* 10000 * major + 100 * minor + patch: 10203 would be version 1.2.3. */
-#define FFI3_VERSION 100
+#define FFI3_VERSION 200
 
 /* CALLING STANDARDS, by their machines. */
 #define FFI3_AMD64 0   /* System V psABI for AMD64: Linux, macOS, the BSDs */
@@ -52,10 +52,10 @@ extern "C" {
 #define FFI3_RISCV 2   /* RISC-V psABI, LP64D */
 #define FFI3_WIN64 3   /* Microsoft x64 */
 
-/* ANSWERS of ffi3_place, ffi3_layout and ffi3_arguments. */
+/* ANSWERS of ffi3_place, ffi3_layout, ffi3_arguments, and of those that take nodes. */
 #define FFI3_OK 0
 #define FFI3_TOO_SMALL 1      /* the array has no room: nothing is in it, and the count says how much is wanted */
-#define FFI3_NOT_DECLARED 2   /* the text declares no function that can be called: `fault` says why */
+#define FFI3_NOT_DECLARED 2   /* text or nodes declare no function that can be called, or no type: `fault` says why */
 #define FFI3_UNKNOWN_TARGET 3 /* no calling standard has this number */
 #define FFI3_UNKNOWN_VALUE 4  /* the function has no argument of this number */
 #define FFI3_OUT_OF_MEMORY 5  /* malloc refused */
@@ -67,14 +67,15 @@ extern "C" {
 /* What is passed beside the arguments: the address of the buffer in which the callee leaves the result (sret). */
 #define FFI3_HIDDEN UINT32_C(0xFFFFFFFE)
 
-/* KINDS OF FAULT: what is wrong with a text (kinds 1 to 4), or with the signature that it declares. */
+/* KINDS OF FAULT: what is wrong with a text (kinds 1 to 4), with nodes (14 to 20), or with what they declare. */
 #define FFI3_NO_FAULT 0
 #define FFI3_NOT_UTF8 1
 #define FFI3_BAD_TOKEN 2             /* at byte `offset` no word, number or mark begins */
 #define FFI3_UNEXPECTED 3            /* no declaration has there what stands at `offset`, or ends there */
 #define FFI3_BAD_NUMBER 4            /* the number at `offset` is over 4,294,967,295 */
-#define FFI3_BAD_TYPEDEF 5           /* an array of no elements */
-#define FFI3_LEFT_OUT_LONG_DOUBLE 6  /* kinds 6 to 8, 12 and 13 are of no declaration that can be written today */
+#define FFI3_BAD_TYPEDEF 5           /* an array of no elements; of nodes also a struct of no members, a void that is no
+                                        result, or an array that is no member and no element */
+#define FFI3_LEFT_OUT_LONG_DOUBLE 6  /* kinds 6 to 8, 12 and 13 are of nodes: no text of today says so */
 #define FFI3_LEFT_OUT_COMPLEX 7
 #define FFI3_LEFT_OUT_VECTOR 8
 #define FFI3_TOO_LARGE 9             /* a struct or an array of `number` bytes, more than 4,096 */
@@ -82,12 +83,20 @@ extern "C" {
 #define FFI3_TOO_MANY 11             /* `number` arguments, more than 64 */
 #define FFI3_BAD_FIXED 12            /* of `number` arguments, `argument` are fixed */
 #define FFI3_BAD_VARIADIC 13         /* C would promote the type of variadic argument `argument` */
+#define FFI3_NODES_ENDED 14          /* behind `offset` nodes, where they end, another is wanted */
+#define FFI3_UNKNOWN_KIND 15         /* the node behind `offset` others has a kind without such a number */
+#define FFI3_BAD_COUNT 16            /* the node behind `offset` others has a count, and its kind has none */
+#define FFI3_NODES_TOO_DEEP 17       /* behind `offset` nodes a struct or an array begins inside 16 others */
+#define FFI3_TOO_MANY_NODES 18       /* `number` nodes, 4,294,967,296 or more */
+#define FFI3_NOT_ONE_TYPE 19         /* nodes of `number` types where one is wanted */
+#define FFI3_LAID_OUT_OTHERWISE 20   /* of ffi3_check_layout: member `number` starts elsewhere, or one side lacks it;
+                                        or, where `number` is how many there are, size or alignment is another */
 
-/* Why a text declares no function that can be called: the first fault. What a kind does not speak of is 0. */
+/* Why a text, or nodes, declare no function that can be called: the first fault. What a kind does not speak of is 0. */
 struct ffi3_fault {
     uint32_t kind;     /* FFI3_BAD_TOKEN and so on; FFI3_NO_FAULT where the text is right */
     uint32_t argument; /* of kinds 5 to 10: whose type has the fault, an argument's number or FFI3_RESULT. See 12, 13 */
-    size_t offset;     /* where in the text, in bytes */
+    size_t offset;     /* where in the text, in bytes; or behind how many nodes */
     size_t number;     /* how large, or how many */
 };
 
@@ -202,6 +211,90 @@ struct ffi3_layout {
  */
 uint32_t ffi3_layout(const char *text, size_t length, uint32_t value, struct ffi3_layout *layout,
                      struct ffi3_leaf *leaves, size_t capacity);
+
+/* TYPES AS DATA. A type is an array of nodes, in preorder: that of a struct counts its members, whose nodes follow it;
+ * that of an array counts its elements, and the nodes of one of them follow it. Of a function the result's nodes stand
+ * first, and then those of its arguments. So `double f(struct { int i; float x[2]; } a)` is
+ *
+ *     static const struct ffi3_node nodes[] = {
+ *         {FFI3_DOUBLE, 0}, {FFI3_STRUCT, 2}, {FFI3_SINT32, 0}, {FFI3_ARRAY, 2}, {FFI3_FLOAT, 0}
+ *     };
+ *     ffi3_place_nodes(FFI3_RISCV, nodes, 5, FFI3_NOT_VARIADIC, &call, pieces, 16)
+ *
+ * Nothing in them is believed: nodes that are no type, or that end too early, are a fault. Limits are those of texts.
+ */
+struct ffi3_node {
+    uint32_t kind;  /* FFI3_UINT8 to FFI3_POINTER, or one of the kinds below */
+    uint32_t count; /* of FFI3_STRUCT its members, of FFI3_ARRAY its elements; of each other kind 0 */
+};
+
+/* KINDS OF NODE, beside the kinds of leaf. */
+#define FFI3_VOID 13                /* as a result alone */
+#define FFI3_COMPLEX_FLOAT 14       /* float _Complex: as all standards say, the struct of two */
+#define FFI3_COMPLEX_DOUBLE 15      /* double _Complex */
+#define FFI3_LONG_DOUBLE 16         /* these three are a fault by name: FFI3_LEFT_OUT_LONG_DOUBLE and so on */
+#define FFI3_COMPLEX_LONG_DOUBLE 17
+#define FFI3_VECTOR 18
+#define FFI3_STRUCT 19
+#define FFI3_ARRAY 20               /* a member of a struct, or an element of an array */
+
+/* Of a function that is not variadic, in place of how many of its arguments are fixed, or named. */
+#define FFI3_NOT_VARIADIC UINT32_C(0xFFFFFFFF)
+
+/* uint32_t ffi3_place_nodes(uint32_t TARGET, const struct ffi3_node *NODES, size_t COUNT, uint32_t FIXED,
+ *                           struct ffi3_call *CALL, struct ffi3_piece *PIECES, size_t CAPACITY)
+ *
+ * As ffi3_place, of the function that the COUNT nodes at NODES declare. Of a variadic one FIXED arguments are named.
+ * All are placed, those behind them as variadic ones, whose types are those that C promotes to. The answers are those
+ * of ffi3_place.
+ */
+uint32_t ffi3_place_nodes(uint32_t target, const struct ffi3_node *nodes, size_t count, uint32_t fixed,
+                          struct ffi3_call *call, struct ffi3_piece *pieces, size_t capacity);
+
+/* One type as a whole. */
+struct ffi3_type {
+    size_t size;    /* in bytes, a multiple of the alignment; of void 0 */
+    size_t align;   /* 1, 2, 4, 8 or 16 */
+    size_t members; /* how many members a struct has, those of structs in it not among them; else 0 */
+    size_t leaves;  /* how many scalars it has, those of structs and arrays in it among them */
+    struct ffi3_fault fault;
+};
+
+/* uint32_t ffi3_layout_nodes(const struct ffi3_node *NODES, size_t COUNT, struct ffi3_type *TYPE,
+ *                            struct ffi3_leaf *LEAVES, size_t CAPACITY)
+ * uint32_t ffi3_offsets_nodes(const struct ffi3_node *NODES, size_t COUNT, struct ffi3_type *TYPE,
+ *                             size_t *OFFSETS, size_t CAPACITY)
+ *
+ * How the one type that the COUNT nodes at NODES are is laid out, by all four standards alike. It is one that can be a
+ * result: void, a scalar, or a struct. An array stands in a struct.
+ *
+ * LEAVES is an array of CAPACITY elements, and is given the type's scalars from the front. OFFSETS is given where each
+ * member of a struct starts, in bytes from the struct's start.
+ *
+ * FFI3_OK: TYPE and the array are filled.
+ * FFI3_TOO_SMALL: TYPE is filled, and the array is as it was: it wants TYPE->leaves, or TYPE->members, elements.
+ * FFI3_NOT_DECLARED: TYPE->fault says why; of the type's own faults `argument` is FFI3_RESULT. All else in TYPE is 0,
+ *     and the array is as it was.
+ * FFI3_OUT_OF_MEMORY: TYPE is 0, and the array as it was.
+ */
+uint32_t ffi3_layout_nodes(const struct ffi3_node *nodes, size_t count, struct ffi3_type *type,
+                           struct ffi3_leaf *leaves, size_t capacity);
+uint32_t ffi3_offsets_nodes(const struct ffi3_node *nodes, size_t count, struct ffi3_type *type, size_t *offsets,
+                            size_t capacity);
+
+/* uint32_t ffi3_check_layout(const struct ffi3_node *NODES, size_t COUNT, size_t SIZE, size_t ALIGN,
+ *                            const size_t *OFFSETS, size_t MEMBERS, struct ffi3_fault *FAULT)
+ *
+ * Whether the type that the COUNT nodes at NODES are is laid out as its client has it, packed or over-aligned perhaps:
+ * in SIZE bytes, aligned to ALIGN, its MEMBERS members at OFFSETS. The standards place no other layout than the natural
+ * one, so a client with a layout of its own asks of each struct in it before it places one.
+ *
+ * FFI3_OK: it is; FAULT is 0.
+ * FFI3_NOT_DECLARED: FAULT says why not: FFI3_LAID_OUT_OTHERWISE, or what ffi3_layout_nodes says of the nodes.
+ * FFI3_OUT_OF_MEMORY: FAULT is 0.
+ */
+uint32_t ffi3_check_layout(const struct ffi3_node *nodes, size_t count, size_t size, size_t align,
+                           const size_t *offsets, size_t members, struct ffi3_fault *fault);
 
 /* What a machine holds at a function's entry: at its first instruction, before any of this changed. */
 struct ffi3_registers {

@@ -6,6 +6,8 @@
     for piece in call.pieces:
         print(piece.part, piece.place, piece.offset, piece.length)      # 0 a0 0 4, 0 fa0 4 4, result fa0 0 8
     ffi3.layout("double f(struct { int i; float x; } a)", 0)            # size 8, align 4, two leaves
+    ffi3.place_nodes("riscv", ["double", ("struct", 2), "sint32", "float"])         # the same call, without a text
+    ffi3.layout_nodes([("struct", 2), "sint32", "float"])               # size 8, align 4, offsets 0 and 4, two leaves
     ffi3.arguments("riscv", "double f(struct { int i; float x; } a)", {"a0": 7, "fa0": 0x3f800000})     # [(7, 1.0)]
 
 On the command line:
@@ -32,16 +34,19 @@ HIDDEN = "hidden"
 (_OK, _TOO_SMALL, _NOT_DECLARED, _UNKNOWN_TARGET, _UNKNOWN_VALUE, _OUT_OF_MEMORY, _SHORT_STACK,
  _NOT_IN_STACK) = range(8)
 _RESULT, _HIDDEN = 0xFFFFFFFF, 0xFFFFFFFE
+_NOT_VARIADIC = 0xFFFFFFFF
 _ADDRESS = 1
 _GENERAL, _FLOATING, _STACK = range(3)
 _RESTS = ("free", "extended", "extended by 32", "ones")
 _KINDS = ("uint8", "sint8", "uint16", "sint16", "uint32", "sint32", "uint64", "sint64", "uint128", "sint128", "float",
           "double", "pointer")
 _SIZES = dict(zip(_KINDS, (1, 1, 2, 2, 4, 4, 8, 8, 16, 16, 4, 8, 8)))
+_NODE_KINDS = (*_KINDS, "void", "complex float", "complex double", "long double", "complex long double", "vector",
+               "struct", "array")
 
 
 # Of the library that this module knows, as FFI3_VERSION of ffi3.h.
-VERSION = 100
+VERSION = 200
 
 
 class VersionError(ImportError):
@@ -55,7 +60,7 @@ class VersionError(ImportError):
 
 
 class Error(ValueError):
-    """A text that declares no function that can be called: the kind of the fault, and where in the text it is."""
+    """A text, or nodes, that declare no function that can be called: the kind of the fault, and where it is."""
 
     def __init__(self, words, kind, offset):
         super().__init__(words)
@@ -112,6 +117,15 @@ class Layout(NamedTuple):
     arguments: int
 
 
+class Type(NamedTuple):
+    """Size and alignment of a type in bytes, where each member of a struct starts, and its scalars from the front."""
+
+    size: int
+    align: int
+    offsets: tuple
+    leaves: tuple
+
+
 class _Fault(ctypes.Structure):
     _fields_ = [("kind", ctypes.c_uint32), ("argument", ctypes.c_uint32), ("offset", ctypes.c_size_t),
                 ("number", ctypes.c_size_t)]
@@ -133,6 +147,14 @@ class _Leaf(ctypes.Structure):
 
 class _Layout(ctypes.Structure):
     _fields_ = [*((name, ctypes.c_size_t) for name in ("size", "align", "leaves", "arguments")), ("fault", _Fault)]
+
+
+class _Node(ctypes.Structure):
+    _fields_ = [("kind", ctypes.c_uint32), ("count", ctypes.c_uint32)]
+
+
+class _Type(ctypes.Structure):
+    _fields_ = [*((name, ctypes.c_size_t) for name in ("size", "align", "members", "leaves")), ("fault", _Fault)]
 
 
 class _Registers(ctypes.Structure):
@@ -160,8 +182,14 @@ def _load():
     if found < VERSION or found // 10000 != VERSION // 10000:
         raise VersionError(found, VERSION, name)
     uint32, size, text = ctypes.c_uint32, ctypes.c_size_t, ctypes.c_char_p
+    nodes, whole = ctypes.POINTER(_Node), ctypes.POINTER(_Type)
     for function, result, parameters in (
         ("place", uint32, [uint32, text, size, ctypes.POINTER(_Call), ctypes.POINTER(_Piece), size]),
+        ("place_nodes", uint32, [uint32, nodes, size, uint32, ctypes.POINTER(_Call), ctypes.POINTER(_Piece), size]),
+        ("layout_nodes", uint32, [nodes, size, whole, ctypes.POINTER(_Leaf), size]),
+        ("offsets_nodes", uint32, [nodes, size, whole, ctypes.POINTER(ctypes.c_size_t), size]),
+        ("check_layout", uint32, [nodes, size, size, size, ctypes.POINTER(ctypes.c_size_t), size,
+                                  ctypes.POINTER(_Fault)]),
         ("layout", uint32, [text, size, uint32, ctypes.POINTER(_Layout), ctypes.POINTER(_Leaf), size]),
         ("arguments", uint32, [uint32, text, size, ctypes.POINTER(_Registers), text, size, ctypes.POINTER(_Arguments),
                                text, size]),
@@ -177,7 +205,7 @@ _library = _load()
 
 
 def version():
-    """The library's version, as "0.1.0"."""
+    """The library's version, as "0.2.0"."""
     return _shown(_library.ffi3_version())
 
 
@@ -217,16 +245,12 @@ def _part(number):
     return {_RESULT: RESULT, _HIDDEN: HIDDEN}.get(number, number)
 
 
-def place(target, declaration):
-    """Where everything stands in a call, by a target's standard, of the function that a text declares.
-
-    Raises Error where the text declares none, and ValueError where there is no such target.
-    """
-    number, text, told = TARGETS.index(target), _bytes_of(declaration), _Call()
+def _placed(target, tell):
+    """A call; tell makes that of the library, with the target's number, the struct and the array with its capacity."""
+    number, told = TARGETS.index(target), _Call()
 
     def ask(array, capacity):
-        status = _library.ffi3_place(number, text, len(text), ctypes.byref(told), array, capacity)
-        return status, told.pieces
+        return tell(number, ctypes.byref(told), array, capacity), told.pieces
 
     status, pieces = _filled(_Piece, ask)
     if status != _OK:
@@ -235,6 +259,62 @@ def place(target, declaration):
                    "stack" if each.place == _STACK else _register(number, each.place, each.number),
                    each.number, each.offset, each.length, _RESTS[each.rest]) for each in pieces]
     return Call(told.need, told.frame, told.block, told.vectors, told.arguments, told.passed, tuple(found))
+
+
+def place(target, declaration):
+    """Where everything stands in a call, by a target's standard, of the function that a text declares.
+
+    Raises Error where the text declares none, and ValueError where there is no such target.
+    """
+    text = _bytes_of(declaration)
+    return _placed(target, lambda number, *into: _library.ffi3_place(number, text, len(text), *into))
+
+
+def _nodes_of(nodes):
+    """An array of nodes, and how many they are."""
+    pairs = [(each, 0) if isinstance(each, (str, int)) else each for each in nodes]
+    made = [_Node(_NODE_KINDS.index(kind) if isinstance(kind, str) else kind, count) for kind, count in pairs]
+    return (_Node * len(made))(*made), len(made)
+
+
+def place_nodes(target, nodes, fixed=None):
+    """Where everything stands in a call of the function whose result and arguments are these nodes.
+
+    A node is the name of a kind, or a pair of it and of how many members a struct, or elements an array, has. Of a
+    variadic function fixed says how many arguments are named. Raises as place does; the offset of an Error then says
+    behind how many nodes the fault is.
+    """
+    array, count = _nodes_of(nodes)
+    named = _NOT_VARIADIC if fixed is None else fixed
+    return _placed(target, lambda number, *into: _library.ffi3_place_nodes(number, array, count, named, *into))
+
+
+def layout_nodes(nodes):
+    """The layout of the one type that these nodes are, as place_nodes has them. Raises Error where they are none."""
+    (array, count), told = _nodes_of(nodes), _Type()
+
+    def leaves(into, capacity):
+        return _library.ffi3_layout_nodes(array, count, ctypes.byref(told), into, capacity), told.leaves
+
+    def offsets(into, capacity):
+        return _library.ffi3_offsets_nodes(array, count, ctypes.byref(told), into, capacity), told.members
+
+    found = []
+    for item, ask in ((ctypes.c_size_t, offsets), (_Leaf, leaves)):
+        status, items = _filled(item, ask)
+        if status != _OK:
+            _refuse(status, told.fault)
+        found.append(items)
+    return Type(told.size, told.align, tuple(found[0]), tuple((each.offset, _KINDS[each.kind]) for each in found[1]))
+
+
+def check_layout(nodes, size, align, offsets=()):
+    """Raises Error where the one type that these nodes are is laid out otherwise, or where they are none."""
+    (array, count), fault = _nodes_of(nodes), _Fault()
+    starts = (ctypes.c_size_t * len(offsets))(*offsets)
+    status = _library.ffi3_check_layout(array, count, size, align, starts, len(starts), ctypes.byref(fault))
+    if status != _OK:
+        _refuse(status, fault)
 
 
 def layout(declaration, value=RESULT):

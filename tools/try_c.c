@@ -1,8 +1,9 @@
-// Tries the exports of the C library under the compiler's sanitizers: try_c FILE, with one declaration a line.
+// Tries the exports of the C library under the compiler's sanitizers: try_c FILE NODES. FILE has one declaration a
+// line, NODES the nodes of one function: how many of its arguments are fixed, and then of each node kind and count.
 //
-// Each text and each array is a block of its own of the very size, so that a byte too far is found. Texts are whole,
-// cut short, and with one byte changed; arrays have room for nothing up to one element more than is wanted; and each
-// allocation of a call is refused in turn. The last line is 'N passed, M failed'.
+// Each text and each array is a block of its own of the very size, so that a byte too far is found. Texts and nodes are
+// whole, cut short, and with one byte or one node changed; arrays have room for nothing up to one element more than is
+// wanted; and each allocation of a call is refused in turn. The last line is 'N passed, M failed'.
 #include "ffi3.h"
 
 #include <stdio.h>
@@ -51,6 +52,18 @@ uint32_t __wrap_ffi3_place(uint32_t target, const char *text, size_t length, str
     (void)kept;
     return status;
 }
+
+uint32_t __real_ffi3_place_nodes(uint32_t target, const struct ffi3_node *nodes, size_t count, uint32_t fixed,
+                                 struct ffi3_call *call, struct ffi3_piece *pieces, size_t capacity);
+
+uint32_t __wrap_ffi3_place_nodes(uint32_t target, const struct ffi3_node *nodes, size_t count, uint32_t fixed,
+                                 struct ffi3_call *call, struct ffi3_piece *pieces, size_t capacity)
+{
+    uint32_t status = __real_ffi3_place_nodes(target, nodes, count, fixed, call, pieces, capacity);
+    if (PLANTED == 4 && ((const volatile struct ffi3_node *)nodes)[count].kind == 7)
+        call->need = 0;
+    return status;
+}
 #endif
 
 static long passed, failed;
@@ -96,12 +109,12 @@ static int is_right_piece(const struct ffi3_call *call, size_t i, const struct f
         && (p->place == FFI3_STACK ? p->number + p->length <= call->frame : p->number < 32 && p->length <= 8);
 }
 
-static void check_fault(const struct ffi3_fault *fault, const char *text, size_t length)
+static void check_fault(const struct ffi3_fault *fault, size_t longest, const char *text, size_t length)
 {
     char words[64];
     size_t wanted = ffi3_fault_text(fault, words, sizeof words);
     check(fault->kind != FFI3_NO_FAULT && wanted && wanted < sizeof words && strlen(words) == wanted
-              && fault->offset <= length, "fault", text, length);
+              && fault->offset <= longest, "fault", text, length);
     for (size_t room = 0; room <= wanted + 1; room++) {
         char *exact = block(room);
         size_t told = ffi3_fault_text(fault, exact, room);
@@ -111,12 +124,10 @@ static void check_fault(const struct ffi3_fault *fault, const char *text, size_t
     }
 }
 
-// One call of ffi3_place with room for so many pieces; how many are wanted.
-static size_t place(uint32_t target, const char *text, size_t length, size_t room)
+// What was answered of a text or of nodes, whose faults have offsets up to the longest; they are named by a text.
+static void check_call(uint32_t target, uint32_t status, const struct ffi3_call *call, const struct ffi3_piece *pieces,
+                       size_t room, size_t longest, const char *text, size_t length)
 {
-    struct ffi3_call *call = block(sizeof *call);
-    struct ffi3_piece *pieces = block(room * sizeof *pieces);
-    uint32_t status = ffi3_place(target, text, length, call, pieces, room);
     size_t wanted = call->pieces;
     switch (status) {
     case FFI3_OK:
@@ -135,7 +146,7 @@ static size_t place(uint32_t target, const char *text, size_t length, size_t roo
         break;
     case FFI3_NOT_DECLARED:
         check(!wanted && is_untouched(pieces, room * sizeof *pieces), "pieces of no function", text, length);
-        check_fault(&call->fault, text, length);
+        check_fault(&call->fault, longest, text, length);
         break;
     case FFI3_OUT_OF_MEMORY:
         check(due && due <= counted && !wanted && is_untouched(pieces, room * sizeof *pieces), "want of memory", text,
@@ -144,6 +155,16 @@ static size_t place(uint32_t target, const char *text, size_t length, size_t roo
     default:
         check(0, "status", text, length);
     }
+}
+
+// One call of ffi3_place with room for so many pieces; how many are wanted.
+static size_t place(uint32_t target, const char *text, size_t length, size_t room)
+{
+    struct ffi3_call *call = block(sizeof *call);
+    struct ffi3_piece *pieces = block(room * sizeof *pieces);
+    uint32_t status = ffi3_place(target, text, length, call, pieces, room);
+    size_t wanted = call->pieces;
+    check_call(target, status, call, pieces, room, length, text, length);
     release(pieces, room * sizeof *pieces);
     free(call);
     return wanted;
@@ -164,7 +185,7 @@ static size_t lay_out(const char *text, size_t length, uint32_t value, size_t ro
                   length);
     } else if (status == FFI3_NOT_DECLARED) {
         check(!wanted && is_untouched(leaves, room * sizeof *leaves), "leaves of no function", text, length);
-        check_fault(&layout->fault, text, length);
+        check_fault(&layout->fault, length, text, length);
     } else {
         check(is_untouched(leaves, room * sizeof *leaves) && (status == FFI3_TOO_SMALL ? room < wanted
               : status == FFI3_UNKNOWN_VALUE ? value >= layout->arguments && value != FFI3_RESULT
@@ -201,7 +222,7 @@ static struct ffi3_arguments read_arguments(uint32_t target, const char *text, s
         break;
     case FFI3_NOT_DECLARED:
         check(!told.arguments && is_untouched(values, room), "values of no function", text, length);
-        check_fault(&found->fault, text, length);
+        check_fault(&found->fault, length, text, length);
         break;
     default:
         check(status == FFI3_OUT_OF_MEMORY && due && due <= counted && !told.arguments && is_untouched(values, room),
@@ -271,14 +292,168 @@ static void try_refused(const char *line, size_t length)
     due = 0;
 }
 
+// ---- nodes
+
+struct nodes {
+    const struct ffi3_node *at;
+    size_t count;
+    uint32_t fixed;
+    const char *line; // from which they were read
+    size_t length;
+};
+
+static size_t place_nodes(uint32_t target, const struct nodes *from, size_t room)
+{
+    struct ffi3_call *call = block(sizeof *call);
+    struct ffi3_piece *pieces = block(room * sizeof *pieces);
+    uint32_t status = ffi3_place_nodes(target, from->at, from->count, from->fixed, call, pieces, room);
+    size_t wanted = call->pieces;
+    check_call(target, status, call, pieces, room, from->count, from->line, from->length);
+    release(pieces, room * sizeof *pieces);
+    free(call);
+    return wanted;
+}
+
+// A layout is a type's own, and not with another size or fewer members. Of what is no type the same fault is told.
+static void check_told(const struct nodes *from, const struct ffi3_type *type, const size_t *offsets, size_t members)
+{
+    struct ffi3_fault *fault = block(sizeof *fault);
+    size_t *exact = block(members * sizeof *exact);
+    memcpy(exact, offsets, members * sizeof *exact);
+    for (size_t more = 0; more < 2; more++) {
+        uint32_t status =
+            ffi3_check_layout(from->at, from->count, type->size + more, type->align, exact, members, fault);
+        int other = status == FFI3_NOT_DECLARED && fault->kind == FFI3_LAID_OUT_OTHERWISE && fault->number == members;
+        if (type->fault.kind)
+            check(due || (status == FFI3_NOT_DECLARED && fault->kind == type->fault.kind), "told layout of no type",
+                  from->line, from->length);
+        else if (!due)
+            check(members == type->members && !more
+                      ? status == FFI3_OK && !fault->kind : other, "told layout", from->line, from->length);
+        else
+            check(status == FFI3_OK || status == FFI3_NOT_DECLARED || status == FFI3_OUT_OF_MEMORY, "told layout",
+                  from->line, from->length);
+    }
+    release(exact, members * sizeof *exact);
+    free(fault);
+}
+
+// One call for leaves and one for offsets, with room for so many; the greater of what they want.
+static size_t type_of_nodes(const struct nodes *from, size_t room)
+{
+    struct ffi3_type *type = block(sizeof *type), *other = block(sizeof *other);
+    struct ffi3_leaf *leaves = block(room * sizeof *leaves);
+    size_t *offsets = block(room * sizeof *offsets), most;
+    uint32_t status = ffi3_layout_nodes(from->at, from->count, type, leaves, room);
+    uint32_t second = ffi3_offsets_nodes(from->at, from->count, other, offsets, room);
+    most = type->leaves > type->members ? type->leaves : type->members;
+    if (status == FFI3_NOT_DECLARED)
+        check_fault(&type->fault, from->count, from->line, from->length);
+    if (!due)
+        check(status == FFI3_NOT_DECLARED
+                  ? second == status && !most && type->fault.kind == other->fault.kind
+                  : status == (room < type->leaves ? FFI3_TOO_SMALL : FFI3_OK)
+                        && second == (room < type->members ? FFI3_TOO_SMALL : FFI3_OK) && type->size == other->size
+                        && type->align == other->align && type->members == other->members
+                        && type->leaves == other->leaves, "type of nodes", from->line, from->length);
+    check(status != FFI3_OUT_OF_MEMORY || (due && !type->size), "want of memory", from->line, from->length);
+    size_t told = status == FFI3_OK ? type->leaves : 0, starts = second == FFI3_OK ? other->members : 0;
+    check(is_untouched(leaves + told, (room - told) * sizeof *leaves)
+              && is_untouched(offsets + starts, (room - starts) * sizeof *offsets), "behind the last", from->line,
+          from->length);
+    for (size_t i = 0; i < told; i++)
+        check(leaves[i].kind <= FFI3_POINTER && leaves[i].offset + leaves[i].size <= type->size, "leaf of nodes",
+              from->line, from->length);
+    for (size_t i = 0; i < starts; i++)
+        check(offsets[i] < other->size && (!i || offsets[i - 1] < offsets[i]), "offset", from->line, from->length);
+    check_told(from, type, offsets, starts);
+    release(offsets, room * sizeof *offsets);
+    release(leaves, room * sizeof *leaves);
+    free(other);
+    free(type);
+    return most;
+}
+
+// Nodes in a block of the very size: as a function's, and as a type those from each of them on.
+static void try_nodes(struct nodes from, int all_rooms)
+{
+    struct ffi3_node *exact = block(from.count * sizeof *exact);
+    memcpy(exact, from.at, from.count * sizeof *exact);
+    from.at = exact;
+    for (uint32_t target = FFI3_AMD64; target <= FFI3_WIN64; target++) {
+        size_t wanted = place_nodes(target, &from, 0);
+        for (size_t room = all_rooms ? 1 : wanted; room <= wanted + 1; room++)
+            place_nodes(target, &from, room);
+    }
+    for (; from.count; from.at++, from.count--) {
+        size_t wanted = type_of_nodes(&from, 0);
+        for (size_t room = all_rooms ? 1 : wanted; room <= wanted + 1; room++)
+            type_of_nodes(&from, room);
+    }
+    release(exact, (size_t)(from.at - exact) * sizeof *exact);
+}
+
+static void try_damaged_nodes(struct nodes from, struct ffi3_node *nodes)
+{
+    static const struct ffi3_node others[] = {
+        {FFI3_STRUCT, 2}, {FFI3_STRUCT, 0}, {FFI3_STRUCT, UINT32_MAX}, {FFI3_ARRAY, 3}, {FFI3_ARRAY, UINT32_MAX},
+        {FFI3_VOID, 0}, {FFI3_COMPLEX_FLOAT, 0}, {FFI3_LONG_DOUBLE, 0}, {FFI3_DOUBLE, 1}, {FFI3_ARRAY + 1, 0},
+        {UINT32_MAX, UINT32_MAX},
+    };
+    size_t count = from.count;
+    for (size_t at = 0; at < count; at++) {
+        struct ffi3_node was = nodes[at];
+        nodes[at] = others[(at * 7 + count) % (sizeof others / sizeof *others)];
+        try_nodes(from, 0);
+        nodes[at] = was;
+        from.count = at;
+        try_nodes(from, 0);
+        from.count = count;
+    }
+}
+
+static void try_nodes_refused(const struct nodes *from)
+{
+    long calls;
+    do {
+        due++, counted = 0;
+        place_nodes((uint32_t)due % 4, from, 64);
+        calls = counted, counted = 0;
+        type_of_nodes(&(struct nodes){from->at, 1, from->fixed, from->line, from->length}, 64);
+    } while (due <= (calls > counted ? calls : counted));
+    due = 0;
+}
+
+static void try_line_of_nodes(const char *line)
+{
+    static struct ffi3_node nodes[1 << 13];
+    char *end;
+    struct nodes from = {nodes, 0, (uint32_t)strtoul(line, &end, 10), line, strlen(line)};
+    for (const char *at = end; from.count < sizeof nodes / sizeof *nodes; at = end) {
+        uint32_t kind = (uint32_t)strtoul(at, &end, 10);
+        if (end == at)
+            break;
+        nodes[from.count++] = (struct ffi3_node){kind, (uint32_t)strtoul(end, &end, 10)};
+    }
+    try_nodes(from, from.count < 40);
+    try_nodes_refused(&from);
+    if (from.count < 40)
+        try_damaged_nodes(from, nodes);
+}
+
 int main(int count, char **words)
 {
     static char line[1 << 16];
-    FILE *file = count == 2 ? fopen(words[1], "r") : NULL;
+    FILE *file = count == 3 ? fopen(words[1], "r") : NULL, *other = count == 3 ? fopen(words[2], "r") : NULL;
     struct ffi3_call call;
     struct ffi3_piece piece;
-    if (!file)
+    if (!file || !other)
         return 2;
+    while (fgets(line, sizeof line, other)) {
+        line[strcspn(line, "\n")] = 0;
+        try_line_of_nodes(line);
+    }
+    fclose(other);
     while (fgets(line, sizeof line, file)) {
         size_t length = strcspn(line, "\n");
         try_text(line, length, length < 400);

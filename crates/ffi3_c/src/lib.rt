@@ -3,15 +3,20 @@
 #![tactic(auto)]
 
 ghost use Rattle.std.specs.Prelude.{◌≡◌, ◌⊎◌, length};
+ghost use Rattle.ffi3_capi.specs.Faults.{Declares, IsFaultOf};
+ghost use Rattle.ffi3_capi.specs.ByNodes.{AreNodesOf, IsFaultOfNodes};
 ghost use Rattle.ffi3_capi.specs.Placed.{Places};
 ghost use Rattle.ffi3_capi.specs.Laid.{LaysOut};
+ghost use Rattle.ffi3_capi.specs.WholeType.{LaysOutNodes, TellsOffsets};
+ghost use Rattle.ffi3_capi.specs.NaturalLayout.{ChecksLayout};
 ghost use Rattle.ffi3_capi.specs.Entry.{Reads, image_in};
 ghost use Rattle.ffi3_capi.specs.Filled.{filled, with_end};
 ghost use Rattle.ffi3_capi.specs.FaultText.{fault_text};
 ghost use Rattle.ffi3_capi.specs.Registers.{register_name};
 
 use ffi3_capi::{
-    EntryArguments, LaidLeaf, LaidType, PlacedCall, PlacedPiece, Registers, TextFault,
+    Declaration, EntryArguments, LaidLeaf, LaidType, Node, PlacedCall, PlacedPiece, Registers,
+    TextFault, WholeType,
 };
 use std::alloc::Global;
 
@@ -24,9 +29,30 @@ pub extern "C" fn ffi3_place(
     call: &mut PlacedCall,
     pieces: &mut [PlacedPiece],
 ) -> u32
-    ensures { Places target text.now pieces.old result call.new pieces.new }
+    ensures { Places (Declares text.now) (IsFaultOf text.now) target pieces.old result call.new pieces.new }
 {
-    ffi3_capi::place(alloc, target, text, call, pieces)
+    ffi3_capi::place(alloc, target, Declaration::Text(text), call, pieces)
+}
+
+/// Where everything stands in a call of the function that the nodes declare.
+#[unsafe(no_mangle)]
+pub extern "C" fn ffi3_place_nodes(
+    alloc: Global,
+    target: u32,
+    nodes: &[Node],
+    fixed: u32,
+    call: &mut PlacedCall,
+    pieces: &mut [PlacedPiece],
+) -> u32
+    ensures { Places (AreNodesOf nodes.now fixed) (IsFaultOfNodes nodes.now fixed) target pieces.old result call.new pieces.new }
+{
+    ffi3_capi::place(
+        alloc,
+        target,
+        Declaration::Nodes(nodes, fixed),
+        call,
+        pieces,
+    )
 }
 
 /// The layout of an argument or of the result of the function that the text declares.
@@ -38,9 +64,50 @@ pub extern "C" fn ffi3_layout(
     layout: &mut LaidType,
     leaves: &mut [LaidLeaf],
 ) -> u32
-    ensures { LaysOut text.now value leaves.old result layout.new leaves.new }
+    ensures { LaysOut (Declares text.now) (IsFaultOf text.now) value leaves.old result layout.new leaves.new }
 {
-    ffi3_capi::layout(alloc, text, value, layout, leaves)
+    ffi3_capi::layout(alloc, Declaration::Text(text), value, layout, leaves)
+}
+
+/// The layout of the type that the nodes are, and its leaves.
+#[unsafe(no_mangle)]
+pub extern "C" fn ffi3_layout_nodes(
+    alloc: Global,
+    nodes: &[Node],
+    told: &mut WholeType,
+    leaves: &mut [LaidLeaf],
+) -> u32
+    ensures { LaysOutNodes nodes.now leaves.old result told.new leaves.new }
+{
+    ffi3_capi::layout_nodes(alloc, nodes, told, leaves)
+}
+
+/// The layout of the type that the nodes are, and where its members start.
+#[unsafe(no_mangle)]
+pub extern "C" fn ffi3_offsets_nodes(
+    alloc: Global,
+    nodes: &[Node],
+    told: &mut WholeType,
+    offsets: &mut [usize],
+) -> u32
+    ensures { TellsOffsets nodes.now offsets.old result told.new offsets.new }
+{
+    ffi3_capi::offsets_nodes(alloc, nodes, told, offsets)
+}
+
+/// Whether the type that the nodes are has this size, this alignment and members that start there.
+#[unsafe(no_mangle)]
+pub extern "C" fn ffi3_check_layout(
+    alloc: Global,
+    nodes: &[Node],
+    size: usize,
+    align: usize,
+    offsets: &[usize],
+    fault: &mut TextFault,
+) -> u32
+    ensures { ChecksLayout nodes.now size align offsets.now result fault.new }
+{
+    ffi3_capi::check_layout(alloc, nodes, size, align, offsets, fault)
 }
 
 /// The arguments of the function that the text declares, as registers and stack have them where it begins.
@@ -54,9 +121,17 @@ pub extern "C" fn ffi3_arguments(
     found: &mut EntryArguments,
     values: &mut [u8],
 ) -> u32
-    ensures { Reads target text.now (image_in registers.now stack.now) values.old result found.new values.new }
+    ensures { Reads (Declares text.now) (IsFaultOf text.now) target (image_in registers.now stack.now) values.old result found.new values.new }
 {
-    ffi3_capi::arguments(alloc, target, text, registers, stack, found, values)
+    ffi3_capi::arguments(
+        alloc,
+        target,
+        Declaration::Text(text),
+        registers,
+        stack,
+        found,
+        values,
+    )
 }
 
 /// The words of a fault.
@@ -79,7 +154,7 @@ pub extern "C" fn ffi3_register_name(target: u32, place: u32, number: u32, name:
 /// The library's version: of 1.2.3, 10203.
 #[unsafe(no_mangle)]
 pub extern "C" fn ffi3_version() -> u32
-    ensures { result ≡ 100 }
+    ensures { result ≡ 200 }
 {
-    100
+    200
 }

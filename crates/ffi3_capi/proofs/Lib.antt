@@ -3,3 +3,6 @@ pub mod Within
 pub mod Filling
 pub mod Answering
 pub mod Values
+pub mod ByNodes
+pub mod Offsets
+pub mod Differing

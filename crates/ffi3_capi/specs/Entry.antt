@@ -1,4 +1,4 @@
--- What C is told of the arguments that registers and stack have where a function begins.
+-- What C is told of the arguments that registers and stack have where a function begins. What declares it declares a signature, or has a fault.
 use Rattle.std.specs.Prelude.{◌≡◌, ℕ, ◌-◌, ◌<◌, ◌≤◌, List, [], ◌∷◌, ◌++◌, length, replicate, Some, slice_get}
 use Rattle.ffi3_type_rules.specs.declared.Target.{Target}
 use Rattle.ffi3_type_rules.specs.Tree.{Tree}
@@ -17,7 +17,7 @@ use Rattle.ffi3_capi.specs.declared.entry.Unread.TheVariants.{Call, ShortStack, 
 use Rattle.ffi3_capi.specs.declared.fault.TextFault.{TextFault}
 use Rattle.ffi3_capi.specs.declared.fault.FaultKind.TheVariants.{NoFault}
 use Rattle.ffi3_capi.specs.declared.status.Refusal.TheVariants.{NoSuchTarget, NoSuchValue, Fault, NoMemory}
-use Rattle.ffi3_capi.specs.Faults.{Declares, fault_with}
+use Rattle.ffi3_capi.specs.Faults.{fault_with}
 use Rattle.ffi3_capi.specs.Filled.{has_room, filled, room_status}
 use Rattle.ffi3_explain_rules.specs.Standards.{standard_of}
 use Rattle.ffi3_capi.specs.Placed.{targets, IsPlaceRefusal}
@@ -85,31 +85,31 @@ AreNotReadBy std s m (Call (Fault f)) = ⊥
 AreNotReadBy std s m (ShortStack count stack) = IsTooShort std s m count stack
 AreNotReadBy std s m (NotInStack count stack argument address) = PointsPast std s m count stack argument address
 
--- the function that the text declares, and the standard with this number
-pub record IsCall (target : ℕ) (text : List ℕ) (to : Target) (s : Signature) : Type 0 where
+-- the function that is declared, and the standard with this number
+pub record IsCall (declares : Signature → Type 0) (target : ℕ) (to : Target) (s : Signature) : Type 0 where
   pub to_is : slice_get targets target ≡ Some to
-  pub declared : Declares text s
+  pub declared : declares s
 
--- THE ARGUMENTS, by the standard with this number, of the function that the text declares
-pub record AreFound (target : ℕ) (text : List ℕ) (m : Image) (f : Found) : Type 0 where
+-- THE ARGUMENTS, by the standard with this number, of the function that is declared
+pub record AreFound (declares : Signature → Type 0) (target : ℕ) (m : Image) (f : Found) : Type 0 where
   pub to : Target
   pub signature : Signature
-  pub call : IsCall target text to signature
+  pub call : IsCall declares target to signature
   pub found : AreFoundBy (standard_of to) signature m f
 
 -- OR WHY THERE ARE NONE
-pub record AreNotThere (target : ℕ) (text : List ℕ) (m : Image) (u : Unread) : Type 0 where
+pub record AreNotThere (declares : Signature → Type 0) (target : ℕ) (m : Image) (u : Unread) : Type 0 where
   pub to : Target
   pub signature : Signature
-  pub call : IsCall target text to signature
+  pub call : IsCall declares target to signature
   pub unread : AreNotReadBy (standard_of to) signature m u
 
-abbrev pub AreNotRead : ℕ → List ℕ → Image → Unread → Type 0
-AreNotRead target text m (Call r) = IsPlaceRefusal target text r
-AreNotRead target text m (ShortStack count stack) =
-    AreNotThere target text m (ShortStack count stack)
-AreNotRead target text m (NotInStack count stack argument address) =
-    AreNotThere target text m (NotInStack count stack argument address)
+abbrev pub AreNotRead : (Signature → Type 0) → (TextFault → Type 0) → ℕ → Image → Unread → Type 0
+AreNotRead declares is_fault target m (Call r) = IsPlaceRefusal is_fault target r
+AreNotRead declares is_fault target m (ShortStack count stack) =
+    AreNotThere declares target m (ShortStack count stack)
+AreNotRead declares is_fault target m (NotInStack count stack argument address) =
+    AreNotThere declares target m (NotInStack count stack argument address)
 
 abbrev pub unread_status : Unread → ℕ
 unread_status (Call r) = status_of r
@@ -130,7 +130,9 @@ no_arguments (NotInStack count stack argument address) = record {
 }
 
 -- WHAT ffi3_arguments ANSWERS, and what it writes into the caller's struct and array
-pub data Reads (target : ℕ) (text : List ℕ) (m : Image) (old : List ℕ) : ℕ → EntryArguments → List ℕ → Type 0 where
-  read : (f : Found) → AreFound target text m f
-      → Reads target text m old (room_status (has_room f.bytes old)) f.told (filled f.bytes old)
-  unread : (u : Unread) → AreNotRead target text m u → Reads target text m old (unread_status u) (no_arguments u) old
+pub data Reads (declares : Signature → Type 0) (is_fault : TextFault → Type 0) (target : ℕ) (m : Image) (old : List ℕ)
+    : ℕ → EntryArguments → List ℕ → Type 0 where
+  read : (f : Found) → AreFound declares target m f
+      → Reads declares is_fault target m old (room_status (has_room f.bytes old)) f.told (filled f.bytes old)
+  unread : (u : Unread) → AreNotRead declares is_fault target m u
+      → Reads declares is_fault target m old (unread_status u) (no_arguments u) old

@@ -1,4 +1,4 @@
--- Why a text declares no function that can be called, as C sees it.
+-- Why a text, or nodes, declare no function that can be called, as C sees it.
 use Rattle.std.specs.Prelude.{◌≡◌, ℕ, List, [], ◌∷◌, Option, Some, None, IsUtf8}
 use Rattle.ffi3_type_rules.specs.Tree.{Tree, void, scalar, left_out, structure, array, long_double, complex, vector}
 use Rattle.ffi3_type_rules.specs.Fault.{Fault, bad_typedef, left_out_type, too_large, too_deep}
@@ -11,13 +11,16 @@ use Rattle.ffi3_capi.specs.declared.fault.FaultKind.{FaultKind}
 use Rattle.ffi3_capi.specs.declared.fault.FaultKind.TheVariants.{NoFault, NotUtf8, BadToken, Unexpected, BadNumber}
 use Rattle.ffi3_capi.specs.declared.fault.FaultKind.TheVariants.{BadTypedef, LeftOutLongDouble, LeftOutComplex}
 use Rattle.ffi3_capi.specs.declared.fault.FaultKind.TheVariants.{LeftOutVector, TooLarge, TooDeep, TooMany, BadFixed}
-use Rattle.ffi3_capi.specs.declared.fault.FaultKind.TheVariants.{BadVariadic}
+use Rattle.ffi3_capi.specs.declared.fault.FaultKind.TheVariants.{BadVariadic, NodesEnded, UnknownKind, BadCount}
+use Rattle.ffi3_capi.specs.declared.fault.FaultKind.TheVariants.{NodesTooDeep, TooManyNodes, NotOneType}
+use Rattle.ffi3_capi.specs.declared.fault.FaultKind.TheVariants.{LaidOutOtherwise}
 
 -- by number, from 0
 abbrev pub kinds : List FaultKind
 kinds =
     NoFault ∷ NotUtf8 ∷ BadToken ∷ Unexpected ∷ BadNumber ∷ BadTypedef ∷ LeftOutLongDouble ∷ LeftOutComplex
-    ∷ LeftOutVector ∷ TooLarge ∷ TooDeep ∷ TooMany ∷ BadFixed ∷ BadVariadic ∷ []
+    ∷ LeftOutVector ∷ TooLarge ∷ TooDeep ∷ TooMany ∷ BadFixed ∷ BadVariadic ∷ NodesEnded ∷ UnknownKind ∷ BadCount
+    ∷ NodesTooDeep ∷ TooManyNodes ∷ NotOneType ∷ LaidOutOtherwise ∷ []
 
 abbrev pub kind_number : FaultKind → ℕ
 kind_number NoFault = 0
@@ -34,6 +37,13 @@ kind_number TooDeep = 10
 kind_number TooMany = 11
 kind_number BadFixed = 12
 kind_number BadVariadic = 13
+kind_number NodesEnded = 14
+kind_number UnknownKind = 15
+kind_number BadCount = 16
+kind_number NodesTooDeep = 17
+kind_number TooManyNodes = 18
+kind_number NotOneType = 19
+kind_number LaidOutOtherwise = 20
 
 -- nothing more is told of it
 abbrev pub fault_with : FaultKind → TextFault

@@ -1,4 +1,4 @@
--- What `ffi3_layout` answers, and what it writes.
+-- What `ffi3_layout` answers, and what it writes. What it is given declares a signature, or has a fault.
 use Rattle.std.specs.Prelude.{◌≡◌, ℕ, cond, ◌==◌, List, map, length, Option, Some, None, slice_get}
 use Rattle.ffi3_type_rules.specs.Tree.{Tree, scalar_number}
 use Rattle.ffi3_type_rules.specs.Layout.{Leaf, size_of, align_of, leaves_of, scalar_size}
@@ -11,7 +11,7 @@ use Rattle.ffi3_capi.specs.declared.layouts.LaidType.{LaidType}
 use Rattle.ffi3_capi.specs.declared.layouts.Laid.{Laid}
 use Rattle.ffi3_capi.specs.declared.status.Refusal.{Refusal}
 use Rattle.ffi3_capi.specs.declared.status.Refusal.TheVariants.{NoSuchTarget, NoSuchValue, Fault, NoMemory}
-use Rattle.ffi3_capi.specs.Faults.{Declares, IsFaultOf, fault_with}
+use Rattle.ffi3_capi.specs.Faults.{fault_with}
 use Rattle.ffi3_capi.specs.Filled.{has_room, filled, room_status}
 use Rattle.ffi3_capi.specs.Refused.{status_of, fault_in, count_in}
 
@@ -45,31 +45,32 @@ no_type count fault =
 abbrev pub laid_of : ℕ → Tree → Laid
 laid_of count t = record { layout = laid_type count t; leaves = laid_leaves t }
 
--- THE LAYOUT of the type of a value of the function that the text declares
-pub record IsLaid (text : List ℕ) (value : ℕ) (l : Laid) : Type 0 where
+-- THE LAYOUT of the type of a value of the function that is declared
+pub record IsLaid (declares : Signature → Type 0) (value : ℕ) (l : Laid) : Type 0 where
   pub signature : Signature
-  pub declared : Declares text signature
+  pub declared : declares signature
   pub laid : Tree
   pub laid_is : type_of signature value ≡ Some laid
   pub is : l ≡ laid_of (length signature.arguments) laid
 
--- the function that the text declares has so many arguments, and none by this number
-pub record HasNoValue (text : List ℕ) (value count : ℕ) : Type 0 where
+-- the function that is declared has so many arguments, and none by this number
+pub record HasNoValue (declares : Signature → Type 0) (value count : ℕ) : Type 0 where
   pub signature : Signature
-  pub declared : Declares text signature
+  pub declared : declares signature
   pub none : type_of signature value ≡ None
   pub counted : count ≡ length signature.arguments
 
 -- OR WHY THERE IS NONE. Memory alone is free.
-abbrev pub IsLayoutRefusal : List ℕ → ℕ → Refusal → Type 0
-IsLayoutRefusal text value NoSuchTarget = ⊥
-IsLayoutRefusal text value (NoSuchValue count) = HasNoValue text value count
-IsLayoutRefusal text value (Fault f) = IsFaultOf text f
-IsLayoutRefusal text value NoMemory = Unit {0}
+abbrev pub IsLayoutRefusal : (Signature → Type 0) → (TextFault → Type 0) → ℕ → Refusal → Type 0
+IsLayoutRefusal declares is_fault value NoSuchTarget = ⊥
+IsLayoutRefusal declares is_fault value (NoSuchValue count) = HasNoValue declares value count
+IsLayoutRefusal declares is_fault value (Fault f) = is_fault f
+IsLayoutRefusal declares is_fault value NoMemory = Unit {0}
 
 -- WHAT ffi3_layout ANSWERS, and what it writes into the caller's struct and array
-pub data LaysOut (text : List ℕ) (value : ℕ) (old : List LaidLeaf) : ℕ → LaidType → List LaidLeaf → Type 0 where
-  laid_out : (l : Laid) → IsLaid text value l
-      → LaysOut text value old (room_status (has_room l.leaves old)) l.layout (filled l.leaves old)
-  refused : (r : Refusal) → IsLayoutRefusal text value r
-      → LaysOut text value old (status_of r) (no_type (count_in r) (fault_in r)) old
+pub data LaysOut (declares : Signature → Type 0) (is_fault : TextFault → Type 0) (value : ℕ) (old : List LaidLeaf)
+    : ℕ → LaidType → List LaidLeaf → Type 0 where
+  laid_out : (l : Laid) → IsLaid declares value l
+      → LaysOut declares is_fault value old (room_status (has_room l.leaves old)) l.layout (filled l.leaves old)
+  refused : (r : Refusal) → IsLayoutRefusal declares is_fault value r
+      → LaysOut declares is_fault value old (status_of r) (no_type (count_in r) (fault_in r)) old

@@ -1,4 +1,6 @@
 pub mod Faults
+pub mod ByNodes
+pub mod DeclaredBy
 pub mod Told
 pub mod FaultText
 pub mod Filled
@@ -6,6 +8,8 @@ pub mod Within
 pub mod Pieces
 pub mod Placed
 pub mod Laid
+pub mod WholeType
+pub mod NaturalLayout
 pub mod Registers
 pub mod Refused
 pub mod Entry

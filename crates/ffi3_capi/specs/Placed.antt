@@ -1,4 +1,4 @@
--- What `ffi3_place` answers, and what it writes.
+-- What `ffi3_place` and `ffi3_place_nodes` answer, and what they write. What they are given declares a signature, or has a fault.
 use Rattle.std.specs.Prelude.{◌≡◌, ℕ, List, [], ◌∷◌, ◌++◌, length, Some, None, IsSome, slice_get}
 use Rattle.ffi3_type_rules.specs.declared.Target.{Target}
 use Rattle.ffi3_type_rules.specs.declared.Target.TheVariants.{Amd64, Aapcs64, Riscv, Win64}
@@ -12,7 +12,7 @@ use Rattle.ffi3_capi.specs.declared.placing.Placement.{Placement}
 use Rattle.ffi3_capi.specs.declared.status.Refusal.{Refusal}
 use Rattle.ffi3_capi.specs.declared.status.Refusal.TheVariants.{NoSuchTarget, NoSuchValue, Fault, NoMemory}
 use Rattle.ffi3_capi.specs.declared.fault.FaultKind.TheVariants.{NoFault}
-use Rattle.ffi3_capi.specs.Faults.{Declares, IsFaultOf, fault_with}
+use Rattle.ffi3_capi.specs.Faults.{fault_with}
 use Rattle.ffi3_capi.specs.Filled.{has_room, filled, room_status}
 use Rattle.ffi3_capi.specs.Pieces.{passed_of, returned_of}
 use Rattle.ffi3_capi.specs.Refused.{status_of, fault_in}
@@ -53,24 +53,25 @@ no_call fault = record {
 abbrev pub placement_of : Standard → Signature → Placement
 placement_of std s = record { call = call_of std s; pieces = pieces_of std s }
 
--- THE PLACES of a call, by the standard with this number, of the function that the text declares
-pub record IsPlacement (target : ℕ) (text : List ℕ) (p : Placement) : Type 0 where
+-- THE PLACES of a call, by the standard with this number, of the function that is declared
+pub record IsPlacement (declares : Signature → Type 0) (target : ℕ) (p : Placement) : Type 0 where
   pub to : Target
   pub to_is : slice_get targets target ≡ Some to
   pub signature : Signature
-  pub declared : Declares text signature
+  pub declared : declares signature
   pub is : p ≡ placement_of (standard_of to) signature
 
--- OR WHY THERE ARE NONE: no standard has the number, or the text declares no function. Memory alone is free.
-abbrev pub IsPlaceRefusal : ℕ → List ℕ → Refusal → Type 0
-IsPlaceRefusal target text NoSuchTarget = slice_get targets target ≡ None
-IsPlaceRefusal target text (NoSuchValue count) = ⊥
-IsPlaceRefusal target text (Fault f) = IsSome (slice_get targets target) × IsFaultOf text f
-IsPlaceRefusal target text NoMemory = Unit {0}
+-- OR WHY THERE ARE NONE: no standard has the number, or no function is declared. Memory alone is free.
+abbrev pub IsPlaceRefusal : (TextFault → Type 0) → ℕ → Refusal → Type 0
+IsPlaceRefusal is_fault target NoSuchTarget = slice_get targets target ≡ None
+IsPlaceRefusal is_fault target (NoSuchValue count) = ⊥
+IsPlaceRefusal is_fault target (Fault f) = IsSome (slice_get targets target) × is_fault f
+IsPlaceRefusal is_fault target NoMemory = Unit {0}
 
 -- WHAT ffi3_place ANSWERS, and what it writes into the caller's struct and array
-pub data Places (target : ℕ) (text : List ℕ) (old : List PlacedPiece) : ℕ → PlacedCall → List PlacedPiece → Type 0 where
-  placed : (p : Placement) → IsPlacement target text p
-      → Places target text old (room_status (has_room p.pieces old)) p.call (filled p.pieces old)
-  refused : (r : Refusal) → IsPlaceRefusal target text r
-      → Places target text old (status_of r) (no_call (fault_in r)) old
+pub data Places (declares : Signature → Type 0) (is_fault : TextFault → Type 0) (target : ℕ) (old : List PlacedPiece)
+    : ℕ → PlacedCall → List PlacedPiece → Type 0 where
+  placed : (p : Placement) → IsPlacement declares target p
+      → Places declares is_fault target old (room_status (has_room p.pieces old)) p.call (filled p.pieces old)
+  refused : (r : Refusal) → IsPlaceRefusal is_fault target r
+      → Places declares is_fault target old (status_of r) (no_call (fault_in r)) old

@@ -4,7 +4,7 @@
 pub const DONE: u32 = 0;
 /// `FFI3_TOO_SMALL`: the array has no room; the counts tell how much is wanted.
 pub const TOO_SMALL: u32 = 1;
-/// `FFI3_NOT_DECLARED`: the text declares no function that can be called; the fault tells why.
+/// `FFI3_NOT_DECLARED`: the text or the nodes declare no function that can be called; the fault tells why.
 pub const NOT_DECLARED: u32 = 2;
 /// `FFI3_UNKNOWN_TARGET`: no calling standard has this number.
 pub const UNKNOWN_TARGET: u32 = 3;
@@ -21,6 +21,9 @@ pub const NOT_IN_STACK: u32 = 7;
 pub const RESULT_PART: u32 = 0xFFFF_FFFF;
 /// `FFI3_HIDDEN`: the address of the result's buffer, which is passed beside the arguments (sret).
 pub const HIDDEN_PART: u32 = 0xFFFF_FFFE;
+
+/// `FFI3_NOT_VARIADIC`: the function is not variadic, in place of how many arguments are fixed.
+pub const NOT_VARIADIC: u32 = 0xFFFF_FFFF;
 
 /// `FFI3_BYTES`: bytes of the value.
 pub const HOLDS_BYTES: u32 = 0;

@@ -2,14 +2,15 @@
 ghost use Rattle.std.specs.Prelude.{◌≡◌, IfOk, IfErr};
 ghost use Rattle.ffi3_type_rules.specs.Signature.{SignatureHasNoFault};
 ghost use Rattle.ffi3_explain_rules.specs.Standards.{standard_of};
+ghost use Rattle.ffi3_capi.specs.DeclaredBy.{IsDeclaredBy, IsFaultBy};
 ghost use Rattle.ffi3_capi.specs.Entry.{AreFoundBy, AreNotReadBy, AreFound, AreNotRead, Reads, arguments_of, image_in, no_arguments, unread_status};
 
 use crate::bytes::bytes_of;
 use crate::codes::{NOT_IN_STACK, SHORT_STACK};
+use crate::declaration::{Declaration, declared};
 use crate::fault::{FaultKind, TextFault, fault_with};
 use crate::fill::{fill_bytes, room_status};
 use crate::placing::target_numbered;
-use crate::reading::declared;
 use crate::status::Refusal;
 use ffi3_aapcs64::Aapcs64;
 use ffi3_amd64::Amd64;
@@ -202,23 +203,23 @@ fn read_on(
     }
 }
 
-/// The arguments of the function that the text declares, as registers and stack have them where it begins, by the
+/// The arguments of the function that is declared, as registers and stack have them where it begins, by the
 /// calling standard with this number alone: what that leaves free is not judged, and an address is followed to wherever
 /// it points in the stack's bytes, which begin at the stack pointer.
 pub fn find_arguments(
     alloc: Global,
     target: u32,
-    text: &[u8],
+    declaration: Declaration<'_>,
     registers: &Registers,
     stack: &[u8],
 ) -> Result<Found, Unread>
-    ensures found { IfOk result (λ f. AreFound target text.now (image_in registers.now stack.now) f) }
-    ensures unread { IfErr result (λ u. AreNotRead target text.now (image_in registers.now stack.now) u) }
+    ensures found { IfOk result (λ f. AreFound (IsDeclaredBy declaration.entry) target (image_in registers.now stack.now) f) }
+    ensures unread { IfErr result (λ u. AreNotRead (IsDeclaredBy declaration.entry) (IsFaultBy declaration.entry) target (image_in registers.now stack.now) u) }
 {
     let Some(to) = target_numbered(target) else {
         return Err(Unread::Call(Refusal::NoSuchTarget));
     };
-    let sig = match declared(alloc, text) {
+    let sig = match declared(alloc, declaration) {
         Ok(sig) => sig,
         Err(Some(fault)) => return Err(Unread::Call(Refusal::Fault(fault))),
         Err(None) => return Err(Unread::Call(Refusal::NoMemory)),
@@ -234,15 +235,15 @@ pub fn find_arguments(
 pub fn arguments(
     alloc: Global,
     target: u32,
-    text: &[u8],
+    declaration: Declaration<'_>,
     registers: &Registers,
     stack: &[u8],
     told: &mut EntryArguments,
     values: &mut [u8],
 ) -> u32
-    ensures { Reads target text.now (image_in registers.now stack.now) values.old result told.new values.new }
+    ensures { Reads (IsDeclaredBy declaration.entry) (IsFaultBy declaration.entry) target (image_in registers.now stack.now) values.old result told.new values.new }
 {
-    match find_arguments(alloc, target, text, registers, stack) {
+    match find_arguments(alloc, target, declaration, registers, stack) {
         Ok(found) => {
             *told = found.told;
             room_status(fill_bytes(found.bytes.as_slice(), values))

@@ -1,4 +1,4 @@
-// Why a text declares no function that can be called.
+// Why a text, or nodes, declare no function that can be called.
 ghost use Rattle.std.specs.Prelude.{◌≡◌, slice_get};
 ghost use Rattle.ffi3_types.specs.TreeOf.{tree_of};
 ghost use Rattle.ffi3_types.specs.FaultOf.{fault_of};
@@ -10,7 +10,7 @@ use crate::codes::RESULT_PART;
 use ffi3_cdecl::DeclFault;
 use ffi3_types::{At, FfiType, SigFault, TypeFault};
 
-/// What is wrong with a text, or with the signature that it declares.
+/// What is wrong with a text or with nodes, or with the signature that they declare.
 #[derive(Clone, Copy)]
 pub enum FaultKind {
     NoFault,
@@ -36,9 +36,23 @@ pub enum FaultKind {
     /// Of `number` arguments so many are fixed as `argument` says.
     BadFixed,
     BadVariadic,
+    /// Behind `offset` nodes another is wanted.
+    NodesEnded,
+    /// Behind `offset` nodes stands one whose kind has no such number.
+    UnknownKind,
+    /// Behind `offset` nodes stands one of a kind that has no count, and its count is not 0.
+    BadCount,
+    /// Behind `offset` nodes a struct or an array begins inside 16 of them.
+    NodesTooDeep,
+    /// There are `number` nodes.
+    TooManyNodes,
+    /// The nodes are those of `number` types in place of one.
+    NotOneType,
+    /// Member `number` starts elsewhere; or, where so many members there are, the size or the alignment is another.
+    LaidOutOtherwise,
 }
 
-const KINDS: [FaultKind; 14] = [
+const KINDS: [FaultKind; 21] = [
     FaultKind::NoFault,
     FaultKind::NotUtf8,
     FaultKind::BadToken,
@@ -53,7 +67,21 @@ const KINDS: [FaultKind; 14] = [
     FaultKind::TooMany,
     FaultKind::BadFixed,
     FaultKind::BadVariadic,
+    FaultKind::NodesEnded,
+    FaultKind::UnknownKind,
+    FaultKind::BadCount,
+    FaultKind::NodesTooDeep,
+    FaultKind::TooManyNodes,
+    FaultKind::NotOneType,
+    FaultKind::LaidOutOtherwise,
 ];
+
+/// Kind `n` of a table.
+fn kind_in(kinds: &[FaultKind], n: u32) -> Option<FaultKind>
+    ensures { result ≡ slice_get kinds.now n }
+{
+    kinds.get(n as usize).copied()
+}
 
 impl FaultKind {
     /// The kind's number.
@@ -75,6 +103,13 @@ impl FaultKind {
             FaultKind::TooMany => 11,
             FaultKind::BadFixed => 12,
             FaultKind::BadVariadic => 13,
+            FaultKind::NodesEnded => 14,
+            FaultKind::UnknownKind => 15,
+            FaultKind::BadCount => 16,
+            FaultKind::NodesTooDeep => 17,
+            FaultKind::TooManyNodes => 18,
+            FaultKind::NotOneType => 19,
+            FaultKind::LaidOutOtherwise => 20,
         }
     }
 
@@ -82,11 +117,11 @@ impl FaultKind {
     pub fn numbered(n: u32) -> Option<FaultKind>
         ensures { result ≡ slice_get kinds n }
     {
-        KINDS.get(n as usize).copied()
+        kind_in(&KINDS, n)
     }
 }
 
-/// Why a text declares no function that can be called: C's `struct ffi3_fault`.
+/// Why a text, or nodes, declare no function that can be called: C's `struct ffi3_fault`.
 #[repr(C)]
 #[derive(Clone, Copy)]
 pub struct TextFault {
@@ -94,7 +129,7 @@ pub struct TextFault {
     pub kind: u32,
     /// Whose type has the fault: an argument, or the result.
     pub argument: u32,
-    /// Where in the text, in bytes.
+    /// Where in the text, in bytes; or behind how many nodes.
     pub offset: usize,
     /// How large, or how many.
     pub number: usize,
@@ -113,7 +148,7 @@ pub(crate) fn fault_with(kind: FaultKind) -> TextFault
 }
 
 /// A fault at an offset.
-fn fault_at(kind: FaultKind, at: u64) -> TextFault
+pub(crate) fn fault_at(kind: FaultKind, at: u64) -> TextFault
     ensures { result ≡ fault_at kind at }
 {
     TextFault {
@@ -149,7 +184,7 @@ fn left_out_kind(kind: &FfiType) -> FaultKind
 }
 
 /// A fault that speaks of a value, and of a number.
-fn fault_of_value(value: u32, kind: FaultKind, number: usize) -> TextFault
+pub(crate) fn fault_of_value(value: u32, kind: FaultKind, number: usize) -> TextFault
     ensures { result ≡ fault_of_value value kind number }
 {
     TextFault {
@@ -161,7 +196,7 @@ fn fault_of_value(value: u32, kind: FaultKind, number: usize) -> TextFault
 }
 
 /// The fault of the type of a value.
-fn type_fault(value: u32, fault: &TypeFault) -> TextFault
+pub(crate) fn type_fault(value: u32, fault: &TypeFault) -> TextFault
     ensures { result ≡ type_fault value (fault_of fault.now) }
 {
     match fault {
@@ -175,7 +210,7 @@ fn type_fault(value: u32, fault: &TypeFault) -> TextFault
 }
 
 /// The fault of a signature.
-fn signature_fault(fault: &SigFault) -> TextFault
+pub(crate) fn signature_fault(fault: &SigFault) -> TextFault
     ensures { result ≡ signature_fault (signature_fault_of fault.now) }
 {
     match fault {

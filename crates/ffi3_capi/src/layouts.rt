@@ -1,14 +1,15 @@
-// The layout of the types of the function that a text declares.
+// The layout of the types of the function that is declared.
 ghost use Rattle.std.specs.Prelude.{◌≡◌, IfOk, IfErr};
 ghost use Rattle.ffi3_type_rules.specs.Tree.{Scalar, scalar, scalar_number};
 ghost use Rattle.ffi3_type_rules.specs.Layout.{scalar_size};
 ghost use Rattle.ffi3_types.specs.TreeOf.{tree_of};
+ghost use Rattle.ffi3_capi.specs.DeclaredBy.{IsDeclaredBy, IsFaultBy};
 ghost use Rattle.ffi3_capi.specs.Laid.{laid_leaf, laid_leaves, laid_of, no_type, IsLaid, IsLayoutRefusal, LaysOut};
 
 use crate::codes::RESULT_PART;
+use crate::declaration::{Declaration, declared};
 use crate::fault::{FaultKind, TextFault, fault_with};
 use crate::fill::{fill, room_status};
-use crate::reading::declared;
 use crate::status::Refusal;
 use ffi3_place_rules::Listed;
 use ffi3_types::{CheckedSig, CheckedType, FfiType, Leaf, NoMemory};
@@ -109,7 +110,7 @@ fn laid_leaf(leaf: &Leaf) -> LaidLeaf
 }
 
 /// The leaves of a type.
-fn laid_leaves(alloc: Global, ty: &CheckedType<'_>) -> Result<Listed<LaidLeaf>, NoMemory>
+pub(crate) fn laid_leaves(alloc: Global, ty: &CheckedType<'_>) -> Result<Listed<LaidLeaf>, NoMemory>
     ensures { IfOk result (λ ls. ls ≡ laid_leaves ty.now) }
 {
     let mut laid = Listed::new(alloc);
@@ -138,12 +139,12 @@ fn laid_type(alloc: Global, count: usize, ty: &CheckedType<'_>) -> Result<Laid, 
     Ok(Laid { layout, leaves })
 }
 
-/// The layout of an argument, or of the result, of the function that the text declares.
-pub fn find_layout(alloc: Global, text: &[u8], value: u32) -> Result<Laid, Refusal>
-    ensures ok { IfOk result (λ l. IsLaid text.now value l) }
-    ensures err { IfErr result (λ r. IsLayoutRefusal text.now value r) }
+/// The layout of an argument, or of the result, of the function that is declared.
+pub fn find_layout(alloc: Global, declaration: Declaration<'_>, value: u32) -> Result<Laid, Refusal>
+    ensures ok { IfOk result (λ l. IsLaid (IsDeclaredBy declaration.entry) value l) }
+    ensures err { IfErr result (λ r. IsLayoutRefusal (IsDeclaredBy declaration.entry) (IsFaultBy declaration.entry) value r) }
 {
-    let sig = match declared(alloc, text) {
+    let sig = match declared(alloc, declaration) {
         Ok(sig) => sig,
         Err(Some(fault)) => return Err(Refusal::Fault(fault)),
         Err(None) => return Err(Refusal::NoMemory),
@@ -162,14 +163,14 @@ pub fn find_layout(alloc: Global, text: &[u8], value: u32) -> Result<Laid, Refus
 /// The same for a caller's struct and array. The number tells whether the leaves had room, or why there are none.
 pub fn layout(
     alloc: Global,
-    text: &[u8],
+    declaration: Declaration<'_>,
     value: u32,
     layout: &mut LaidType,
     leaves: &mut [LaidLeaf],
 ) -> u32
-    ensures { LaysOut text.now value leaves.old result layout.new leaves.new }
+    ensures { LaysOut (IsDeclaredBy declaration.entry) (IsFaultBy declaration.entry) value leaves.old result layout.new leaves.new }
 {
-    match find_layout(alloc, text, value) {
+    match find_layout(alloc, declaration, value) {
         Ok(found) => {
             *layout = found.layout;
             room_status(fill(&found.leaves, leaves))

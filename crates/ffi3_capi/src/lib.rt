@@ -1,25 +1,33 @@
-//! What the C library answers of a function that a C declaration declares: where its arguments and its result stand in
-//! a call, how their types are laid out, and which arguments registers and stack have where the function begins.
+//! What the C library answers of a function that a C declaration or nodes declare: where its arguments and its result
+//! stand in a call, how their types are laid out, and which arguments registers and stack have where the function begins.
 #![tactic(auto)]
 
 mod bytes;
 pub mod codes;
+mod declaration;
 mod entry;
 mod fault;
 mod fill;
 mod layouts;
+mod natural;
+mod nodes;
 mod pieces;
 mod placing;
 mod reading;
 mod registers;
 mod status;
 mod text;
+mod whole;
 
+pub use declaration::Declaration;
 pub use entry::{EntryArguments, Found, Registers, Unread, arguments, find_arguments};
 pub use fault::{FaultKind, TextFault};
+pub use ffi3_nodes::Node;
 pub use layouts::{Laid, LaidLeaf, LaidType, find_layout, layout};
+pub use natural::check_layout;
 pub use pieces::{PlacedPiece, PlacedPieces};
 pub use placing::{PlacedCall, Placement, find_placement, place};
 pub use registers::register_name;
 pub use status::Refusal;
 pub use text::fault_text;
+pub use whole::{WholeType, layout_nodes, offsets_nodes};

@@ -1,12 +1,13 @@
-// A call of the function that a text declares.
+// A call of the function that is declared.
 ghost use Rattle.std.specs.Prelude.{◌≡◌, IfOk, IfErr, slice_get};
 ghost use Rattle.ffi3_explain_rules.specs.Standards.{standard_of};
+ghost use Rattle.ffi3_capi.specs.DeclaredBy.{IsDeclaredBy, IsFaultBy};
 ghost use Rattle.ffi3_capi.specs.Placed.{targets, no_call, placement_of, IsPlacement, IsPlaceRefusal, Places};
 
+use crate::declaration::{Declaration, declared};
 use crate::fault::{FaultKind, TextFault, fault_with};
 use crate::fill::{fill, room_status};
 use crate::pieces::{PlacedPiece, PlacedPieces, put_arguments, put_hidden, put_returned};
-use crate::reading::declared;
 use crate::status::Refusal;
 use ffi3_aapcs64::Aapcs64;
 use ffi3_amd64::Amd64;
@@ -104,15 +105,19 @@ fn placed_on(alloc: Global, target: Target, sig: &CheckedSig<'_>) -> Result<Plac
     }
 }
 
-/// Where everything stands in a call of the function that the text declares, by the calling standard with this number.
-pub fn find_placement(alloc: Global, target: u32, text: &[u8]) -> Result<Placement, Refusal>
-    ensures ok { IfOk result (λ p. IsPlacement target text.now p) }
-    ensures err { IfErr result (λ r. IsPlaceRefusal target text.now r) }
+/// Where everything stands in a call of the function that is declared, by the calling standard with this number.
+pub fn find_placement(
+    alloc: Global,
+    target: u32,
+    declaration: Declaration<'_>,
+) -> Result<Placement, Refusal>
+    ensures ok { IfOk result (λ p. IsPlacement (IsDeclaredBy declaration.entry) target p) }
+    ensures err { IfErr result (λ r. IsPlaceRefusal (IsFaultBy declaration.entry) target r) }
 {
     let Some(to) = target_numbered(target) else {
         return Err(Refusal::NoSuchTarget);
     };
-    let sig = match declared(alloc, text) {
+    let sig = match declared(alloc, declaration) {
         Ok(sig) => sig,
         Err(Some(fault)) => return Err(Refusal::Fault(fault)),
         Err(None) => return Err(Refusal::NoMemory),
@@ -127,13 +132,13 @@ pub fn find_placement(alloc: Global, target: u32, text: &[u8]) -> Result<Placeme
 pub fn place(
     alloc: Global,
     target: u32,
-    text: &[u8],
+    declaration: Declaration<'_>,
     call: &mut PlacedCall,
     pieces: &mut [PlacedPiece],
 ) -> u32
-    ensures { Places target text.now pieces.old result call.new pieces.new }
+    ensures { Places (IsDeclaredBy declaration.entry) (IsFaultBy declaration.entry) target pieces.old result call.new pieces.new }
 {
-    match find_placement(alloc, target, text) {
+    match find_placement(alloc, target, declaration) {
         Ok(found) => {
             *call = found.call;
             room_status(fill(&found.pieces, pieces))

@@ -1,4 +1,4 @@
-// What bytes declare.
+// What a text declares.
 ghost use Rattle.std.specs.Prelude.{◌≡◌, IfOk, IfErr, Some, IsUtf8};
 ghost use Rattle.ffi3_type_rules.specs.Signature.{SignatureHasNoFault};
 ghost use Rattle.ffi3_capi.specs.declared.fault.TextFault.{TextFault};
@@ -22,7 +22,7 @@ fn read(alloc: Global, text: &str) -> Result<Sig, Option<TextFault>>
 }
 
 /// The same of bytes that may be no text.
-pub(crate) fn declared(alloc: Global, bytes: &[u8]) -> Result<Sig, Option<TextFault>>
+pub(crate) fn declared_by_text(alloc: Global, bytes: &[u8]) -> Result<Sig, Option<TextFault>>
     ensures ok { IfOk result (λ s. Declares bytes.now s) }
     ensures faultless { IfOk result (λ s. SignatureHasNoFault s) }
     ensures err { IfErr result (λ e. (f : TextFault) → e ≡ Some f → IsFaultOf bytes.now f) }

@@ -12,7 +12,7 @@ pub enum Refusal {
     NoSuchTarget,
     /// The function has so many arguments, and none by this number.
     NoSuchValue(usize),
-    /// The text declares no function that can be called.
+    /// No function that can be called is declared.
     Fault(TextFault),
     /// An allocation was refused.
     NoMemory,
@@ -31,7 +31,7 @@ impl Refusal {
         }
     }
 
-    /// The fault of the text, if that is why.
+    /// The fault of what declares, if that is why.
     pub fn fault(self) -> TextFault
         ensures { result ≡ fault_in self }
     {

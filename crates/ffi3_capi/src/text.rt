@@ -57,6 +57,48 @@ fn kind_text(alloc: Global, kind: FaultKind, fault: &TextFault) -> Result<Bytes,
             );
         }
         FaultKind::BadVariadic => "bad variadic argument",
+        FaultKind::NodesEnded => {
+            return Bytes::from_slice(
+                alloc,
+                format!(in alloc; "at node {offset}: end")?.as_bytes(),
+            );
+        }
+        FaultKind::UnknownKind => {
+            return Bytes::from_slice(
+                alloc,
+                format!(in alloc; "at node {offset}: unknown kind")?.as_bytes(),
+            );
+        }
+        FaultKind::BadCount => {
+            return Bytes::from_slice(
+                alloc,
+                format!(in alloc; "at node {offset}: bad count")?.as_bytes(),
+            );
+        }
+        FaultKind::NodesTooDeep => {
+            return Bytes::from_slice(
+                alloc,
+                format!(in alloc; "at node {offset}: too deep")?.as_bytes(),
+            );
+        }
+        FaultKind::TooManyNodes => {
+            return Bytes::from_slice(
+                alloc,
+                format!(in alloc; "too many nodes: {number}")?.as_bytes(),
+            );
+        }
+        FaultKind::NotOneType => {
+            return Bytes::from_slice(
+                alloc,
+                format!(in alloc; "not one type: {number}")?.as_bytes(),
+            );
+        }
+        FaultKind::LaidOutOtherwise => {
+            return Bytes::from_slice(
+                alloc,
+                format!(in alloc; "laid out otherwise: member {number}")?.as_bytes(),
+            );
+        }
     };
     Bytes::from_slice(alloc, words.as_bytes())
 }

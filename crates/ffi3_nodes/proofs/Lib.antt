@@ -3,3 +3,4 @@ pub mod Unique
 pub mod Building
 pub mod Opening
 pub mod Taking
+pub mod OneType

@@ -1,6 +1,9 @@
 -- What the reader answers, in the words of the definitions.
 use Rattle.std.specs.Prelude.{◌≡◌, ℕ, ◌^◌, ◌<◌, ◌≤◌, ⊤, List, Option, Some, length}
 use Rattle.ffi3_type_rules.specs.Signature.{Signature, IsFirstSignatureFault}
+use Rattle.ffi3_type_rules.specs.declared.Role.TheVariants.{AsResult}
+use Rattle.ffi3_type_rules.specs.Fault.{IsFirstFault}
+use Rattle.ffi3_types.specs.FaultOf.{path_of, fault_of}
 use Rattle.ffi3_types.specs.SignatureFaultOf.{signature_fault_of}
 use Rattle.ffi3_type_rules.specs.Tree.{Tree}
 use Rattle.ffi3_nodes.specs.declared.Node.{Node}
@@ -8,9 +11,11 @@ use Rattle.ffi3_nodes.specs.declared.TheConstants.{STRUCT, ARRAY}
 use Rattle.ffi3_nodes.specs.declared.scan.NodeFault as code
 use Rattle.ffi3_nodes.specs.declared.scan.NodeFault.TheVariants.{Ended, UnknownKind, BadCount, TooDeep}
 use Rattle.ffi3_nodes.specs.Faults.{NodeFault, ended, unknown_kind, bad_count, too_deep, first_node_fault}
-use Rattle.ffi3_nodes.specs.Nodes.{IsSignatureOf}
+use Rattle.ffi3_nodes.specs.Nodes.{IsWritten, AreWritten, IsSignatureOf}
 use Rattle.ffi3_nodes.specs.declared.signature.Refused.{Refused}
 use Rattle.ffi3_nodes.specs.declared.signature.Refused.TheVariants.{TooLong, Nodes, Sig, NoMemory}
+use Rattle.ffi3_nodes.specs.declared.single.RefusedType.{RefusedType}
+use Rattle.ffi3_nodes.specs.declared.single.RefusedType.TheVariants as of_type
 
 abbrev pub node_fault_of : code.NodeFault → NodeFault
 node_fault_of Ended = ended
@@ -34,6 +39,21 @@ IsOfNone ns (Nodes (BadCount at)) = (fixed : Option ℕ) (s : Signature) → IsS
 IsOfNone ns (Nodes (TooDeep at)) = ⊤
 IsOfNone ns (Sig f) = ⊤
 IsOfNone ns NoMemory = ⊤
+
+-- the nodes of so many types, and not of one
+pub record AreOfOthers (ns : List Node) (count : ℕ) : Type 0 where
+  pub types : List Tree
+  pub written : AreWritten types ns
+  pub counted : count ≡ length types
+  pub others : count ≡ 1 → ⊥
+
+-- WHY NODES ARE NO TYPE THAT HAS A LAYOUT: too many, none of any types, those of several, or of one that has this first fault as a result's. Memory alone is free.
+abbrev pub IsRefusedType : List Node → RefusedType → Type 0
+IsRefusedType ns of_type.TooLong = 2 ^ 32 ≤ length ns
+IsRefusedType ns (of_type.Nodes f) = first_node_fault ns ≡ Some (node_fault_of f)
+IsRefusedType ns (of_type.NotOne count) = AreOfOthers ns count
+IsRefusedType ns (of_type.Fault e) = (t : Tree) × IsWritten t ns × IsFirstFault 0 AsResult t (path_of e) (fault_of e)
+IsRefusedType ns of_type.NoMemory = ⊤
 
 -- a node before these types, in nodes without a fault
 pub record Fits (n : Node) (ts : List Tree) : Type 0 where

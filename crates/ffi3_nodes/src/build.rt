@@ -49,6 +49,13 @@ impl Behind {
         Ok(())
     }
 
+    /// How many they are.
+    pub fn len(&self) -> usize
+        ensures { result ≡ length self.now }
+    {
+        self.types.len()
+    }
+
     /// The first of them.
     pub fn take_first(&mut self) -> Option<FfiType>
         ensures some { IfSome result (λ t. self.old ≡ tree_of t ∷ self.new) }

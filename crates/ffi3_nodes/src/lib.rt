@@ -5,9 +5,11 @@ mod build;
 mod open;
 mod scan;
 mod signature;
+mod single;
 
 pub use scan::NodeFault;
 pub use signature::{Refused, read_signature};
+pub use single::{RefusedType, read_type};
 
 /// A node: C's `struct ffi3_node`.
 #[repr(C)]
@@ -19,21 +21,21 @@ pub struct Node {
     pub count: u32,
 }
 
-/// No value: as a result alone.
+/// `FFI3_VOID`: no value, as a result alone.
 pub const VOID: u32 = 13;
-/// `float _Complex`: as the struct of two that the standards say.
+/// `FFI3_COMPLEX_FLOAT`: `float _Complex`, as the struct of two that the standards say.
 pub const COMPLEX_FLOAT: u32 = 14;
-/// `double _Complex`.
+/// `FFI3_COMPLEX_DOUBLE`: `double _Complex`, so too.
 pub const COMPLEX_DOUBLE: u32 = 15;
-/// `long double`, which is left out.
+/// `FFI3_LONG_DOUBLE`: `long double`, which is left out.
 pub const LONG_DOUBLE: u32 = 16;
-/// `long double _Complex`, which is left out.
+/// `FFI3_COMPLEX_LONG_DOUBLE`: `long double _Complex`, which is left out.
 pub const COMPLEX_LONG_DOUBLE: u32 = 17;
-/// A vector of a machine's instructions, which is left out.
+/// `FFI3_VECTOR`: a vector of a machine's instructions, which is left out.
 pub const VECTOR: u32 = 18;
-/// A struct.
+/// `FFI3_STRUCT`: a struct.
 pub const STRUCT: u32 = 19;
-/// An array, as an element.
+/// `FFI3_ARRAY`: an array, as an element.
 pub const ARRAY: u32 = 20;
 
 /// Structs and arrays stand at most so many deep in one another.

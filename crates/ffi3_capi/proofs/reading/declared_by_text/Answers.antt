@@ -1,5 +1,5 @@
 use Rattle.ffi3_capi.proofs.Declared.{is_no_text}
-use Rattle.ffi3_capi.proofs.reading.declared.Goals as goal
+use Rattle.ffi3_capi.proofs.reading.declared_by_text.Goals as goal
 
 pub returns-in-Err-clause-err : goal.returns-in-Err-clause-err
 returns-in-Err-clause-err c =

@@ -1,0 +1,19 @@
+use Rattle.std.proofs.Common.{sym, subst}
+use Rattle.ffi3_type_rules.specs.declared.Role.TheVariants.{AsResult}
+use Rattle.ffi3_type_rules.proofs.Faults.{right_anywhere}
+use Rattle.ffi3_types.specs.TreeOf.{tree_of}
+use Rattle.ffi3_capi.specs.ByNodes.{AreNodesOfType}
+use Rattle.ffi3_capi.proofs.Differing.{checks_none}
+use Rattle.ffi3_capi.proofs.natural.check_layout.Goals as goal
+
+pub of-requires : goal.of-requires
+of-requires c =
+    right_anywhere 0 AsResult (tree_of c.in-Ok.ty) c.in-Ok.ensures.faultless
+
+pub returns-in-Ok : goal.returns-in-Ok
+returns-in-Ok c =
+    c.tell_otherwise.ensures c.args.nodes.now (subst (AreNodesOfType c.args.nodes.now) (sym c.of.ensures) c.in-Ok.ensures.ok)
+
+pub returns-in-Err : goal.returns-in-Err
+returns-in-Err c =
+    checks_none c.args.nodes.now c.args.size c.args.align c.args.offsets.now c.in-Err.refusal c.fault.result c.status.result c.in-Err.ensures.err c.fault.ensures c.status.ensures

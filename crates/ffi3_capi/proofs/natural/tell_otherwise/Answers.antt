@@ -1,0 +1,16 @@
+use Rattle.std.proofs.Common.{rules}
+use Rattle.ffi3_capi.specs.declared.status.Refusal.TheVariants.{NoMemory}
+use Rattle.ffi3_capi.proofs.Differing.{checks_natural, checks_another, checks_none}
+use Rattle.ffi3_capi.proofs.natural.tell_otherwise.Goals as goal
+
+pub returns-in-Ok-None : goal.returns-in-Ok-None
+returns-in-Ok-None c =
+    λ ns is. checks_natural ns c.args.ty.now c.args.size c.args.align c.args.offsets.now c.fault_with.result is (c.in-Ok-None.ensures.natural (search rules)) c.fault_with.ensures
+
+pub returns-in-Ok-Some : goal.returns-in-Ok-Some
+returns-in-Ok-Some c =
+    λ ns is. checks_another ns c.args.ty.now c.args.size c.args.align c.args.offsets.now c.in-Ok-Some.i c.fault_of_value.result is (c.in-Ok-Some.ensures.another c.in-Ok-Some.i (search rules)) c.fault_of_value.ensures
+
+pub returns-in-Err : goal.returns-in-Err
+returns-in-Err c =
+    λ ns is. checks_none ns c.args.size c.args.align c.args.offsets.now NoMemory c.fault.result c.status.result tt c.fault.ensures c.status.ensures

@@ -1,0 +1,53 @@
+-- What nodes declare, or which type they are, and why they are none, as C sees it.
+use Rattle.std.specs.Prelude.{◌≡◌, ℕ, ◌≤◌, ◌^◌, ◌==◌, cond, List, length, Option, Some, None}
+use Rattle.ffi3_type_rules.specs.declared.Role.TheVariants.{AsResult}
+use Rattle.ffi3_type_rules.specs.Tree.{Tree}
+use Rattle.ffi3_type_rules.specs.Fault.{Fault, IsFirstFault, IsResultType}
+use Rattle.ffi3_type_rules.specs.Signature.{Signature, SignatureFault, SignatureHasNoFault, IsFirstSignatureFault}
+use Rattle.ffi3_nodes.specs.declared.Node.{Node}
+use Rattle.ffi3_nodes.specs.Nodes.{IsWritten, AreWritten, IsSignatureOf}
+use Rattle.ffi3_nodes.specs.Faults.{NodeFault, ended, unknown_kind, bad_count, too_deep, first_node_fault}
+use Rattle.ffi3_capi.specs.declared.codes.TheConstants.{RESULT_PART, NOT_VARIADIC}
+use Rattle.ffi3_capi.specs.declared.fault.TextFault.{TextFault}
+use Rattle.ffi3_capi.specs.declared.fault.FaultKind.TheVariants.{NodesEnded, UnknownKind, BadCount, NodesTooDeep}
+use Rattle.ffi3_capi.specs.declared.fault.FaultKind.TheVariants.{TooManyNodes, NotOneType}
+use Rattle.ffi3_capi.specs.Faults.{fault_at, fault_of_value, type_fault, signature_fault}
+
+-- of a variadic function how many arguments are fixed
+abbrev pub fixed_of : ℕ → Option ℕ
+fixed_of n = cond (n == NOT_VARIADIC) None (Some n)
+
+-- WHAT NODES DECLARE: a function of the one signature that they are
+pub record AreNodesOf (ns : List Node) (fixed : ℕ) (s : Signature) : Type 0 where
+  pub written : IsSignatureOf ns (fixed_of fixed) s
+  pub only : (other : Signature) → IsSignatureOf ns (fixed_of fixed) other → other ≡ s
+  pub faultless : SignatureHasNoFault s
+
+-- WHICH TYPE NODES ARE: the one that can be a result
+pub record AreNodesOfType (ns : List Node) (t : Tree) : Type 0 where
+  pub written : IsWritten t ns
+  pub only : (other : Tree) → IsWritten other ns → other ≡ t
+  pub faultless : IsResultType t
+
+-- a fault of so many nodes, behind how many of them it stands
+abbrev pub node_fault : ℕ → NodeFault → TextFault
+node_fault count ended = fault_at NodesEnded count
+node_fault count (unknown_kind at) = fault_at UnknownKind at
+node_fault count (bad_count at) = fault_at BadCount at
+node_fault count (too_deep at) = fault_at NodesTooDeep at
+
+-- WHY NODES DECLARE NO FUNCTION: they are too many, none of a signature, or of one that has a fault, whose first is told
+pub data IsFaultOfNodes (ns : List Node) (fixed : ℕ) : TextFault → Type 0 where
+  too_long : 2 ^ 32 ≤ length ns → IsFaultOfNodes ns fixed (fault_of_value 0 TooManyNodes (length ns))
+  no_nodes : (f : NodeFault) → first_node_fault ns ≡ Some f → IsFaultOfNodes ns fixed (node_fault (length ns) f)
+  not_called : (s : Signature) (f : SignatureFault) → IsSignatureOf ns (fixed_of fixed) s → IsFirstSignatureFault s f
+      → IsFaultOfNodes ns fixed (signature_fault f)
+
+-- WHY NODES ARE NO TYPE: they are too many, none of types, those of several, or of one that has a fault as a result's
+pub data IsFaultOfType (ns : List Node) : TextFault → Type 0 where
+  too_many : 2 ^ 32 ≤ length ns → IsFaultOfType ns (fault_of_value 0 TooManyNodes (length ns))
+  no_types : (f : NodeFault) → first_node_fault ns ≡ Some f → IsFaultOfType ns (node_fault (length ns) f)
+  several : (ts : List Tree) → AreWritten ts ns → (length ts ≡ 1 → ⊥)
+      → IsFaultOfType ns (fault_of_value 0 NotOneType (length ts))
+  no_result : (t : Tree) (path : List ℕ) (f : Fault) → IsWritten t ns → IsFirstFault 0 AsResult t path f
+      → IsFaultOfType ns (type_fault RESULT_PART f)

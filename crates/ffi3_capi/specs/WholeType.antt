@@ -1,0 +1,65 @@
+-- What `ffi3_layout_nodes` and `ffi3_offsets_nodes` answer, and what they write.
+use Rattle.std.specs.Prelude.{ℕ, List, [], map, length}
+use Rattle.std.specs.List.{range_with_len}
+use Rattle.ffi3_type_rules.specs.Tree.{Tree, void, scalar, left_out, structure, array, list_of}
+use Rattle.ffi3_type_rules.specs.Layout.{size_of, align_of, offset_of}
+use Rattle.ffi3_nodes.specs.declared.Node.{Node}
+use Rattle.ffi3_capi.specs.declared.fault.TextFault.{TextFault}
+use Rattle.ffi3_capi.specs.declared.fault.FaultKind.TheVariants.{NoFault}
+use Rattle.ffi3_capi.specs.declared.layouts.LaidLeaf.{LaidLeaf}
+use Rattle.ffi3_capi.specs.declared.whole.WholeType.{WholeType}
+use Rattle.ffi3_capi.specs.declared.status.Refusal.{Refusal}
+use Rattle.ffi3_capi.specs.declared.status.Refusal.TheVariants.{NoSuchTarget, NoSuchValue, Fault, NoMemory}
+use Rattle.ffi3_capi.specs.ByNodes.{AreNodesOfType, IsFaultOfType}
+use Rattle.ffi3_capi.specs.Faults.{fault_with}
+use Rattle.ffi3_capi.specs.Filled.{has_room, filled, room_status}
+use Rattle.ffi3_capi.specs.Laid.{laid_leaves}
+use Rattle.ffi3_capi.specs.Refused.{status_of, fault_in}
+
+-- the members of a struct
+abbrev pub members_of : Tree → List Tree
+members_of void = []
+members_of (scalar s) = []
+members_of (left_out k) = []
+members_of (structure ts) = list_of ts
+members_of (array ts n) = []
+
+-- where each member starts
+abbrev pub offsets_of : Tree → List ℕ
+offsets_of t = map (offset_of t) (range_with_len 0 (length (members_of t)))
+
+abbrev pub whole_type : Tree → WholeType
+whole_type t = record {
+  size = size_of t;
+  align = align_of t;
+  members = length (members_of t);
+  leaves = length (laid_leaves t);
+  fault = fault_with NoFault;
+}
+
+-- no type, and why
+abbrev pub no_whole_type : TextFault → WholeType
+no_whole_type fault =
+    record { size = 0; align = 0; members = 0; leaves = 0; fault = fault }
+
+-- WHY THERE IS NONE. Memory alone is free.
+abbrev pub IsTypeRefusal : List Node → Refusal → Type 0
+IsTypeRefusal ns NoSuchTarget = ⊥
+IsTypeRefusal ns (NoSuchValue count) = ⊥
+IsTypeRefusal ns (Fault f) = IsFaultOfType ns f
+IsTypeRefusal ns NoMemory = Unit {0}
+
+-- what is answered of the type that nodes are, and of some items that it has, and what is written into the caller's struct and array
+pub data TellsType {A : Type 0} (ns : List Node) (items : Tree → List A) (old : List A)
+    : ℕ → WholeType → List A → Type 0 where
+  told : (t : Tree) → AreNodesOfType ns t
+      → TellsType ns items old (room_status (has_room (items t) old)) (whole_type t) (filled (items t) old)
+  refused : (r : Refusal) → IsTypeRefusal ns r → TellsType ns items old (status_of r) (no_whole_type (fault_in r)) old
+
+-- WHAT ffi3_layout_nodes ANSWERS, and what it writes
+abbrev pub LaysOutNodes : List Node → List LaidLeaf → ℕ → WholeType → List LaidLeaf → Type 0
+LaysOutNodes ns = TellsType ns laid_leaves
+
+-- WHAT ffi3_offsets_nodes ANSWERS, and what it writes
+abbrev pub TellsOffsets : List Node → List ℕ → ℕ → WholeType → List ℕ → Type 0
+TellsOffsets ns = TellsType ns offsets_of
