@@ -347,7 +347,7 @@ static size_t type_of_nodes(const struct nodes *from, size_t room)
     uint32_t status = ffi3_layout_nodes(from->at, from->count, type, leaves, room);
     uint32_t second = ffi3_offsets_nodes(from->at, from->count, other, offsets, room);
     most = type->leaves > type->members ? type->leaves : type->members;
-    if (status == FFI3_NOT_DECLARED)
+    if (status == FFI3_NOT_DECLARED && !due)
         check_fault(&type->fault, from->count, from->line, from->length);
     if (!due)
         check(status == FFI3_NOT_DECLARED
@@ -412,14 +412,27 @@ static void try_damaged_nodes(struct nodes from, struct ffi3_node *nodes)
     }
 }
 
+// The nodes of the result.
+static struct nodes first_type(const struct nodes *from)
+{
+    struct nodes first = *from;
+    struct ffi3_type type;
+    struct ffi3_leaf leaf;
+    for (first.count = 1; first.count < from->count; first.count++)
+        if (ffi3_layout_nodes(first.at, first.count, &type, &leaf, 1) != FFI3_NOT_DECLARED)
+            break;
+    return first;
+}
+
 static void try_nodes_refused(const struct nodes *from)
 {
     long calls;
+    struct nodes first = first_type(from);
     do {
         due++, counted = 0;
         place_nodes((uint32_t)due % 4, from, 64);
         calls = counted, counted = 0;
-        type_of_nodes(&(struct nodes){from->at, 1, from->fixed, from->line, from->length}, 64);
+        type_of_nodes(&first, 64);
     } while (due <= (calls > counted ? calls : counted));
     due = 0;
 }

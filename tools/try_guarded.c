@@ -1,11 +1,13 @@
-// Tries the exports of the C library between pages without access: try_guarded FILE, with one declaration a line.
+// Tries the exports of the C library between pages without access: try_guarded FILE NODES. The first has one
+// declaration a line, the second one function a line as numbers: how many arguments are fixed, then of each node kind
+// and count.
 //
 // Each text, each array and each struct stands once at the end of its pages and once at their start, so that the
 // program is stopped at the first byte before or behind it, whoever touches it; texts, registers and stacks can only be
 // read. Arrays have room for nothing up to two elements more than is wanted, and stacks any number of bytes; where that
-// is nothing the pointer is NULL. Texts are whole, cut short, and with one byte changed. What has no room is left as it
-// was, and all else is what comes where there is much room. The last lines are 'answers N', a sum of all answers, and
-// 'N passed, M failed'.
+// is nothing the pointer is NULL. Texts and nodes are whole, cut short, and with one changed. What has no room is left
+// as it was, and all else is what comes where there is much room. The last lines are 'answers N', a sum of all answers,
+// and 'N passed, M failed'.
 #define _DEFAULT_SOURCE
 #include "ffi3.h"
 
@@ -264,6 +266,109 @@ static void try_damaged(size_t length)
     }
 }
 
+// ---- nodes
+
+static void try_place_nodes(uint32_t target, const struct ffi3_node *nodes, size_t count, uint32_t fixed, int all,
+                            int at_end)
+{
+    static struct ffi3_piece whole[MUCH / sizeof(struct ffi3_piece)];
+    static struct ffi3_call found;
+    uint32_t told = ffi3_place_nodes(target, nodes, count, fixed, &found, whole, sizeof whole / sizeof *whole);
+    size_t wanted = found.pieces;
+    add(&told, sizeof told);
+    add(&found, sizeof found);
+    add(whole, wanted * sizeof *whole);
+    for (size_t capacity = all ? 0 : wanted; capacity <= wanted + 2; capacity = next(capacity, wanted)) {
+        struct ffi3_call *call = place_in(&calls, sizeof *call, at_end);
+        struct ffi3_piece *pieces = place_in(&arrays, capacity * sizeof *pieces, at_end);
+        uint32_t status = ffi3_place_nodes(target, nodes, count, fixed, call, pieces, capacity);
+        check(status == (told == FFI3_OK && capacity < wanted ? FFI3_TOO_SMALL : told)
+                  && !memcmp(call, &found, sizeof found), "place of nodes");
+        check_array(pieces, whole, sizeof *pieces, wanted, capacity, "pieces of nodes");
+    }
+}
+
+static void try_type(const struct ffi3_node *nodes, size_t count, int all, int at_end)
+{
+    static struct ffi3_leaf leaves[MUCH / sizeof(struct ffi3_leaf)];
+    static size_t offsets[MUCH / sizeof(size_t)];
+    static struct ffi3_type found, other;
+    struct ffi3_fault fault;
+    uint32_t told = ffi3_layout_nodes(nodes, count, &found, leaves, sizeof leaves / sizeof *leaves);
+    uint32_t second = ffi3_offsets_nodes(nodes, count, &other, offsets, sizeof offsets / sizeof *offsets);
+    check(told == second && !memcmp(&found, &other, sizeof found), "leaves and offsets");
+    add(&told, sizeof told);
+    add(&found, sizeof found);
+    add(leaves, found.leaves * sizeof *leaves);
+    add(offsets, found.members * sizeof *offsets);
+    for (size_t capacity = all ? 0 : found.leaves; capacity <= found.leaves + 2;
+         capacity = next(capacity, found.leaves)) {
+        struct ffi3_type *type = place_in(&calls, sizeof *type, at_end);
+        struct ffi3_leaf *room = place_in(&arrays, capacity * sizeof *room, at_end);
+        uint32_t status = ffi3_layout_nodes(nodes, count, type, room, capacity);
+        check(status == (told == FFI3_OK && capacity < found.leaves ? FFI3_TOO_SMALL : told)
+                  && !memcmp(type, &found, sizeof found), "type of nodes");
+        check_array(room, leaves, sizeof *room, found.leaves, capacity, "leaves of nodes");
+    }
+    for (size_t capacity = all ? 0 : found.members; capacity <= found.members + 2;
+         capacity = next(capacity, found.members)) {
+        struct ffi3_type *type = place_in(&calls, sizeof *type, at_end);
+        size_t *room = place_in(&arrays, capacity * sizeof *room, at_end);
+        uint32_t status = ffi3_offsets_nodes(nodes, count, type, room, capacity);
+        check(status == (told == FFI3_OK && capacity < found.members ? FFI3_TOO_SMALL : told)
+                  && !memcmp(type, &found, sizeof found), "type of nodes");
+        check_array(room, offsets, sizeof *room, found.members, capacity, "offsets of nodes");
+    }
+    for (size_t members = 0; members <= found.members && members < ALL; members++) {
+        const size_t *lent = lend(&registers, offsets, members * sizeof *offsets, at_end);
+        uint32_t status = ffi3_check_layout(nodes, count, found.size, found.align, lent, members, &fault);
+        check(status == (members < found.members ? FFI3_NOT_DECLARED : told), "a layout that is told");
+    }
+}
+
+// Nodes as those of a function, and those from each of them on as a type.
+static void try_nodes(const struct ffi3_node *from, size_t count, uint32_t fixed, int all)
+{
+    for (int at_end = 0; at_end < 2; at_end++) {
+        const struct ffi3_node *nodes = lend(&texts, from, count * sizeof *from, at_end);
+        for (uint32_t target = FFI3_AMD64; target <= FFI3_WIN64 + 1; target++)
+            try_place_nodes(target, nodes, count, fixed, all, at_end);
+        for (size_t at = 0; at < count; at++)
+            try_type(nodes + at, count - at, all, at_end);
+    }
+}
+
+static void try_damaged_nodes(struct ffi3_node *nodes, size_t count, uint32_t fixed)
+{
+    for (size_t at = 0; at < count; at++) {
+        struct ffi3_node was = nodes[at];
+        uint64_t number = drawn();
+        try_nodes(nodes, at, fixed, 0);
+        nodes[at].kind = number % 8 ? (uint32_t)(number >> 8) % (FFI3_ARRAY + 2) : (uint32_t)(number >> 8);
+        nodes[at].count = number % 4 ? (uint32_t)(number >> 40) % 4 : (uint32_t)(number >> 32);
+        try_nodes(nodes, count, fixed, 0);
+        try_nodes(nodes, count, (uint32_t)at, 0);
+        nodes[at] = was;
+    }
+}
+
+static void try_line_of_nodes(void)
+{
+    static struct ffi3_node nodes[1 << 12];
+    char *end;
+    size_t count = 0;
+    uint32_t fixed = (uint32_t)strtoul(line, &end, 10);
+    for (const char *at = end; count < sizeof nodes / sizeof *nodes; at = end) {
+        uint32_t kind = (uint32_t)strtoul(at, &end, 10);
+        if (end == at)
+            break;
+        nodes[count++] = (struct ffi3_node){kind, (uint32_t)strtoul(end, &end, 10)};
+    }
+    try_nodes(nodes, count, fixed, count < 40);
+    if (count < 40)
+        try_damaged_nodes(nodes, count, fixed);
+}
+
 // Names of registers and words of faults with each room, where NULL stands for none.
 static void try_names(void)
 {
@@ -288,9 +393,9 @@ static void try_names(void)
 
 int main(int count, char **words)
 {
-    FILE *file = count == 2 ? fopen(words[1], "r") : NULL;
+    FILE *file = count == 3 ? fopen(words[1], "r") : NULL, *other = count == 3 ? fopen(words[2], "r") : NULL;
     struct sigaction action = {.sa_handler = stopped};
-    if (!file || sigaction(SIGSEGV, &action, NULL) || sigaction(SIGBUS, &action, NULL))
+    if (!file || !other || sigaction(SIGSEGV, &action, NULL) || sigaction(SIGBUS, &action, NULL))
         return 2;
     texts = make_room(sizeof line);
     calls = make_room(4096);
@@ -306,6 +411,10 @@ int main(int count, char **words)
             try_damaged(length);
     }
     fclose(file);
+    try_nodes(NULL, 0, FFI3_NOT_VARIADIC, 1);
+    while (fgets(line, sizeof line, other))
+        try_line_of_nodes();
+    fclose(other);
     printf("answers %016llx\n%ld passed, %ld failed\n", (unsigned long long)answers, passed, failed);
     return failed != 0;
 }

@@ -19,7 +19,8 @@
 #define STACK (64 << 10)
 #endif
 
-enum { THREADS = 8, LINES = 4096, PIECES = 1024, LEAVES = 4096, VALUES = 1 << 19, PAINT = 0xA5 };
+enum { THREADS = 8, DEPTH = 16, ARGUMENTS = 64 };
+enum { LINES = 4096, PIECES = 1024, LEAVES = 4096, VALUES = 1 << 19, PAINT = 0xA5 };
 
 // What one thread has: nothing is shared but the texts.
 struct work {
@@ -30,6 +31,8 @@ struct work {
     unsigned char bytes[4096]; /* of a machine's stack */
     struct ffi3_call call;
     struct ffi3_layout layout;
+    struct ffi3_type type;
+    size_t offsets[2];
     struct ffi3_arguments found;
     struct ffi3_piece pieces[PIECES];
     struct ffi3_leaf leaves[LEAVES];
@@ -38,6 +41,8 @@ struct work {
 
 static char *texts[LINES];
 static size_t count;
+static struct ffi3_node nodes[(1 + ARGUMENTS) * (2 * DEPTH + 1)]; /* of a function, with types as deep as they may be */
+static size_t nodes_of_one;                                       /* of them the result's */
 static pthread_barrier_t all_there;
 
 #ifdef PLANTED
@@ -89,6 +94,36 @@ static void ask(struct work *work, const char *text, size_t length, uint32_t tar
     }
 }
 
+static void make_nodes(void)
+{
+    size_t end = 0;
+    for (int value = 0; value <= ARGUMENTS; value++) {
+        for (int depth = 0; depth < DEPTH; depth++)
+            nodes[end++] = (struct ffi3_node){FFI3_STRUCT, 2};
+        nodes[end++] = (struct ffi3_node){FFI3_DOUBLE, 0};
+        for (int depth = 0; depth < DEPTH; depth++)
+            nodes[end++] = (struct ffi3_node){FFI3_SINT8, 0};
+        nodes_of_one = nodes_of_one ? nodes_of_one : end;
+    }
+}
+
+static void ask_of_nodes(struct work *work, uint32_t target)
+{
+    size_t all = sizeof nodes / sizeof *nodes;
+    uint32_t told[] = {
+        ffi3_place_nodes(target, nodes, all, FFI3_NOT_VARIADIC, &work->call, work->pieces, PIECES),
+        ffi3_layout_nodes(nodes, nodes_of_one, &work->type, work->leaves, LEAVES),
+        ffi3_offsets_nodes(nodes, nodes_of_one, &work->type, work->offsets, 2),
+        ffi3_check_layout(nodes, nodes_of_one, work->type.size, work->type.align, work->offsets, 2,
+                          &work->layout.fault),
+    };
+    for (size_t i = 0; i < sizeof told / sizeof *told; i++)
+        if (told[i] != FFI3_OK)
+            abort();
+    add(work, &work->call, sizeof work->call);
+    add(work, work->pieces, work->call.pieces * sizeof *work->pieces);
+}
+
 static void *ask_all(void *given)
 {
     struct work *work = given;
@@ -96,9 +131,11 @@ static void *ask_all(void *given)
     work->begin = &here;
     work->answers = UINT64_C(14695981039346656037);
     pthread_barrier_wait(&all_there);
-    for (size_t i = 0; i < count; i++)
-        for (uint32_t target = FFI3_AMD64; target <= FFI3_WIN64; target++)
+    for (uint32_t target = FFI3_AMD64; target <= FFI3_WIN64; target++) {
+        ask_of_nodes(work, target);
+        for (size_t i = 0; i < count; i++)
             ask(work, texts[i], strlen(texts[i]), target);
+    }
     return NULL;
 }
 
@@ -158,6 +195,7 @@ int main(int words, char **word)
         texts[count++] = strdup(line);
     }
     fclose(file);
+    make_nodes();
     size_t most = run(&alone, 1);
     for (unsigned i = 0; i < THREADS; i++)
         works[i] = new_work();
