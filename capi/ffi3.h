@@ -245,8 +245,8 @@ struct ffi3_node {
  *                           struct ffi3_call *CALL, struct ffi3_piece *PIECES, size_t CAPACITY)
  *
  * As ffi3_place, of the function that the COUNT nodes at NODES declare. Of a variadic one FIXED arguments are named.
- * All are placed, those behind them as variadic ones, whose types are those that C promotes to. The answers are those
- * of ffi3_place.
+ * All are placed and counted in CALL->arguments, those behind the named ones as variadic, whose types are those that C
+ * promotes to. The answers are those of ffi3_place.
  */
 uint32_t ffi3_place_nodes(uint32_t target, const struct ffi3_node *nodes, size_t count, uint32_t fixed,
                           struct ffi3_call *call, struct ffi3_piece *pieces, size_t capacity);
@@ -255,7 +255,7 @@ uint32_t ffi3_place_nodes(uint32_t target, const struct ffi3_node *nodes, size_t
 struct ffi3_type {
     size_t size;    /* in bytes, a multiple of the alignment; of void 0 */
     size_t align;   /* 1, 2, 4, 8 or 16 */
-    size_t members; /* how many members a struct has, those of structs in it not among them; else 0 */
+    size_t members; /* how many members a struct has, those of structs in it not among them; a complex has 2, else 0 */
     size_t leaves;  /* how many scalars it has, those of structs and arrays in it among them */
     struct ffi3_fault fault;
 };
