@@ -1,5 +1,5 @@
 -- The moves of a call, by the places of its plan: those of its caller and of its callee, for arguments and for the result. Values stand one after another, each from a multiple of 8 on.
-use Rattle.std.specs.Prelude.{ℕ, ◌+◌, ◌*◌, Bool, true, false, ◌||◌, ◌==◌, cond, List, [], ◌∷◌, ◌++◌, map, Option, Some, None, option_map}
+use Rattle.std.specs.Prelude.{ℕ, ◌+◌, ◌*◌, Bool, ◌||◌, ◌==◌, cond, List, [], ◌∷◌, ◌++◌, map, Option, Some, None, option_map}
 use Rattle.ffi3_type_rules.specs.Tree.{Tree, Scalar}
 use Rattle.ffi3_type_rules.specs.Layout.{size_of, scalar_size}
 use Rattle.ffi3_type_rules.specs.Integer.{is_signed, scalar_of}
@@ -129,6 +129,11 @@ hidden_in (Hidden l buffer) = Some (record { kind = Address; part = 0; from = bu
 
 abbrev pub hidden_move : Standard → Signature → Option Move
 hidden_move std s = hidden_in (plan_of std s).res
+
+-- the move alone, or none
+abbrev pub moves_of : Option Move → List Move
+moves_of (Some m) = m ∷ []
+moves_of None = []
 
 -- where its callee gives the address back, if the standard has a register for it
 abbrev pub given_back_at : Res → Option Loc → Option ℕ

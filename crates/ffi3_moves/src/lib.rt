@@ -5,11 +5,11 @@
 //!
 //! ```c
 //! struct ffi3_move {
-//!     uint32_t kind;   /* how */
+//!     uint32_t kind;   /* by the order of `Kind`, from 0 on */
 //!     uint32_t part;   /* the argument's number; 0 for a result */
-//!     uint64_t from;   /* the first byte; of a number or an address that itself */
+//!     uint64_t from;   /* the first byte that is read; a number itself; of an address the byte of the frame */
 //!     uint64_t to;     /* the first byte that is written */
-//!     uint64_t length; /* how many bytes are read; of a number or an address 8 */
+//!     uint64_t length; /* how many bytes are read; 8 of a number or an address */
 //! };
 //! ```
 //!
@@ -19,13 +19,14 @@
 
 mod arguments;
 mod kinds;
+mod laws;
 mod pieces;
 mod results;
 
 pub use arguments::{moves_to_collect, moves_to_store};
-pub use results::{hidden_move, moves_to_give, moves_to_load, returned_at};
-
 use ffi3_place_rules::Listed;
+pub use laws::{collect_law, give_law, load_law, store_law};
+pub use results::{hidden_move, moves_to_give, moves_to_load, returned_at};
 
 /// How a move makes the bytes that it writes.
 #[derive(Clone, Copy, Debug, PartialEq, Eq)]
