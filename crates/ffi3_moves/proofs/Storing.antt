@@ -1,0 +1,243 @@
+-- The moves of a value store it at its places, in the image that an exchange is.
+use Rattle.std.specs.Prelude.{true, ◌/◌, ◌^◌}
+use Rattle.std.proofs.Common.{◌≡◌, ◌⊎◌, inl, inr, ℕ, ◌+◌, ◌-◌, ◌*◌, ◌<◌, ◌≤◌, List, [], ◌∷◌, ◌++◌, length, get_or, refl, ap, sym, ◌∙◌, subst, arith}
+use Rattle.std.specs.Int.{w64, to_le_bytes, from_le_bytes}
+use Rattle.std.specs.List.{AllByRecursion}
+use Rattle.ffi3_type_rules.specs.Tree.{Tree, Scalar, void, scalar, left_out, structure, array}
+use Rattle.ffi3_type_rules.specs.Layout.{scalar_size, size_of}
+use Rattle.ffi3_type_rules.specs.Integer.{scalar_of, widened, widened_from_32}
+use Rattle.ffi3_type_rules.specs.Value.{part}
+use Rattle.ffi3_type_rules.proofs.Parts.{index_part, length_part}
+use Rattle.ffi3_place_rules.specs.declared.Loc.{Loc}
+use Rattle.ffi3_place_rules.specs.declared.Loc.TheVariants.{G, F, S}
+use Rattle.ffi3_place_rules.specs.declared.Ext.{Ext}
+use Rattle.ffi3_place_rules.specs.declared.Ext.TheVariants.{Free, Widen, Riscv, Boxed}
+use Rattle.ffi3_place_rules.specs.declared.Piece.{Piece}
+use Rattle.ffi3_place_rules.specs.Image.{Image}
+use Rattle.ffi3_place_rules.specs.Sound.{Apart, AreApart, IsNoneOf, IsExtended, IsPieceOf, is_narrow_integer, piece_locs}
+use Rattle.ffi3_pieces.specs.Stored.{IsPlace}
+use Rattle.ffi3_pieces.proofs.Composing.{apart_sym, none_append}
+use Rattle.ffi3_transfer.specs.Stored.{KeepsAbove, Stays, IsPut, IsStored}
+use Rattle.ffi3_transfer.specs.Standing.{PiecesStand}
+use Rattle.ffi3_transfer.proofs.Puts.{word_put, piece_set}
+use Rattle.ffi3_transfer.proofs.Filling.{free_stored, boxed_stored, widened_stored, from_32_stored}
+use Rattle.ffi3_transfer.proofs.Composing.{same_then, stays_none}
+use Rattle.ffi3_transfer.proofs.Stepping.{all_keep, all_since, all_stand_stays}
+use Rattle.ffi3_moves.specs.Play.{frame_at, moved, play, play_one, to_eight, written_over}
+use Rattle.ffi3_moves.specs.Moves.{exchange_at, filling, piece_in, pieces_in}
+use Rattle.ffi3_moves.specs.Exchange.{AreBytes, image_at}
+use Rattle.ffi3_moves.specs.Laws.{KeepsStubs}
+use Rattle.ffi3_moves.proofs.Bytes.{part_bytes, part_part, over_outside, over_size, over_bytes}
+use Rattle.ffi3_moves.proofs.Places.{place_fits, put_there}
+use Rattle.ffi3_moves.proofs.Extended.{IsFilledBy, eight_of_4, widen_filled, riscv_filled}
+use Rattle.ffi3_moves.proofs.Filled.{AreWord, eight_word, filled_word, eight_long, eight_low, eight_are}
+
+-- ---- one after another
+
+pub stays_both : (base : ℕ) (ls ks : List Loc) (a b c : Image) → Stays base ls a b → Stays base ks b c → Stays base (ls ++ ks) a c
+stays_both base ls ks a b c s t = record {
+  sp = t.sp ∙ s.sp;
+  size = t.size ∙ s.size;
+  below = λ i h. t.below i h ∙ s.below i h;
+  others = λ l none. let parts = none_append ls ks l none in same_then base l a b c (s.others l parts.0) (t.others l parts.1);
+}
+
+pub keeps_none : (x : List ℕ) → AreBytes x → KeepsStubs x x
+keeps_none x are = record { size = refl; are = are; stubs = λ k from to. refl }
+
+pub keeps_both : (x y z : List ℕ) → KeepsStubs x y → KeepsStubs y z → KeepsStubs x z
+keeps_both x y z a b = record {
+  size = b.size ∙ a.size;
+  are = b.are;
+  stubs = λ k from to. b.stubs k from to ∙ a.stubs k from to;
+}
+
+-- the words of the stubs lie in no place
+stubs_apart : (l : Loc) (room k n : ℕ) → IsPlace room l → n ≤ 8 → 512 ≤ k → k < frame_at → (k < exchange_at l) ⊎ (exchange_at l + n ≤ k)
+stubs_apart (G r) room k n h few from to = inr (omega (arith, h, few, from))
+stubs_apart (F r) room k n h few from to = inr (omega (arith, h, few, from))
+stubs_apart (S m) room k n h few from to = inl (omega (arith, to))
+
+pub keeps_over : (x bytes : List ℕ) (l : Loc) → frame_at ≤ length x → AreBytes x → IsPlace (length x - frame_at) l → length bytes ≤ 8 → AreBytes bytes → KeepsStubs x (written_over (exchange_at l) bytes x)
+keeps_over x bytes l long are lies few bytes_are =
+    let fits : exchange_at l + length bytes ≤ length x = omega (arith, place_fits l (length x) long lies, few) in
+    record {
+      size = over_size (exchange_at l) bytes x fits;
+      are = over_bytes (exchange_at l) bytes x fits bytes_are are;
+      stubs = λ k from to. over_outside (exchange_at l) bytes x fits k (stubs_apart l (length x - frame_at) k (length bytes) lies few from to);
+    }
+
+-- ---- a float with ones above it
+
+ones_high : (bytes : List ℕ) → length bytes ≡ 4 → ((k : ℕ) → get_or bytes k 0 < 256) → from_le_bytes w64 (to_eight 255 bytes) / 2 ^ 32 ≡ 2 ^ 32 - 1
+ones_high [] l small = absurd (omega arith)
+ones_high (a ∷ []) l small = absurd (omega arith)
+ones_high (a ∷ b ∷ []) l small = absurd (omega arith)
+ones_high (a ∷ b ∷ c ∷ []) l small = absurd (omega arith)
+ones_high (a ∷ b ∷ c ∷ d ∷ []) l small =
+    let s0 : a < 256 = small 0 in
+    let s1 : b < 256 = small 1 in
+    let s2 : c < 256 = small 2 in
+    let s3 : d < 256 = small 3 in
+    let all : from_le_bytes w64 (to_eight 255 (a ∷ b ∷ c ∷ d ∷ [])) ≡ a + 256 * b + 65536 * c + 16777216 * d + 72340172821233664 * 255 = eight_of_4 a b c d 255 in
+    omega (arith, all, s0, s1, s2, s3)
+ones_high (a ∷ b ∷ c ∷ d ∷ e ∷ bytes) l small = absurd (omega arith)
+
+-- ---- pieces
+
+none_of_one : (l : Loc) (ls : List Loc) → AllByRecursion (Apart l) ls → AllByRecursion (IsNoneOf (l ∷ [])) ls
+none_of_one l [] h = tt
+none_of_one l (k ∷ ls) h = ((apart_sym l k h.0, tt), none_of_one l ls h.1)
+
+scalar_is : (t : Tree) → is_narrow_integer t ≡ true → t ≡ scalar (scalar_of t)
+scalar_is void narrow = cc
+scalar_is (left_out k) narrow = cc
+scalar_is (structure ts) narrow = cc
+scalar_is (array ts n) narrow = cc
+scalar_is (scalar s) narrow = refl
+
+module _ (sp base : ℕ) (link : List ℕ) (linked : length link ≡ base) (frame : ℕ) (values : List ℕ) (values_are : AreBytes values) (i at : ℕ) (t : Tree) (room : at + size_of t ≤ length values) where
+  abbrev value : List ℕ
+  value = part values at (size_of t)
+
+  sized : length value ≡ size_of t
+  sized = length_part values at (size_of t) room
+
+  -- the exchange has registers, stubs' words and, for a place on the stack, the frame
+  module _ (x : List ℕ) (long : frame_at ≤ length x) (are : AreBytes x) (p : Piece) (of : IsPieceOf t p) (lies : IsPlace (length x - frame_at) p.loc) where
+    abbrev source : List ℕ
+    source = part values (at + p.off) p.len
+
+    abbrev bytes : List ℕ
+    bytes = moved (filling p.ext (scalar_of t)) frame values (at + p.off) p.len
+
+    abbrev after : List ℕ
+    after = written_over (exchange_at p.loc) bytes x
+
+    source_long : length source ≡ p.len
+    source_long = length_part values (at + p.off) p.len (omega (arith, room, of.within))
+
+    source_are : AreBytes source
+    source_are = part_bytes values (at + p.off) p.len (omega (arith, room, of.within)) values_are
+
+    source_is : source ≡ part value p.off p.len
+    source_is = part_part values at (size_of t) p.off p.len room of.within
+
+    value_are : AreBytes value
+    value_are = part_bytes values at (size_of t) room values_are
+
+    -- the piece is stored
+    pub record IsMoved : Type 0 where
+      pub stored : IsStored base t value p (image_at sp link x) (image_at sp link after)
+      pub keeps : KeepsStubs x after
+
+    put_bytes : length bytes ≤ 8 → AreBytes bytes → IsPut base p.loc bytes (image_at sp link x) (image_at sp link after) × KeepsStubs x after
+    put_bytes few bytes_are =
+        let keeps = keeps_over x bytes p.loc long are lies few bytes_are in
+        (put_there sp base link linked x long are p.loc lies bytes few keeps.are, keeps)
+
+    free_moved : p.ext ≡ Free → IsMoved
+    free_moved ext =
+        let is : bytes ≡ source = ap (λ e. moved (filling e (scalar_of t)) frame values (at + p.off) p.len) ext in
+        let put = put_bytes (omega (arith, ap length is, source_long, of.short)) (subst AreBytes (sym is) source_are) in
+        let within : p.off + p.len ≤ length value = omega (arith, of.within, sized) in
+        let set = piece_set base p value (image_at sp link x) (image_at sp link after) (of.short, within) (subst (λ z. IsPut base p.loc z (image_at sp link x) (image_at sp link after)) (is ∙ source_is) put.0) in
+        record { stored = free_stored base value p (image_at sp link x) (image_at sp link after) t ext set; keeps = put.1 }
+
+    word_moved : (n : ℕ) → AreWord bytes n → IsPut base p.loc bytes (image_at sp link x) (image_at sp link after) × KeepsStubs x after
+    word_moved n word = put_bytes (omega (arith, word.long)) word.are
+
+    boxed_moved : p.ext ≡ Boxed → IsExtended t p Boxed → IsMoved
+    boxed_moved ext e =
+        let is : bytes ≡ to_eight 255 source = ap (λ e. moved (filling e (scalar_of t)) frame values (at + p.off) p.len) ext in
+        let few : length source ≤ 8 = omega (arith, source_long, of.short) in
+        let n = from_le_bytes w64 (to_eight 255 source) in
+        let eight = eight_word (to_eight 255 source) (from_le_bytes w64 (to_eight 255 source)) (eight_long source few 255) (eight_are source few 255 (omega arith) source_are) refl in
+        let word = subst (λ z. AreWord z (from_le_bytes w64 (to_eight 255 source))) (sym is) eight in
+        let put = word_moved n word in
+        let put_word = word_put base p.loc n bytes (image_at sp link x) (image_at sp link after) word.small word.is put.0 in
+        let low : (k : ℕ) → k < 4 → get_or (to_le_bytes w64 (from_le_bytes w64 (to_eight 255 source))) k 0 ≡ get_or value (p.off + k) 0 = λ k h.
+        let there : k < length source = omega (arith, h, source_long, e.1) in
+        let here : k < p.len = omega (arith, h, e.1) in
+        ap (λ xs. get_or xs k 0) (sym eight.is) ∙ eight_low source few 255 k there ∙ ap (λ xs. get_or xs k 0) source_is ∙ index_part value p.off p.len k here in
+        record {
+          stored = boxed_stored base value p (image_at sp link x) (image_at sp link after) t n ext e.1 low (ones_high source (source_long ∙ e.1) source_are) put_word;
+          keeps = put.1;
+        }
+
+    -- a lone narrow integer is its piece
+    whole : p.off ≡ 0 → p.len ≡ size_of t → source ≡ value
+    whole start all =
+        let there : at + p.off ≡ at = omega (arith, start) in
+        ap (λ k. part values k p.len) there ∙ ap (part values at) all
+
+    few : length source ≤ 8
+    few = omega (arith, source_long, of.short)
+
+    widen_word : (s : Scalar) → is_narrow_integer (scalar s) ≡ true → length value ≡ scalar_size s → source ≡ value → AreWord (moved (filling Widen s) frame values (at + p.off) p.len) (widened s value)
+    widen_word s narrow many same =
+        filled_word frame values (at + p.off) p.len (filling Widen s) (widened s value) few source_are (subst (λ z. IsFilledBy source (filling Widen s) (widened s z)) same (widen_filled source source_are s narrow (ap length same ∙ many)))
+
+    riscv_word : (s : Scalar) → is_narrow_integer (scalar s) ≡ true → length value ≡ scalar_size s → source ≡ value → AreWord (moved (filling Riscv s) frame values (at + p.off) p.len) (widened_from_32 s value)
+    riscv_word s narrow many same =
+        filled_word frame values (at + p.off) p.len (filling Riscv s) (widened_from_32 s value) few source_are (subst (λ z. IsFilledBy source (filling Riscv s) (widened_from_32 s z)) same (riscv_filled source source_are s narrow (ap length same ∙ many)))
+
+    widen_moved : p.ext ≡ Widen → IsExtended t p Widen → IsMoved
+    widen_moved ext e =
+        let is : bytes ≡ moved (filling Widen (scalar_of t)) frame values (at + p.off) p.len = ap (λ e. moved (filling e (scalar_of t)) frame values (at + p.off) p.len) ext in
+        let alone = scalar_is t e.0 in
+        let n = widened (scalar_of t) value in
+        let word = subst (λ z. AreWord z (widened (scalar_of t) value)) (sym is) (widen_word (scalar_of t) (subst (λ u. is_narrow_integer u ≡ true) alone e.0) (sized ∙ ap size_of alone) (whole e.1 e.2)) in
+        let put = word_moved n word in
+        let put_word = word_put base p.loc n bytes (image_at sp link x) (image_at sp link after) word.small word.is put.0 in
+        record {
+          stored = widened_stored base value p (image_at sp link x) (image_at sp link after) value_are t n ext e sized refl put_word;
+          keeps = put.1;
+        }
+
+    riscv_moved : p.ext ≡ Riscv → IsExtended t p Riscv → IsMoved
+    riscv_moved ext e =
+        let is : bytes ≡ moved (filling Riscv (scalar_of t)) frame values (at + p.off) p.len = ap (λ e. moved (filling e (scalar_of t)) frame values (at + p.off) p.len) ext in
+        let alone = scalar_is t e.0 in
+        let n = widened_from_32 (scalar_of t) value in
+        let word = subst (λ z. AreWord z (widened_from_32 (scalar_of t) value)) (sym is) (riscv_word (scalar_of t) (subst (λ u. is_narrow_integer u ≡ true) alone e.0) (sized ∙ ap size_of alone) (whole e.1 e.2)) in
+        let put = word_moved n word in
+        let put_word = word_put base p.loc n bytes (image_at sp link x) (image_at sp link after) word.small word.is put.0 in
+        record {
+          stored = from_32_stored base value p (image_at sp link x) (image_at sp link after) value_are t n ext e sized refl put_word;
+          keeps = put.1;
+        }
+
+    by_ext : (e : Ext) → p.ext ≡ e → IsExtended t p e → IsMoved
+    by_ext Free ext e = free_moved ext
+    by_ext Boxed ext e = boxed_moved ext e
+    by_ext Widen ext e = widen_moved ext e
+    by_ext Riscv ext e = riscv_moved ext e
+
+    pub piece_moved : IsMoved
+    piece_moved = by_ext p.ext refl of.extended
+
+  -- all its pieces
+  pub record ArePlayed (ps : List Piece) (x y : List ℕ) : Type 0 where
+    pub stand : PiecesStand base (image_at sp link y) t value ps
+    pub kept : AllByRecursion (KeepsAbove base (image_at sp link x) (image_at sp link y)) ps
+    pub stays : Stays base (piece_locs ps) (image_at sp link x) (image_at sp link y)
+    pub keeps : KeepsStubs x y
+
+  pub pieces_played : (ps : List Piece) (x : List ℕ) → frame_at ≤ length x → AreBytes x → AllByRecursion (IsPieceOf t) ps → AllByRecursion (IsPlace (length x - frame_at)) (piece_locs ps) → AreApart (piece_locs ps) → ArePlayed ps x (play frame (pieces_in i at t ps) values x)
+  pieces_played [] x long are parts lie apart = record { stand = tt; kept = tt; stays = stays_none base (image_at sp link x); keeps = keeps_none x are }
+  pieces_played (p ∷ ps) x long are parts lie apart =
+      let first = piece_moved x long are p parts.0 lie.0 in
+      let y = play_one frame (piece_in i at t p) values x in
+      let z = play frame (pieces_in i at t ps) values (play_one frame (piece_in i at t p) values x) in
+      let still : AllByRecursion (IsPlace (length (play_one frame (piece_in i at t p) values x) - frame_at)) (piece_locs ps) = subst (λ n. AllByRecursion (IsPlace (n - frame_at)) (piece_locs ps)) (sym first.keeps.size) lie.1 in
+      let rest = pieces_played ps y (omega (arith, first.keeps.size, long)) first.keeps.are parts.1 still apart.1 in
+      let stands = all_stand_stays base t value (piece_locs ps) (image_at sp link y) (image_at sp link z) (p ∷ []) (parts.0, tt) (apart.0, tt) rest.stays (first.stored.stands, tt) in
+      let above = all_keep base (piece_locs ps) (image_at sp link x) (image_at sp link y) (image_at sp link z) (p ∷ []) (apart.0, tt) rest.stays (first.stored.kept, tt) in
+      let since = all_since base (p.loc ∷ []) (image_at sp link x) (image_at sp link y) (image_at sp link z) ps (none_of_one p.loc (piece_locs ps) apart.0) first.stored.stays rest.kept in
+      record {
+        stand = (stands.0, rest.stand);
+        kept = (above.0, since);
+        stays = stays_both base (p.loc ∷ []) (piece_locs ps) (image_at sp link x) (image_at sp link y) (image_at sp link z) first.stored.stays rest.stays;
+        keeps = keeps_both x y z first.keeps rest.keeps;
+      }

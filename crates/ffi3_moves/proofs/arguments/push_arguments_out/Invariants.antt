@@ -1,0 +1,10 @@
+use Rattle.std.proofs.Common.{◌≡◌, ◌++◌, ◌*◌, ◌≤◌, drop}
+use Rattle.ffi3_place_rules.specs.Standard.{plan_of}
+use Rattle.ffi3_moves.specs.Moves.{arguments_out}
+use Rattle.ffi3_moves.proofs.arguments.push_arguments_out.Given as goal
+
+abbrev pub invariant-loop-i : goal.invariant-loop-i
+invariant-loop-i g l = record {
+  done : l.moves ++ arguments_out l.i l.at (drop l.i l.cif.arguments) (drop l.i (plan_of g.A.Abi.standard l.cif).places) ≡ l.initial.moves ++ arguments_out 0 0 l.cif.arguments (plan_of g.A.Abi.standard l.cif).places;
+  low : l.at ≤ 4104 * l.i;
+}

@@ -1,0 +1,4 @@
+pub mod Play
+pub mod Moves
+pub mod Exchange
+pub mod Laws
