@@ -90,12 +90,12 @@ fn sizes_by<A: Abi>(cif: &Cif<A>) -> CallSizes
 {
     let values = ffi3_transfer::packed_size(cif);
     let given = cif.checked_sig().ret().size() as usize;
-    let link = A::LINK as usize;
+    let link = A::LINK;
     let frame = cif.frame() as usize;
     CallSizes {
         values,
         result: given,
-        link,
+        link: link as usize,
         frame,
     }
 }
