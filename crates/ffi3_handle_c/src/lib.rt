@@ -57,10 +57,8 @@ pub extern "C" fn handle_count(it: &mut Handle, shown: &mut [u8], counts: &mut C
     }
     let kept: &Kept = it.value_mut();
     let (words, bytes) = kept.counts();
-    *counts = Counts {
-        words: words as u64,
-        bytes: bytes as u64,
-    };
+    counts.words = words as u64;
+    counts.bytes = bytes as u64;
     if let Some(first) = shown.first_mut() {
         *first = 1;
     }
