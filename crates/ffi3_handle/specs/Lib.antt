@@ -1,0 +1,4 @@
+pub mod Counts
+pub mod Owned
+pub mod Kept
+pub mod Lending
