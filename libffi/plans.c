@@ -1,0 +1,153 @@
+/* The table of plans: readers take no lock. */
+#include "plan.h"
+#include "host.h"
+#include "lock.h"
+#include <stdio.h>
+#include <stdlib.h>
+#include <string.h>
+
+_Atomic(struct leaf *) plan_leaves[LEAVES];
+
+/* Plans by their keys, with linear probing. A table that grew too small stays as it was for those who read it. */
+struct table {
+    size_t mask;
+    _Atomic(const struct plan *) slots[];
+};
+
+static _Atomic(struct table *) current;
+static uint32_t plans_count; /* under the lock */
+
+static uint64_t mixed(uint64_t hash, uint64_t word)
+{
+    hash = (hash ^ word) * 0x9E3779B97F4A7C15u;
+    return hash ^ hash >> 32;
+}
+
+static uint64_t hash_of(const struct key *key)
+{
+    if (key->word)
+        return mixed(0, key->word);
+    uint64_t hash = key->length;
+    for (size_t at = 0; at < key->length; at++)
+        hash = mixed(hash, (uint64_t)key->nodes[at].count << 32 | key->nodes[at].kind);
+    return hash;
+}
+
+static bool has_key(const struct plan *plan, const struct key *key, uint64_t hash)
+{
+    if (plan->hash != hash || plan->word != key->word)
+        return false;
+    return key->word || (plan->nodes_count == key->length &&
+                         memcmp(plan->nodes, key->nodes, key->length * sizeof *key->nodes) == 0);
+}
+
+static const struct plan *found(const struct table *table, const struct key *key, uint64_t hash)
+{
+    for (size_t k = hash; table; k++) {
+        const struct plan *plan = atomic_load_explicit(&table->slots[k & table->mask], memory_order_acquire);
+        if (!plan || has_key(plan, key, hash))
+            return plan;
+    }
+    return NULL;
+}
+
+static void enter(struct table *table, const struct plan *plan)
+{
+    size_t k = plan->hash;
+    while (atomic_load_explicit(&table->slots[k & table->mask], memory_order_relaxed))
+        k++;
+    atomic_store_explicit(&table->slots[k & table->mask], plan, memory_order_release);
+}
+
+/* Whether the table has room for one more: at most half of it is full. */
+static bool has_slot(void)
+{
+    struct table *table = atomic_load(&current);
+    size_t room = table ? table->mask + 1 : 0;
+    if (2 * (size_t)(plans_count + 1) <= room)
+        return true;
+    room = room ? 2 * room : 64;
+    struct table *larger = calloc(1, sizeof *larger + room * sizeof *larger->slots);
+    if (!larger)
+        return false;
+    larger->mask = room - 1;
+    for (uint32_t k = 1; k <= plans_count; k++)
+        enter(larger, plan_at(FLAGS_OF_INDEX(k)));
+    atomic_store_explicit(&current, larger, memory_order_release);
+    return true;
+}
+
+/* Whether there is a leaf for an index. */
+static bool has_leaf(uint32_t index)
+{
+    _Atomic(struct leaf *) *at = &plan_leaves[index / PLANS_OF_LEAF];
+    struct leaf *leaf = atomic_load(at);
+    if (!leaf && (leaf = calloc(1, sizeof *leaf)))
+        atomic_store_explicit(at, leaf, memory_order_release);
+    return leaf;
+}
+
+/* Puts a new plan into the table, under the lock. The table by indices has it first. */
+static bool has_entered(struct plan *plan)
+{
+    uint32_t index = plans_count + 1; /* 0 is none's */
+    if (index >= PLANS_OF_LEAF * LEAVES || !has_leaf(index) || !has_slot())
+        return false;
+    plan->index = plans_count = index;
+    atomic_store_explicit(&plan_leaves[index / PLANS_OF_LEAF]->plans[index % PLANS_OF_LEAF], plan, memory_order_release);
+    enter(atomic_load(&current), plan);
+    return true;
+}
+
+static const struct plan *make(struct key *key, uint64_t hash, const ffi_cif *cif, ffi_status *status)
+{
+    struct told told;
+    if (key->word)
+        key_tell(key, cif);
+    *status = key->status == FFI_OK ? ask_places(key, &told) : key->status;
+    if (*status != FFI_OK)
+        return NULL;
+    struct plan *plan = plan_from(key, &told, cif);
+    free(told.pieces);
+    const struct plan *kept = NULL;
+    if (plan) {
+        plan->hash = hash;
+        pthread_mutex_lock(&plans_lock);
+        kept = found(atomic_load(&current), key, hash);
+        if (!kept && has_entered(plan))
+            kept = plan;
+        pthread_mutex_unlock(&plans_lock);
+        if (kept != plan)
+            free(plan);
+    }
+    *status = kept ? FFI_OK : FFI_BAD_TYPEDEF;
+    return kept;
+}
+
+const struct plan *plan_for(struct key *key, const ffi_cif *cif, ffi_status *status)
+{
+    uint64_t hash = hash_of(key);
+    const struct plan *plan = found(atomic_load_explicit(&current, memory_order_acquire), key, hash);
+    *status = FFI_OK;
+    return plan ? plan : make(key, hash, cif, status);
+}
+
+/* Such an interface is not written to: it may be another library's, or another thread's. */
+const struct plan *planned_again(ffi_cif *cif)
+{
+    ffi_status status = FFI_BAD_ABI;
+    const struct plan *plan = NULL;
+    if (host_has_abi(cif->abi, false) && cif->nargs <= MOST_ARGUMENTS) {
+        struct key key;
+        key_begin(&key, cif, FFI3_NOT_VARIADIC);
+        status = key.status;
+        if (status == FFI_OK)
+            plan = plan_for(&key, cif, &status);
+        key_end(&key);
+    }
+    if (!plan) {
+        fprintf(stderr, "libffi: a call through an interface that is not prepared (status %d)\n", (int)status);
+        abort();
+    }
+    return plan;
+}
