@@ -4,6 +4,12 @@
 #include <alloca.h>
 #include <string.h>
 
+#define ALWAYS_INLINE __attribute__((always_inline)) static inline
+
+#define SMALL_FRAME 128  /* bytes of a frame that stands in the function's own */
+#define FEW_ARGUMENTS 8
+#define SMALL_SCRATCH 64 /* bytes of a closure's gathered arguments */
+
 #define WIDEN(type, signs, to, from)               \
     do {                                           \
         type value;                                \
@@ -53,11 +59,9 @@ static inline void pass(const struct plan *plan, char *exchange, void **values)
     }
 }
 
-/* Exchange and frame are this function's own, on its stack; what the compiler makes of alloca touches each page. */
-static inline void call_with_chain(ffi_cif *cif, void (*fn)(void), void *result, void **values, void *chain)
+ALWAYS_INLINE void call_with(struct exchange *registers, const struct plan *plan, void (*fn)(void), void *result,
+                             void **values, void *chain)
 {
-    const struct plan *plan = plan_of(cif);
-    struct exchange *registers = __builtin_alloca_with_align(FRAME_AT + plan->frame, 128);
     char *exchange = (char *)registers;
     registers->general[0] = plan->vectors; /* rax; where register 0 is an argument's, that comes after */
     pass(plan, exchange, values);
@@ -71,6 +75,26 @@ static inline void call_with_chain(ffi_cif *cif, void (*fn)(void), void *result,
         return;
     for (const struct move *move = plan->results, *end = move + plan->results_count; move < end; move++)
         play(move, (char *)result + move->to, exchange + move->from);
+}
+
+/* Exchange and frame stand on this function's stack; the compiler touches each page of what alloca takes. */
+__attribute__((noinline)) static void call_with_frame(const struct plan *plan, void (*fn)(void), void *result, void **values,
+                                                      void *chain)
+{
+    call_with(__builtin_alloca_with_align(FRAME_AT + plan->frame, 128), plan, fn, result, values, chain);
+}
+
+static inline void call_with_chain(ffi_cif *cif, void (*fn)(void), void *result, void **values, void *chain)
+{
+    const struct plan *plan = plan_of(cif);
+    _Alignas(16) struct {
+        struct exchange registers;
+        char frame[SMALL_FRAME];
+    } own;
+    if (plan->frame <= sizeof own.frame)
+        call_with(&own.registers, plan, fn, result, values, chain);
+    else
+        call_with_frame(plan, fn, result, values, chain);
 }
 
 void ffi_call(ffi_cif *cif, void (*fn)(void), void *rvalue, void **avalue)
@@ -106,13 +130,13 @@ static inline void *find(const struct plan *plan, const struct source *source, c
     return at;
 }
 
-static inline void receive(char *exchange, char *frame, ffi_cif *cif, function *fun, void *user_data)
+#define ENTERED const struct plan *plan, char *exchange, char *frame, ffi_cif *cif, function *fun, void *user_data
+
+ALWAYS_INLINE void serve(ENTERED, void **values, char *scratch)
 {
-    const struct plan *plan = plan_of(cif);
-    void **values = alloca(plan->nargs * sizeof *values);
-    char *scratch = __builtin_alloca_with_align(plan->scratch, 128);
-    _Alignas(16) uint64_t own_result[8] = {0}; /* as much as registers give back */
+    _Alignas(16) uint64_t own_result[8]; /* as much as registers give back */
     void *result = own_result;
+    own_result[0] = own_result[1] = 0;
     for (uint32_t i = 0; i < plan->nargs; i++)
         values[i] = find(plan, &plan->sources[i], exchange, frame, scratch);
     if (plan->hidden != NO_PLACE)
@@ -125,12 +149,30 @@ static inline void receive(char *exchange, char *frame, ffi_cif *cif, function *
         play(move, exchange + move->from, (char *)result + move->to);
 }
 
+__attribute__((noinline)) static void serve_many(ENTERED)
+{
+    void **values = alloca(plan->nargs * sizeof *values);
+    serve(plan, exchange, frame, cif, fun, user_data, values, __builtin_alloca_with_align(plan->scratch, 128));
+}
+
+ALWAYS_INLINE void receive(ENTERED)
+{
+    void *values[FEW_ARGUMENTS];
+    _Alignas(16) char scratch[SMALL_SCRATCH];
+    if (plan->nargs <= FEW_ARGUMENTS && plan->scratch <= sizeof scratch)
+        serve(plan, exchange, frame, cif, fun, user_data, values, scratch);
+    else
+        serve_many(plan, exchange, frame, cif, fun, user_data);
+}
+
 void receive_closure(char *exchange, ffi_closure *closure, char *frame)
 {
-    receive(exchange, frame, closure->cif, closure->fun, closure->user_data);
+    ffi_cif *cif = closure->cif;
+    receive(plan_of(cif), exchange, frame, cif, closure->fun, closure->user_data);
 }
 
 void receive_go_closure(char *exchange, ffi_go_closure *closure, char *frame)
 {
-    receive(exchange, frame, closure->cif, closure->fun, closure);
+    ffi_cif *cif = closure->cif;
+    receive(plan_of(cif), exchange, frame, cif, closure->fun, closure);
 }

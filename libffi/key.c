@@ -6,7 +6,6 @@
 
 #define DEEPEST 16         /* structs in structs: the library's own limit */
 #define MOST_NODES 1000000 /* of a signature */
-#define NIBBLES 16         /* of a key in a word */
 
 static const uint8_t SCALARS[FFI_TYPE_LAST + 1] = {
     [FFI_TYPE_VOID] = FFI3_VOID,     [FFI_TYPE_INT] = FFI3_SINT32,    [FFI_TYPE_FLOAT] = FFI3_FLOAT,
@@ -21,7 +20,7 @@ uint32_t scalar_kind(unsigned short type) { return type <= FFI_TYPE_LAST ? SCALA
 
 /* ---- Nodes */
 
-static bool has_more_room(struct key *key)
+bool key_has_more_room(struct key *key)
 {
     size_t room = 4 * key->room;
     struct ffi3_node *nodes = room <= MOST_NODES ? malloc(room * sizeof *nodes) : NULL;
@@ -34,12 +33,6 @@ static bool has_more_room(struct key *key)
     key->nodes = nodes;
     key->room = room;
     return true;
-}
-
-void key_put(struct key *key, uint32_t kind, uint32_t count)
-{
-    if (key->length < key->room || has_more_room(key))
-        key->nodes[key->length++] = (struct ffi3_node){kind, count};
 }
 
 void key_end(struct key *key)
@@ -60,7 +53,8 @@ size_t type_end(const struct ffi3_node *nodes, size_t at)
 
 /* ---- Types as they are */
 
-static size_t rounded(size_t size, size_t alignment) { return (size + alignment - 1) / alignment * alignment; }
+/* `alignment` is a power of two. */
+static inline size_t rounded(size_t size, size_t alignment) { return (size + alignment - 1) & ~(alignment - 1); }
 
 bool is_natural(const ffi_type *type)
 {
@@ -145,37 +139,15 @@ static void put_value(struct key *key, const ffi_type *type, ffi_abi abi, bool i
 
 /* ---- Signatures */
 
-/* A signature of scalars in a word: a nibble for the convention and one for each type, of which the first is not 0. */
-static uint64_t word_of(ffi_abi abi, unsigned nargs, const ffi_type *rtype, ffi_type **atypes)
-{
-    uint64_t word = (uint64_t)abi << 4 | rtype->type;
-    if (nargs > NIBBLES - 2 || rtype->type >= FFI_TYPE_COMPLEX || rtype->type == FFI_TYPE_STRUCT)
-        return 0;
-    for (unsigned i = 0; i < nargs; i++) {
-        unsigned short type = atypes[i]->type;
-        if (type == FFI_TYPE_VOID || type == FFI_TYPE_STRUCT || type >= FFI_TYPE_COMPLEX)
-            return 0;
-        word = word << 4 | type;
-    }
-    return word;
-}
-
-void key_begin(struct key *key, const ffi_cif *cif, unsigned fixed)
+void key_tell(struct key *key, const ffi_cif *cif, unsigned fixed)
 {
     key->nodes = key->own_nodes;
     key->room = sizeof key->own_nodes / sizeof *key->own_nodes;
     key->length = 0;
     key->status = FFI_OK;
     key->fixed = fixed;
-    key->word = fixed == FFI3_NOT_VARIADIC ? word_of(cif->abi, cif->nargs, cif->rtype, cif->arg_types) : 0;
-    if (!key->word)
-        key_tell(key, cif);
-}
-
-void key_tell(struct key *key, const ffi_cif *cif)
-{
     key_put(key, NODE_SIGNATURE, cif->abi);
-    key_put(key, NODE_FIXED, key->fixed);
+    key_put(key, NODE_FIXED, fixed);
     put_value(key, cif->rtype, cif->abi, true);
     for (unsigned i = 0; i < cif->nargs && key->status == FFI_OK; i++)
         put_value(key, cif->arg_types[i], cif->abi, false);

@@ -14,7 +14,6 @@
 #define NODES_BEFORE_TYPES 2
 
 struct key {
-    uint64_t word;           /* all of a signature of few scalars, and then there may be no nodes; else 0 */
     struct ffi3_node *nodes; /* own_nodes, or malloc's: the two, the result, the arguments, those that are void too */
     size_t length, room;
     unsigned fixed;
@@ -23,13 +22,37 @@ struct key {
 };
 
 /* Makes the key of an interface whose types are laid out. `fixed` is how many arguments are, or FFI3_NOT_VARIADIC.
- * key_tell adds the nodes of one that has a word alone; key_end gives memory back. */
-void key_begin(struct key *key, const ffi_cif *cif, unsigned fixed);
-void key_tell(struct key *key, const ffi_cif *cif);
+ * key_end gives memory back. */
+void key_tell(struct key *key, const ffi_cif *cif, unsigned fixed);
 void key_end(struct key *key);
 
+/* A signature of at most 14 arguments, none of them variadic, and all scalars, is known by one word too: a nibble for the
+ * convention, which is not 0, and one for each type. Answers 0 for another signature. */
+static inline uint64_t word_of(ffi_abi abi, unsigned nargs, const ffi_type *rtype, ffi_type **atypes)
+{
+    uint64_t word = (uint64_t)abi << 4 | rtype->type;
+    if (nargs > 14 || rtype->type >= FFI_TYPE_COMPLEX || rtype->type == FFI_TYPE_STRUCT)
+        return 0;
+    for (unsigned i = 0; i < nargs; i++) {
+        unsigned short type = atypes[i]->type;
+        if (type == FFI_TYPE_VOID || type == FFI_TYPE_STRUCT || type >= FFI_TYPE_COMPLEX)
+            return 0;
+        word = word << 4 | type;
+    }
+    return word;
+}
+
+bool key_has_more_room(struct key *key);
+
 /* Adds a node, or notes that memory was refused. */
-void key_put(struct key *key, uint32_t kind, uint32_t count);
+static inline void key_put(struct key *key, uint32_t kind, uint32_t count)
+{
+    if (__builtin_expect(key->length == key->room, 0) && !key_has_more_room(key))
+        return;
+    struct ffi3_node *node = &key->nodes[key->length++];
+    node->kind = kind;
+    node->count = count;
+}
 
 /* Where in nodes the type ends that begins at `at`. */
 size_t type_end(const struct ffi3_node *nodes, size_t at);

@@ -2,13 +2,13 @@
 #include "key.h"
 #include <stdlib.h>
 
-#define DEEPEST 16
+#define DEEPEST 16 /* structs in structs */
 
-/* The nodes of a layout: each element that is no scalar is told as an array of integers of its size and alignment. */
-struct elements {
+/* The nodes of a struct. A member that is no scalar is told as an array of integers of its size and alignment, since that
+ * is all that counts for a layout. */
+struct members {
     struct ffi3_node *nodes;
     size_t length;
-    size_t count;
 };
 
 static uint32_t integer_of(size_t bytes)
@@ -23,17 +23,16 @@ static uint32_t integer_of(size_t bytes)
     }
 }
 
-static void put(struct elements *to, uint32_t kind, uint32_t count)
+static void put(struct members *to, uint32_t kind, uint32_t count)
 {
     to->nodes[to->length++] = (struct ffi3_node){kind, count};
 }
 
-static bool has_put(struct elements *to, const ffi_type *type)
+static bool has_put(struct members *to, const ffi_type *type)
 {
     uint32_t kind = scalar_kind(type->type), unit = integer_of(type->alignment);
     if (kind == FFI3_VOID)
         return false;
-    to->count++;
     if (kind != FFI3_STRUCT) {
         put(to, kind, 0);
         return true;
@@ -46,42 +45,17 @@ static bool has_put(struct elements *to, const ffi_type *type)
     return true;
 }
 
-/* How many leaves the element has whose nodes begin at `at`, and where the next begins. */
-static size_t leaves_of(const struct ffi3_node *nodes, size_t *at)
+static ffi_status ask(const struct members *from, size_t count, ffi_type *type, size_t *offsets)
 {
-    if (nodes[*at].kind != FFI3_STRUCT) {
-        ++*at;
-        return 1;
-    }
-    *at += 3;
-    return nodes[*at - 2].count;
-}
-
-static ffi_status ask(const struct elements *from, ffi_type *type, size_t *offsets)
-{
-    struct ffi3_layout layout;
-    struct ffi3_leaf own_leaves[64], *leaves = own_leaves;
-    size_t room = offsets ? sizeof own_leaves / sizeof *own_leaves : 0;
-    uint32_t told = ffi3_layout_nodes(from->nodes, from->length, FFI3_NOT_VARIADIC, 0, &layout, leaves, room);
-    if (told == FFI3_TOO_SMALL && offsets) {
-        leaves = malloc(layout.leaves * sizeof *leaves);
-        told = leaves ? ffi3_layout_nodes(from->nodes, from->length, FFI3_NOT_VARIADIC, 0, &layout, leaves, layout.leaves)
-                      : FFI3_OUT_OF_MEMORY;
-    }
-    bool is_told = told == FFI3_OK || (told == FFI3_TOO_SMALL && !offsets);
-    if (is_told) {
-        size_t leaf = 0, at = 2;
-        for (size_t i = 0; offsets && i < from->count; i++) {
-            offsets[i] = leaves[leaf].offset;
-            leaf += leaves_of(from->nodes, &at);
-        }
-        /* Another thread that sees the size has to see the alignment too. */
-        type->alignment = (unsigned short)layout.align;
-        __atomic_store_n(&type->size, layout.size, __ATOMIC_RELEASE);
-    }
-    if (leaves != own_leaves)
-        free(leaves);
-    return is_told ? FFI_OK : FFI_BAD_TYPEDEF;
+    struct ffi3_type found;
+    size_t none;
+    uint32_t told = ffi3_offsets_nodes(from->nodes, from->length, &found, offsets ? offsets : &none, offsets ? count : 0);
+    if (told != FFI3_OK && (offsets || told != FFI3_TOO_SMALL))
+        return FFI_BAD_TYPEDEF;
+    /* Another thread that sees the size has to see the alignment too. */
+    type->alignment = (unsigned short)found.align;
+    __atomic_store_n(&type->size, found.size, __ATOMIC_RELEASE);
+    return FFI_OK;
 }
 
 static ffi_status lay_out_inside(ffi_type *type, size_t *offsets, int depth)
@@ -92,30 +66,22 @@ static ffi_status lay_out_inside(ffi_type *type, size_t *offsets, int depth)
     for (ffi_type **it = type->elements; *it; it++, count++)
         if (__atomic_load_n(&(*it)->size, __ATOMIC_ACQUIRE) == 0 && lay_out_inside(*it, NULL, depth + 1) != FFI_OK)
             return FFI_BAD_TYPEDEF;
-    bool is_complex = type->type == FFI_TYPE_COMPLEX;
+    bool is_complex = type->type == FFI_TYPE_COMPLEX; /* whose one element is both of its parts */
     struct ffi3_node own_nodes[64];
-    struct elements elements = {.nodes = own_nodes};
-    if (3 * count + 5 > sizeof own_nodes / sizeof *own_nodes)
-        elements.nodes = malloc((3 * count + 5) * sizeof *own_nodes);
-    if (!elements.nodes)
+    struct members members = {.nodes = own_nodes};
+    size_t most = 3 * (count + is_complex) + 1;
+    if (most > sizeof own_nodes / sizeof *own_nodes)
+        members.nodes = malloc(most * sizeof *own_nodes);
+    if (!members.nodes)
         return FFI_BAD_TYPEDEF;
-    put(&elements, FFI3_VOID, 0);
-    put(&elements, FFI3_STRUCT, (uint32_t)count + is_complex);
-    bool is_right = true;
+    put(&members, FFI3_STRUCT, (uint32_t)count + is_complex);
+    bool is_right = !is_complex || has_put(&members, type->elements[0]);
     for (ffi_type **it = type->elements; *it && is_right; it++)
-        is_right = has_put(&elements, *it);
-    if (is_right && is_complex)
-        is_right = has_put(&elements, type->elements[0]);
-    elements.count -= is_complex;
-    ffi_status status = is_right ? ask(&elements, type, offsets) : FFI_BAD_TYPEDEF;
-    if (elements.nodes != own_nodes)
-        free(elements.nodes);
+        is_right = has_put(&members, *it);
+    ffi_status status = is_right ? ask(&members, count, type, offsets) : FFI_BAD_TYPEDEF;
+    if (members.nodes != own_nodes)
+        free(members.nodes);
     return status;
 }
 
 ffi_status lay_out(ffi_type *type, size_t *offsets) { return lay_out_inside(type, offsets, 0); }
-
-bool is_laid_out(ffi_type *type)
-{
-    return __atomic_load_n(&type->size, __ATOMIC_ACQUIRE) != 0 || lay_out(type, NULL) == FFI_OK;
-}

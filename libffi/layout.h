@@ -9,6 +9,9 @@
 ffi_status lay_out(ffi_type *type, size_t *offsets);
 
 /* Whether a type has a size, or is given one. Another thread may be giving it the same one. */
-bool is_laid_out(ffi_type *type);
+static inline bool is_laid_out(ffi_type *type)
+{
+    return __atomic_load_n(&type->size, __ATOMIC_ACQUIRE) != 0 || lay_out(type, NULL) == FFI_OK;
+}
 
 #endif

@@ -6,7 +6,7 @@
 
 #define MOST_PIECES 96 /* for most signatures */
 
-/* The nodes that the library is told for those of a key; answers how many. The room is enough: see ask_places. */
+/* The nodes that the library is told for those of a key; answers how many. The room is enough: see has_asked_places. */
 static size_t told_nodes(const struct key *key, struct ffi3_node *told, uint32_t *fixed)
 {
     size_t count = 0, result_end = type_end(key->nodes, NODES_BEFORE_TYPES);
@@ -30,7 +30,7 @@ static size_t told_nodes(const struct key *key, struct ffi3_node *told, uint32_t
     return count;
 }
 
-ffi_status ask_places(const struct key *key, struct told *told)
+bool has_asked_places(const struct key *key, struct told *told)
 {
     uint32_t fixed, status = FFI3_OUT_OF_MEMORY;
     size_t room = MOST_PIECES;
@@ -52,8 +52,8 @@ ffi_status ask_places(const struct key *key, struct told *told)
         free(nodes);
     if (status != FFI3_OK || told->call.frame > INT32_MAX) {
         free(told->pieces);
-        return FFI_BAD_TYPEDEF;
+        return false;
     }
     host_correct(key, told);
-    return FFI_OK;
+    return true;
 }

@@ -141,9 +141,9 @@ static void fill(struct plan *plan, const struct told *told, const ffi_cif *cif)
             plan->back = place_of(&told->pieces[k]);
 }
 
-struct plan *plan_from(const struct key *key, const struct told *told, const ffi_cif *cif)
+struct plan *plan_from(const struct key *key, uint64_t word, const struct told *told, const ffi_cif *cif)
 {
-    size_t pieces = told->call.pieces + 2, nargs = cif->nargs, nodes = key->word ? 0 : key->length;
+    size_t pieces = told->call.pieces + 2, nargs = cif->nargs, nodes = word ? 0 : key->length;
     size_t size = sizeof(struct plan) + 3 * pieces * sizeof(struct move) + nargs * sizeof(struct source);
     struct plan *plan = calloc(1, size + nodes * sizeof *plan->nodes);
     if (!plan)
@@ -156,7 +156,7 @@ struct plan *plan_from(const struct key *key, const struct told *told, const ffi
     memcpy(kept, key->nodes, nodes * sizeof *kept);
     plan->nodes = kept;
     plan->nodes_count = nodes;
-    plan->word = key->word;
+    plan->word = word;
     plan->abi = cif->abi;
     plan->nargs = cif->nargs;
     plan->frame = (uint32_t)told->call.frame;

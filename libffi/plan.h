@@ -50,7 +50,7 @@ struct source {
 };
 
 struct plan {
-    uint64_t word; /* of its key; where it is 0, the key has these nodes */
+    uint64_t word; /* of the signature; where it is 0, its key has these nodes */
     uint64_t hash;
     const struct ffi3_node *nodes;
     size_t nodes_count;
@@ -73,20 +73,21 @@ struct plan {
     struct source *sources;
 };
 
-/* What ffi3_place_nodes told. The caller of ask_places frees the pieces. */
+/* What ffi3_place_nodes told. The caller of has_asked_places frees the pieces. */
 struct told {
     struct ffi3_call call;
     struct ffi3_piece *pieces;
 };
 
-/* Asks the proved library for the places of a key that has nodes. */
-ffi_status ask_places(const struct key *key, struct told *told);
+/* Asks the proved library for the places of a key; answers false where it has none, or memory was refused. */
+bool has_asked_places(const struct key *key, struct told *told);
 
 /* Makes a plan of what was told: malloc's, or NULL. */
-struct plan *plan_from(const struct key *key, const struct told *told, const ffi_cif *cif);
+struct plan *plan_from(const struct key *key, uint64_t word, const struct told *told, const ffi_cif *cif);
 
-/* The plan of a key, from the table or a new one; or NULL, and why. */
-const struct plan *plan_for(struct key *key, const ffi_cif *cif, ffi_status *status);
+/* The plan of an interface whose types are laid out, from the table or a new one; or NULL, where there is none or memory
+ * was refused. `fixed` as in key.h. */
+const struct plan *plan_for(const ffi_cif *cif, unsigned fixed);
 
 /* ---- From a prepared interface to its plan: `flags` has the index and a mark, `bytes` the plan's stack. */
 

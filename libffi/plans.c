@@ -17,35 +17,29 @@ struct table {
 static _Atomic(struct table *) current;
 static uint32_t plans_count; /* under the lock */
 
-static uint64_t mixed(uint64_t hash, uint64_t word)
-{
-    hash = (hash ^ word) * 0x9E3779B97F4A7C15u;
-    return hash ^ hash >> 32;
-}
+static inline uint64_t mixed(uint64_t hash, uint64_t word) { return (hash + word) * 0x9E3779B97F4A7C15u; }
+
+static inline uint64_t finished(uint64_t hash) { return hash ^ hash >> 32; }
 
 static uint64_t hash_of(const struct key *key)
 {
-    if (key->word)
-        return mixed(0, key->word);
     uint64_t hash = key->length;
     for (size_t at = 0; at < key->length; at++)
         hash = mixed(hash, (uint64_t)key->nodes[at].count << 32 | key->nodes[at].kind);
-    return hash;
+    return finished(hash);
 }
 
-static bool has_key(const struct plan *plan, const struct key *key, uint64_t hash)
-{
-    if (plan->hash != hash || plan->word != key->word)
-        return false;
-    return key->word || (plan->nodes_count == key->length &&
-                         memcmp(plan->nodes, key->nodes, key->length * sizeof *key->nodes) == 0);
-}
-
-static const struct plan *found(const struct table *table, const struct key *key, uint64_t hash)
+/* The plan of a word, or, where that is 0, of a key. */
+static inline const struct plan *found(const struct table *table, uint64_t hash, uint64_t word, const struct key *key)
 {
     for (size_t k = hash; table; k++) {
         const struct plan *plan = atomic_load_explicit(&table->slots[k & table->mask], memory_order_acquire);
-        if (!plan || has_key(plan, key, hash))
+        if (!plan)
+            return NULL;
+        if (plan->hash != hash || plan->word != word)
+            continue;
+        if (word || (plan->nodes_count == key->length &&
+                     memcmp(plan->nodes, key->nodes, key->length * sizeof *key->nodes) == 0))
             return plan;
     }
     return NULL;
@@ -99,54 +93,62 @@ static bool has_entered(struct plan *plan)
     return true;
 }
 
-static const struct plan *make(struct key *key, uint64_t hash, const ffi_cif *cif, ffi_status *status)
+/* A new plan of a key that has nodes, or the one that another thread has made of it. */
+static const struct plan *make(const struct key *key, uint64_t hash, uint64_t word, const ffi_cif *cif)
 {
     struct told told;
-    if (key->word)
-        key_tell(key, cif);
-    *status = key->status == FFI_OK ? ask_places(key, &told) : key->status;
-    if (*status != FFI_OK)
+    if (!has_asked_places(key, &told))
         return NULL;
-    struct plan *plan = plan_from(key, &told, cif);
-    free(told.pieces);
+    struct plan *plan = plan_from(key, word, &told, cif);
     const struct plan *kept = NULL;
-    if (plan) {
-        plan->hash = hash;
-        pthread_mutex_lock(&plans_lock);
-        kept = found(atomic_load(&current), key, hash);
-        if (!kept && has_entered(plan))
-            kept = plan;
-        pthread_mutex_unlock(&plans_lock);
-        if (kept != plan)
-            free(plan);
-    }
-    *status = kept ? FFI_OK : FFI_BAD_TYPEDEF;
+    free(told.pieces);
+    if (!plan)
+        return NULL;
+    plan->hash = hash;
+    pthread_mutex_lock(&plans_lock);
+    kept = found(atomic_load(&current), hash, word, key);
+    if (!kept && has_entered(plan))
+        kept = plan;
+    pthread_mutex_unlock(&plans_lock);
+    if (kept != plan)
+        free(plan);
     return kept;
 }
 
-const struct plan *plan_for(struct key *key, const ffi_cif *cif, ffi_status *status)
+static const struct plan *plan_by_nodes(const ffi_cif *cif, unsigned fixed, uint64_t word)
 {
-    uint64_t hash = hash_of(key);
-    const struct plan *plan = found(atomic_load_explicit(&current, memory_order_acquire), key, hash);
-    *status = FFI_OK;
-    return plan ? plan : make(key, hash, cif, status);
+    struct key key;
+    const struct plan *plan = NULL;
+    key_tell(&key, cif, fixed);
+    if (key.status == FFI_OK) {
+        uint64_t hash = word ? finished(mixed(0, word)) : hash_of(&key);
+        plan = word ? NULL : found(atomic_load_explicit(&current, memory_order_acquire), hash, word, &key);
+        plan = plan ? plan : make(&key, hash, word, cif);
+    }
+    key_end(&key);
+    return plan;
+}
+
+const struct plan *plan_for(const ffi_cif *cif, unsigned fixed)
+{
+    uint64_t word = fixed == FFI3_NOT_VARIADIC ? word_of(cif->abi, cif->nargs, cif->rtype, cif->arg_types) : 0;
+    if (word) {
+        struct table *table = atomic_load_explicit(&current, memory_order_acquire);
+        const struct plan *plan = found(table, finished(mixed(0, word)), word, NULL);
+        if (plan)
+            return plan;
+    }
+    return plan_by_nodes(cif, fixed, word);
 }
 
 /* Such an interface is not written to: it may be another library's, or another thread's. */
 const struct plan *planned_again(ffi_cif *cif)
 {
-    ffi_status status = FFI_BAD_ABI;
     const struct plan *plan = NULL;
-    if (host_has_abi(cif->abi, false) && cif->nargs <= MOST_ARGUMENTS) {
-        struct key key;
-        key_begin(&key, cif, FFI3_NOT_VARIADIC);
-        status = key.status;
-        if (status == FFI_OK)
-            plan = plan_for(&key, cif, &status);
-        key_end(&key);
-    }
+    if (host_has_abi(cif->abi, false) && cif->nargs <= MOST_ARGUMENTS)
+        plan = plan_for(cif, FFI3_NOT_VARIADIC);
     if (!plan) {
-        fprintf(stderr, "libffi: a call through an interface that is not prepared (status %d)\n", (int)status);
+        fputs("libffi: a call through an interface that is not prepared\n", stderr);
         abort();
     }
     return plan;

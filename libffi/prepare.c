@@ -3,19 +3,9 @@
 #include "layout.h"
 #include "plan.h"
 
-/* Fills the interface, once it is known: nobody who uses it while it is prepared again sees another one in between. */
-static void publish(ffi_cif *cif, const ffi_cif *made, const struct plan *plan)
-{
-    cif->abi = made->abi;
-    cif->nargs = made->nargs;
-    cif->arg_types = made->arg_types;
-    cif->rtype = made->rtype;
-    cif->bytes = plan ? plan->stack : 0;
-    __atomic_store_n(&cif->flags, plan ? FLAGS_OF_INDEX(plan->index) : 0, __ATOMIC_RELEASE);
-}
-
-static ffi_status prepare(ffi_cif *cif, ffi_abi abi, unsigned fixed, unsigned nargs, ffi_type *rtype,
-                          ffi_type **atypes)
+/* Nobody who uses an interface while it is prepared again sees another one in between. */
+static inline ffi_status prepare(ffi_cif *cif, ffi_abi abi, unsigned fixed, unsigned nargs, ffi_type *rtype,
+                                 ffi_type **atypes)
 {
     ffi_cif made = {.abi = abi, .nargs = nargs, .arg_types = atypes, .rtype = rtype};
     if (!host_has_abi(abi, fixed != FFI3_NOT_VARIADIC))
@@ -25,15 +15,14 @@ static ffi_status prepare(ffi_cif *cif, ffi_abi abi, unsigned fixed, unsigned na
     bool are_laid_out = is_laid_out(rtype);
     for (unsigned i = 0; i < nargs && are_laid_out; i++)
         are_laid_out = is_laid_out(atypes[i]);
-    if (!are_laid_out)
-        return FFI_BAD_TYPEDEF;
-    struct key key;
-    key_begin(&key, &made, fixed);
-    ffi_status status = key.status;
-    const struct plan *plan = status == FFI_OK ? plan_for(&key, &made, &status) : NULL;
-    key_end(&key);
-    publish(cif, &made, plan);
-    return status;
+    const struct plan *plan = are_laid_out ? plan_for(&made, fixed) : NULL;
+    cif->abi = abi;
+    cif->nargs = nargs;
+    cif->arg_types = atypes;
+    cif->rtype = rtype;
+    cif->bytes = plan ? plan->stack : 0;
+    __atomic_store_n(&cif->flags, plan ? FLAGS_OF_INDEX(plan->index) : 0, __ATOMIC_RELEASE);
+    return plan ? FFI_OK : FFI_BAD_TYPEDEF;
 }
 
 ffi_status ffi_prep_cif(ffi_cif *cif, ffi_abi abi, unsigned nargs, ffi_type *rtype, ffi_type **atypes)

@@ -99,13 +99,27 @@ static void open_block(struct block *block)
     open_blocks = block;
 }
 
+/* A thread that is cancelled while it maps a block would keep the lock. */
+static char *mapped_block(void)
+{
+    int state = PTHREAD_CANCEL_ENABLE;
+    pthread_setcancelstate(PTHREAD_CANCEL_DISABLE, &state);
+    char *at = mmap(NULL, 2 * BLOCK_BYTES, PROT_READ | PROT_WRITE, MAP_PRIVATE | MAP_ANONYMOUS, -1, 0);
+    if (at == MAP_FAILED)
+        at = NULL;
+    if (at && !has_code_of_file(at) && !has_code_of_its_own(at)) {
+        munmap(at, 2 * BLOCK_BYTES);
+        at = NULL;
+    }
+    pthread_setcancelstate(state, NULL);
+    return at;
+}
+
 static struct block *new_block(void)
 {
     struct block *block = has_room_for_block() ? calloc(1, sizeof *block) : NULL;
-    char *at = block ? mmap(NULL, 2 * BLOCK_BYTES, PROT_READ | PROT_WRITE, MAP_PRIVATE | MAP_ANONYMOUS, -1, 0) : MAP_FAILED;
-    if (at == MAP_FAILED || (!has_code_of_file(at) && !has_code_of_its_own(at))) {
-        if (at != MAP_FAILED)
-            munmap(at, 2 * BLOCK_BYTES);
+    char *at = block ? mapped_block() : NULL;
+    if (!at) {
         free(block);
         return NULL;
     }
@@ -186,18 +200,14 @@ static struct block *block_of(const void *closure)
     return NULL;
 }
 
-/* A thread that is cancelled while it maps a block would keep the lock. */
 void *ffi_closure_alloc(size_t size, void **code)
 {
-    int state = PTHREAD_CANCEL_ENABLE;
     if (!code || size > BLOCK_BYTES)
         return NULL;
     uint32_t count = size ? (uint32_t)((size + SLOT_BYTES - 1) / SLOT_BYTES) : 1;
-    pthread_setcancelstate(PTHREAD_CANCEL_DISABLE, &state);
     pthread_mutex_lock(&slots_lock);
     char *closure = take_slots(count, code);
     pthread_mutex_unlock(&slots_lock);
-    pthread_setcancelstate(state, NULL);
     return closure;
 }
 
