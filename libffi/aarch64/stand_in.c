@@ -23,11 +23,10 @@ static bool put_bytes(struct key *key, const ffi_type *type)
 }
 
 /* A homogeneous aggregate has one to four floats, or doubles, in all of its bytes (AAPCS64, "Homogeneous Aggregates"). */
-static bool is_homogeneous(const ffi_type *type, uint64_t real, const struct shape *shape, size_t size)
+static bool is_homogeneous(const ffi_type *type, uint64_t real, uint64_t others, size_t size)
 {
-    uint64_t all = shape->integer | shape->real4 | shape->real8 | shape->real16;
     uint64_t whole = type->size < 64 ? (UINT64_C(1) << type->size) - 1 : UINT64_MAX;
-    return real == all && real == whole && type->size % size == 0 && type->size / size <= 4;
+    return others == 0 && real == whole && type->size % size == 0 && type->size / size <= 4;
 }
 
 static bool put_homogeneous(struct key *key, uint32_t kind, size_t count)
@@ -54,10 +53,13 @@ bool host_put_stand_in(struct key *key, const ffi_type *type, ffi_abi abi)
     (void)abi;
     if (type->size == 0 || type->alignment == 0 || type->alignment > 16 || (type->alignment & (type->alignment - 1)))
         return false;
-    if (!find_shape(type, &shape))
-        return type->size > WIDEST_OF_DOUBLES && !has_long_double(type, 0) && put_bytes(key, type);
-    bool is_float = is_homogeneous(type, shape.real4, &shape, 4);
-    if (is_float || is_homogeneous(type, shape.real8, &shape, 8)) {
+    if (!find_shape(type, &shape)) {
+        size_t widest = has_long_double(type, 0) ? SHAPE_BYTES : WIDEST_OF_DOUBLES;
+        return type->size > widest && put_bytes(key, type);
+    }
+    uint64_t others = shape.integer | shape.real16;
+    bool is_float = is_homogeneous(type, shape.real4, others | shape.real8, 4);
+    if (is_float || is_homogeneous(type, shape.real8, others | shape.real4, 8)) {
         return type->alignment <= 8 && put_homogeneous(key, is_float ? FFI3_FLOAT : FFI3_DOUBLE,
                                                        type->size / (is_float ? 4 : 8));
     }
