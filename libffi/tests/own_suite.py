@@ -27,7 +27,7 @@ CONFIG = """#define HAVE_STDINT_H 1
 #define HAVE_MMAP_ANON 1
 #define HAVE_LONG_DOUBLE 1
 #define HAVE_ALLOCA_H 1
-#define FFI_EXEC_STATIC_TRAMP 1 /* libffi's default here: a closure's code is not a view of the closure */
+#define FFI_EXEC_STATIC_TRAMP 1 /* as libffi has it by default: a closure's code is not a view of the closure */
 #define FFI_HIDDEN __attribute__((visibility("hidden")))
 """
 WARNINGS = ["-w", "-Wno-psabi"]
@@ -121,7 +121,7 @@ def main():
             counts[folder]["same output"] += not told.startswith("other output")
             if ours != "pass" or told.startswith("other output"):
                 last = told.strip().splitlines()[-1] if told.strip() else ""
-                print(f"{folder}/{source.name} {' '.join(options)}: drop-in {ours}, libffi {theirs}: {last[:150]}",
+                print(f"{folder}/{source.name} {' '.join(options)}: ours {ours}, libffi {theirs}: {last[:150]}",
                       flush=True)
     for folder, count in counts.items():
         print(folder, dict(count))
