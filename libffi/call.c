@@ -78,8 +78,8 @@ ALWAYS_INLINE void call_with(struct exchange *registers, const struct plan *plan
 }
 
 /* Exchange and frame stand on this function's stack; the compiler touches each page of what alloca takes. */
-__attribute__((noinline)) static void call_with_frame(const struct plan *plan, void (*fn)(void), void *result, void **values,
-                                                      void *chain)
+__attribute__((noinline)) static void call_with_frame(const struct plan *plan, void (*fn)(void), void *result,
+                                                      void **values, void *chain)
 {
     call_with(__builtin_alloca_with_align(FRAME_AT + plan->frame, 128), plan, fn, result, values, chain);
 }
@@ -117,7 +117,8 @@ static inline char *place(char *exchange, char *frame, uint32_t at)
     return at < FRAME_AT ? exchange + at : frame + (at - FRAME_AT);
 }
 
-static inline void *find(const struct plan *plan, const struct source *source, char *exchange, char *frame, char *scratch)
+static inline void *find(const struct plan *plan, const struct source *source, char *exchange, char *frame,
+                         char *scratch)
 {
     char *at = scratch + source->at;
     if (source->kind == AT_PLACE)

@@ -9,8 +9,8 @@
 void receive_closure(char *exchange, ffi_closure *closure, char *frame);
 void receive_go_closure(char *exchange, ffi_go_closure *closure, char *frame);
 
-/* Code of slots, of which slot k leads to the data BLOCK_BYTES behind it: in the library's own text, and of each block a
- * private copy of these pages. */
+/* Code of slots, of which slot k leads to the data BLOCK_BYTES behind it: in the library's own text, and of each
+ * block a private copy of these pages. */
 extern const unsigned char slots_code[];
 
 #define SLOT_BYTES 64 /* docs/FORMATS.md, section 7 */

@@ -1,8 +1,8 @@
 /* ffi.h: libffi's interface, as its manual has it, with the binary layout and the names of version 3.4.
  *
- * This header was written for this library, which is libffi.so.8 over proved placements. A program that was built with
- * libffi's own header runs over it, and one that was built with this header over libffi; tools/check_libffi compares the
- * two, name by name. libffi's manual (`info libffi`) says what each call does.
+ * This header was written for this library, which is libffi.so.8 over proved placements. A program that was built
+ * with libffi's own header runs over it, and one that was built with this header over libffi; tools/check_libffi
+ * compares the two, name by name. libffi's manual (`info libffi`) says what each call does.
  */
 #ifndef LIBFFI_H
 #define LIBFFI_H
@@ -105,8 +105,8 @@ FFI_API ffi_status ffi_get_struct_offsets(ffi_abi abi, ffi_type *struct_type, si
 
 /* ---- Closures
  *
- * ffi_closure_alloc gives memory to write a closure to, and in `code` the address by which it is called. No page is both
- * writable and executable. What was not allocated, or is freed twice, ends the process. */
+ * ffi_closure_alloc gives memory to write a closure to, and in `code` the address by which it is called. No page is
+ * both writable and executable. What was not allocated, or is freed twice, ends the process. */
 
 #if FFI_CLOSURES
 

@@ -106,8 +106,8 @@ static bool put_elements(struct key *key, const ffi_type *type, int depth)
     return true;
 }
 
-/* Adds a type as it is, or answers false where it can't be told so: somewhere its client laid it out itself, or it is of
- * another kind. What was added then is to be taken back. */
+/* Adds a type as it is, or answers false where it can't be told so: somewhere its client laid it out itself, or it
+ * is of another kind. What was added then is to be taken back. */
 static bool put_type(struct key *key, const ffi_type *type, int depth)
 {
     uint32_t kind = scalar_kind(type->type);

@@ -26,8 +26,8 @@ struct key {
 void key_tell(struct key *key, const ffi_cif *cif, unsigned fixed);
 void key_end(struct key *key);
 
-/* A signature of at most 14 arguments, none of them variadic, and all scalars, is known by one word too: a nibble for the
- * convention, which is not 0, and one for each type. Answers 0 for another signature. */
+/* A signature of at most 14 arguments, none of them variadic, and all scalars, is known by one word too: a nibble
+ * for the convention, which is not 0, and one for each type. Answers 0 for another signature. */
 static inline uint64_t word_of(ffi_abi abi, unsigned nargs, const ffi_type *rtype, ffi_type **atypes)
 {
     uint64_t word = (uint64_t)abi << 4 | rtype->type;

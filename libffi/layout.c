@@ -4,8 +4,8 @@
 
 #define DEEPEST 16 /* structs in structs */
 
-/* The nodes of a struct. A member that is no scalar is told as an array of integers of its size and alignment, since that
- * is all that counts for a layout. */
+/* The nodes of a struct. A member that is no scalar is told as an array of integers of its size and alignment, since
+ * that is all that counts for a layout. */
 struct members {
     struct ffi3_node *nodes;
     size_t length;
@@ -49,7 +49,8 @@ static ffi_status ask(const struct members *from, size_t count, ffi_type *type, 
 {
     struct ffi3_type found;
     size_t none;
-    uint32_t told = ffi3_offsets_nodes(from->nodes, from->length, &found, offsets ? offsets : &none, offsets ? count : 0);
+    uint32_t told =
+        ffi3_offsets_nodes(from->nodes, from->length, &found, offsets ? offsets : &none, offsets ? count : 0);
     if (told != FFI3_OK && (offsets || told != FFI3_TOO_SMALL))
         return FFI_BAD_TYPEDEF;
     /* Another thread that sees the size has to see the alignment too. */

@@ -5,7 +5,8 @@
 #include <ffi.h>
 #include <stdbool.h>
 
-/* Sets size and alignment of a struct or a complex type, and, where `offsets` is not NULL, the offset of each element. */
+/* Sets size and alignment of a struct or a complex type, and, where `offsets` is not NULL, the offset of each
+ * element. */
 ffi_status lay_out(ffi_type *type, size_t *offsets);
 
 /* Whether a type has a size, or is given one. Another thread may be giving it the same one. */

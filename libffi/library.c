@@ -27,6 +27,9 @@ static size_t told_nodes(const struct key *key, struct ffi3_node *told, uint32_t
     }
     if (*fixed != FFI3_NOT_VARIADIC && *fixed > not_void)
         *fixed = not_void;
+    /* The library wants one that is fixed, and libffi none; all of these standards place it as if it were not. */
+    if (*fixed == 0)
+        *fixed = not_void ? 1 : FFI3_NOT_VARIADIC;
     return count;
 }
 

@@ -1,5 +1,5 @@
-/* plan.h: plans, which say how the values of a signature are moved. One is made for each signature that was prepared, and
- * stays as long as the process: what plans take is bounded by how many signatures there are. */
+/* plan.h: plans, which say how the values of a signature are moved. One is made for each signature that was
+ * prepared, and stays as long as the process: what plans take is bounded by how many signatures there are. */
 #ifndef PLAN_H
 #define PLAN_H
 
@@ -85,8 +85,8 @@ bool has_asked_places(const struct key *key, struct told *told);
 /* Makes a plan of what was told: malloc's, or NULL. */
 struct plan *plan_from(const struct key *key, uint64_t word, const struct told *told, const ffi_cif *cif);
 
-/* The plan of an interface whose types are laid out, from the table or a new one; or NULL, where there is none or memory
- * was refused. `fixed` as in key.h. */
+/* The plan of an interface whose types are laid out, from the table or a new one; or NULL, where there is none or
+ * memory was refused. `fixed` as in key.h. */
 const struct plan *plan_for(const ffi_cif *cif, unsigned fixed);
 
 /* ---- From a prepared interface to its plan: `flags` has the index and a mark, `bytes` the plan's stack. */

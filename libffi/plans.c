@@ -88,7 +88,8 @@ static bool has_entered(struct plan *plan)
     if (index >= PLANS_OF_LEAF * LEAVES || !has_leaf(index) || !has_slot())
         return false;
     plan->index = plans_count = index;
-    atomic_store_explicit(&plan_leaves[index / PLANS_OF_LEAF]->plans[index % PLANS_OF_LEAF], plan, memory_order_release);
+    struct leaf *leaf = atomic_load(&plan_leaves[index / PLANS_OF_LEAF]);
+    atomic_store_explicit(&leaf->plans[index % PLANS_OF_LEAF], plan, memory_order_release);
     enter(atomic_load(&current), plan);
     return true;
 }

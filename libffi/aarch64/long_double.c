@@ -1,5 +1,5 @@
-/* One to four long doubles and nothing else take a whole vector register each, of which the stubs' rows move the low half.
- * The library is told doubles, which take the same registers; what is on the stack then stands elsewhere. */
+/* One to four long doubles and nothing else take a whole vector register each, of which the stubs' rows move the low
+ * half. The library is told doubles, which take the same registers; what is on the stack then stands elsewhere. */
 #include "host.h"
 #include "shape.h"
 

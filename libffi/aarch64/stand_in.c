@@ -22,7 +22,8 @@ static bool put_bytes(struct key *key, const ffi_type *type)
     return true;
 }
 
-/* A homogeneous aggregate has one to four floats, or doubles, in all of its bytes (AAPCS64, "Homogeneous Aggregates"). */
+/* A homogeneous aggregate has one to four floats, or doubles, in all of its bytes (AAPCS64, "Homogeneous
+ * Aggregates"). */
 static bool is_homogeneous(const ffi_type *type, uint64_t real, uint64_t others, size_t size)
 {
     uint64_t whole = type->size < 64 ? (UINT64_C(1) << type->size) - 1 : UINT64_MAX;
@@ -45,8 +46,8 @@ static bool has_long_double(const ffi_type *type, int depth)
     return has_one;
 }
 
-/* A type of up to 16 bytes that is not homogeneous is in general registers or on the stack by its size. By which rule one
- * is aligned that its client aligned to 16, compilers do not agree. */
+/* A type of up to 16 bytes that is not homogeneous is in general registers or on the stack by its size. By which
+ * rule one is aligned that its client aligned to 16, compilers do not agree. */
 bool host_put_stand_in(struct key *key, const ffi_type *type, ffi_abi abi)
 {
     struct shape shape;

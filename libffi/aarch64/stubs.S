@@ -1,8 +1,8 @@
-/* The rows of the four stubs, between what a real processor and its stack need beside them. rows.inc has their bytes, as
- * they are proved.
+/* The rows of the four stubs, between what a real processor and its stack need beside them. rows.inc has their
+ * bytes, as they are proved.
  *
- * Of each stub one row is another here: x17 or x16 := the exchange. What stands below is trusted; docs/TRUSTED.md counts
- * it. Nothing that is still needed stands below sp. */
+ * Of each stub one row is another here: x17 or x16 := the exchange. What stands below is trusted; docs/TRUSTED.md
+ * counts it. Nothing that is still needed stands below sp. */
 
 #include "constants.h"
 
@@ -62,8 +62,9 @@ make_call:
 	.cfi_endproc
 	.size	make_call, .-make_call
 
-/* Entry, the call of a function in C, and Exit. The function is given the exchange, the closure, which is in x17, and
- * where the caller's stack arguments begin. The exchange is above the save area, so that Exit reads nothing below sp. */
+/* Entry, the call of a function in C, and Exit. The function is given the exchange, the closure, which is in x17,
+ * and where the caller's stack arguments begin. The exchange is above the save area, so that Exit reads nothing
+ * below sp. */
 	.macro	RECEIVE function
 	sub	sp, sp, #576
 	.cfi_def_cfa_offset 576

@@ -1,6 +1,7 @@
 #include "host.h"
 
-#define X87_AT ((uint32_t)offsetof(struct exchange, general[16])) /* st(0) and st(1), 16 bytes each: no register's place */
+/* st(0) and st(1), 16 bytes each, where no register of the rows has its place. */
+#define X87_AT ((uint32_t)offsetof(struct exchange, general[16]))
 
 /* How many long doubles are all of the type: 1 of a long double and of a struct of one, 2 of a complex one; else 0. */
 static uint32_t long_doubles_of(const ffi_type *type, int depth)

@@ -26,9 +26,9 @@ static bool put_bytes(struct key *key, const ffi_type *type)
     return true;
 }
 
-/* Each eightbyte of a type of at most 16 bytes is INTEGER, or SSE where no integer stands in it (psABI 3.2.3). What has a
- * misaligned scalar is in memory, and so is what has a long double beside other things: no stand-in of 16 bytes is. Nor
- * has one an eightbyte that is empty, or two of SSE that are aligned to 16. */
+/* Each eightbyte of a type of at most 16 bytes is INTEGER, or SSE where no integer stands in it (psABI 3.2.3). What
+ * has a misaligned scalar is in memory, and so is what has a long double beside other things: no stand-in of 16
+ * bytes is. Nor has one an eightbyte that is empty, or two of SSE that are aligned to 16. */
 static bool put_eightbytes(struct key *key, const ffi_type *type)
 {
     struct shape shape;

@@ -1,8 +1,8 @@
-/* The rows of the four stubs, between what a real processor and its stack need beside them. rows.inc has their bytes, as
- * they are proved.
+/* The rows of the four stubs, between what a real processor and its stack need beside them. rows.inc has their
+ * bytes, as they are proved.
  *
- * Of each stub one row is another here: r11 := the exchange. What stands below is trusted; docs/TRUSTED.md counts it.
- * Nothing that is still needed stands below sp, but in the red zone. */
+ * Of each stub one row is another here: r11 := the exchange. What stands below is trusted; docs/TRUSTED.md counts
+ * it. Nothing that is still needed stands below sp, but in the red zone. */
 
 #include "constants.h"
 
@@ -107,7 +107,8 @@ make_call:
 	.cfi_endproc
 	.endm
 
-/* A caller by Microsoft's convention keeps more registers than the save area has: rsi, rdi, and all of xmm6 to xmm15. */
+/* A caller by Microsoft's convention keeps more registers than the save area has: rsi, rdi, and all of xmm6 to
+ * xmm15. */
 	.macro	RECEIVE_WIN64 core
 	.cfi_startproc
 	endbr64

@@ -2,17 +2,17 @@
 """Writes a C program that passes random types, which their client laid out itself, through libffi to functions that a
 compiler makes, and back from closures: compiled.py COUNT SEED >program.c
 
-Types are structs and unions, packed or aligned or neither, in one another. Each is passed twice, in registers and, by what
-stands before it, on the stack, and given back; or it is refused. The program counts, and ends with status 0 only if all
-that came was what went. Padding is not looked at.
+Types are structs and unions, packed or aligned or neither, in one another. Each is passed twice, in registers and, by
+what stands before it, on the stack, and given back; or it is refused. The program counts, and ends with status 0 only
+if all that came was what went. Padding is not looked at.
 """
 
 import random
 import sys
 
-SCALARS = ["int8_t", "uint8_t", "int16_t", "uint16_t", "int32_t", "uint32_t", "int64_t", "uint64_t", "float", "double", "void *"]
-NAMES = dict(zip(SCALARS, ["sint8", "uint8", "sint16", "uint16", "sint32", "uint32", "sint64", "uint64", "float", "double",
-                           "pointer"]))
+NAMES = {"int8_t": "sint8", "uint8_t": "uint8", "int16_t": "sint16", "uint16_t": "uint16", "int32_t": "sint32",
+         "uint32_t": "uint32", "int64_t": "sint64", "uint64_t": "uint64", "float": "float", "double": "double",
+         "void *": "pointer"}
 
 HEAD = """#include <ffi.h>
 #include <stdint.h>
@@ -44,7 +44,10 @@ typedef {c} t{n};
 static t{n} a{n}, b{n}, x{n}, y{n}, got{n};
 static int same{n}(const t{n} *one, const t{n} *other) {{ return {same}; }}
 
-__attribute__((noinline)) static t{n} callee{n}(long a, double b, t{n} x, long c, long d, double e, long f, t{n} y, long g)
+typedef t{n} f{n}(long, double, t{n}, long, long, double, long, t{n}, long);
+
+__attribute__((noinline)) static t{n} callee{n}(long a, double b, t{n} x, long c, long d, double e, long f, t{n} y,
+                                                long g)
 {{
     x{n} = x;
     y{n} = y;
@@ -64,7 +67,8 @@ static void play{n}(void)
     ffi_type *l = &ffi_type_slong, *r = &ffi_type_double, *types[] = {{l, r, &e{n}, l, l, r, l, &e{n}, l}};
     long numbers[] = {{1, 3, 4, 6, 7}};
     double reals[] = {{2, 5}};
-    void *values[] = {{numbers, reals, &a{n}, numbers + 1, numbers + 2, reals + 1, numbers + 3, &b{n}, numbers + 4}}, *code;
+    void *values[] = {{numbers, reals, &a{n}, numbers + 1, numbers + 2, reals + 1, numbers + 3, &b{n}, numbers + 4}};
+    void *code;
     ffi_cif cif;
     union {{ t{n} it; ffi_arg word; }} result;
     if (ffi_prep_cif(&cif, FFI_DEFAULT_ABI, 9, &e{n}, types) != FFI_OK) {{
@@ -79,7 +83,7 @@ static void play{n}(void)
         ffi_call(&cif, FFI_FN(callee{n}), &result, values);
         count(same{n}(&x{n}, &a{n}) && same{n}(&y{n}, &b{n}), "to a function", TEXT{n});
         count(same{n}(&result.it, &b{n}), "a result", TEXT{n});
-        got{n} = ((t{n}(*)(long, double, t{n}, long, long, double, long, t{n}, long))code)(1, 2, a{n}, 3, 4, 5, 6, b{n}, 7);
+        got{n} = ((f{n} *)code)(1, 2, a{n}, 3, 4, 5, 6, b{n}, 7);
         count(same{n}(&got{n}, &a{n}), "a closure's result", TEXT{n});
     }}
     ffi_closure_free(closure);
@@ -93,15 +97,16 @@ class Writer:
         self.made = 0
 
     def draw(self, depth):
-        """A type: its C text with a place for the name, its ffi_type, the types to declare, and the paths of its scalars."""
+        """A type: its C text with a place for the name, its ffi_type, what to declare, and its scalars' paths."""
         if depth == 0 or self.chance.random() < 0.5:
-            scalar = self.chance.choice(SCALARS)
+            scalar = self.chance.choice(list(NAMES))
             return f"{scalar} %s", f"ffi_type_{NAMES[scalar]}", [], [""]
         return self.aggregate(depth)
 
     def aggregate(self, depth):
         word = self.chance.choice(["struct", "struct", "union"])
-        attribute = self.chance.choice(["", "", "__attribute__((packed)) ", f"__attribute__((aligned({self.chance.choice([4, 8, 16])}))) "])
+        attribute = self.chance.choice(["", "", "packed", f"aligned({self.chance.choice([4, 8, 16])})"])
+        attribute = attribute and f"__attribute__(({attribute})) "
         parts = [self.draw(depth - 1) for _ in range(self.chance.choice([1, 2, 2, 3, 4]))]
         body = " ".join(part[0] % f"m{k}" + ";" for k, part in enumerate(parts))
         text = f"{word} {attribute}{{ {body} }}"
@@ -121,7 +126,7 @@ class Writer:
             lines.append(f"static ffi_type {kind} = {{sizeof({c}), _Alignof({c}), FFI_TYPE_STRUCT, {kind}_elements}};")
         lines.append(f"#define e{n} {name}")
         c = text[:-3]
-        same = " && ".join(f"memcmp(&one->{path[1:]}, &other->{path[1:]}, sizeof one->{path[1:]}) == 0" for path in paths)
+        same = " && ".join(f"memcmp(&one->{it[1:]}, &other->{it[1:]}, sizeof one->{it[1:]}) == 0" for it in paths)
         print(f'#define TEXT{n} "{c}"')
         print(EACH.format(c=c, n=n, elements="\n".join(lines), same=same))
 

@@ -1,6 +1,6 @@
-/* Interfaces that are checked before they are used: changed ones, those of another library, those that are prepared again
- * while they are called, types that several threads lay out, arguments that are void, and frames that are larger than a
- * thread's stack.  interfaces [LIBFFI]  links -lffi; LIBFFI is another library's file. */
+/* Interfaces that are checked before they are used: changed ones, those of another library, those that are prepared
+ * again while they are called, types that several threads lay out, arguments that are void, and frames that are
+ * larger than a thread's stack.  interfaces [LIBFFI]  links -lffi; LIBFFI is another library's file. */
 #define _GNU_SOURCE
 #include "expect.h"
 #include <dlfcn.h>

@@ -1,5 +1,5 @@
-/* Structs and unions that their client laid out itself, to functions that a compiler made: each is passed and given back as
- * the compiler does it, or refused; nothing is guessed.  laid_out  links -lffi. */
+/* Structs and unions that their client laid out itself, to functions that a compiler made: each is passed and given
+ * back as the compiler does it, or refused; nothing is guessed.  laid_out  links -lffi. */
 #include "expect.h"
 #include <ffi.h>
 #include <stdint.h>
@@ -9,41 +9,47 @@
 #define PACKED __attribute__((packed))
 #define ALIGNED(n) __attribute__((aligned(n)))
 
-/* Of each its name, its C, its elements; it is passed behind COUNT integers, so that it stands in registers and on the
- * stack, and comes back turned round, byte by byte. */
-#define LIST(X) \
-    X(packed_floats, struct PACKED { float a; float b; }, &ffi_type_float, &ffi_type_float) \
-    X(packed_three_floats, struct PACKED { float a; float b; float c; }, &ffi_type_float, &ffi_type_float, &ffi_type_float) \
-    X(packed_doubles, struct PACKED { double a; double b; }, &ffi_type_double, &ffi_type_double) \
-    X(packed_double_int, struct PACKED { double a; int b; }, &ffi_type_double, &ffi_type_sint32) \
-    X(packed_int_float, struct PACKED { int a; float b; }, &ffi_type_sint32, &ffi_type_float) \
-    X(packed_double_char, struct PACKED { double a; char b; }, &ffi_type_double, &ffi_type_sint8) \
-    X(packed_char_double, struct PACKED { char a; double b; }, &ffi_type_sint8, &ffi_type_double) \
-    X(packed_char_int, struct PACKED { char a; int b; }, &ffi_type_sint8, &ffi_type_sint32) \
-    X(packed_short_float, struct PACKED { short a; float b; }, &ffi_type_sint16, &ffi_type_float) \
-    X(packed_chars, struct PACKED { char a; short b; char c; }, &ffi_type_sint8, &ffi_type_sint16, &ffi_type_sint8) \
-    X(packed_large, struct PACKED { char a; double b; double c; }, &ffi_type_sint8, &ffi_type_double, &ffi_type_double) \
-    X(packed_pointers, struct PACKED { void *a; void *b; }, &ffi_type_pointer, &ffi_type_pointer) \
-    X(aligned_8_floats, struct ALIGNED(8) { float a; float b; }, &ffi_type_float, &ffi_type_float) \
-    X(aligned_8_float_int, struct ALIGNED(8) { float a; int b; }, &ffi_type_float, &ffi_type_sint32) \
-    X(aligned_8_three, struct ALIGNED(8) { float a; float b; int c; }, &ffi_type_float, &ffi_type_float, &ffi_type_sint32) \
-    X(aligned_4_char, struct ALIGNED(4) { char a; }, &ffi_type_sint8) \
-    X(aligned_16_doubles, struct ALIGNED(16) { double a; double b; }, &ffi_type_double, &ffi_type_double) \
-    X(aligned_16_longs, struct ALIGNED(16) { long a; long b; }, &ffi_type_sint64, &ffi_type_sint64) \
-    X(aligned_16_float, struct ALIGNED(16) { float a; float b; }, &ffi_type_float, &ffi_type_float) \
-    X(aligned_16_large, struct ALIGNED(16) { double a; double b; double c; }, &ffi_type_double, &ffi_type_double, &ffi_type_double) \
-    X(aligned_32_doubles, struct ALIGNED(32) { double a; double b; double c; double d; }, &ffi_type_double, &ffi_type_double, \
-      &ffi_type_double, &ffi_type_double) \
-    X(union_float_int, union { float a; int b; }, &ffi_type_float, &ffi_type_sint32) \
-    X(union_float_long, union { float a; long b; }, &ffi_type_float, &ffi_type_sint64) \
-    X(union_float_double, union { float a; double b; }, &ffi_type_float, &ffi_type_double) \
-    X(union_double_long, union { double a; long b; }, &ffi_type_double, &ffi_type_sint64) \
-    X(union_chars, union { char a; short b; }, &ffi_type_sint8, &ffi_type_sint16) \
-    X(union_pair, union { struct { float a; float b; } a; double b; }, &two_floats, &ffi_type_double) \
-    X(union_mixed, union { struct { float a; int b; } a; double b; }, &float_int, &ffi_type_double) \
-    X(union_wide, union { struct { double a; long b; } a; float b; }, &double_long, &ffi_type_float) \
-    X(struct_of_union, struct { union { float a; int b; } a; double b; }, &union_float_int, &ffi_type_double) \
-    X(struct_of_packed, struct { struct PACKED { char a; int b; } a; char b; }, &packed_char_int, &ffi_type_sint8)
+#define C &ffi_type_sint8
+#define S &ffi_type_sint16
+#define I &ffi_type_sint32
+#define L &ffi_type_sint64
+#define F &ffi_type_float
+#define D &ffi_type_double
+#define P &ffi_type_pointer
+
+/* Of each its name, its C and its elements. It is passed alone, in registers, and behind seven numbers, and given back. */
+#define LIST(X)                                                                                       \
+    X(packed_floats, struct PACKED { float a; float b; }, F, F)                                       \
+    X(packed_three_floats, struct PACKED { float a; float b; float c; }, F, F, F)                     \
+    X(packed_doubles, struct PACKED { double a; double b; }, D, D)                                    \
+    X(packed_double_int, struct PACKED { double a; int b; }, D, I)                                    \
+    X(packed_int_float, struct PACKED { int a; float b; }, I, F)                                      \
+    X(packed_double_char, struct PACKED { double a; char b; }, D, C)                                  \
+    X(packed_char_double, struct PACKED { char a; double b; }, C, D)                                  \
+    X(packed_char_int, struct PACKED { char a; int b; }, C, I)                                        \
+    X(packed_short_float, struct PACKED { short a; float b; }, S, F)                                  \
+    X(packed_chars, struct PACKED { char a; short b; char c; }, C, S, C)                              \
+    X(packed_large, struct PACKED { char a; double b; double c; }, C, D, D)                           \
+    X(packed_pointers, struct PACKED { void *a; void *b; }, P, P)                                     \
+    X(aligned_8_floats, struct ALIGNED(8) { float a; float b; }, F, F)                                \
+    X(aligned_8_float_int, struct ALIGNED(8) { float a; int b; }, F, I)                               \
+    X(aligned_8_three, struct ALIGNED(8) { float a; float b; int c; }, F, F, I)                       \
+    X(aligned_4_char, struct ALIGNED(4) { char a; }, C)                                               \
+    X(aligned_16_doubles, struct ALIGNED(16) { double a; double b; }, D, D)                           \
+    X(aligned_16_longs, struct ALIGNED(16) { long a; long b; }, L, L)                                 \
+    X(aligned_16_float, struct ALIGNED(16) { float a; float b; }, F, F)                               \
+    X(aligned_16_large, struct ALIGNED(16) { double a; double b; double c; }, D, D, D)                \
+    X(aligned_32_doubles, struct ALIGNED(32) { double a; double b; double c; double d; }, D, D, D, D) \
+    X(union_float_int, union { float a; int b; }, F, I)                                               \
+    X(union_float_long, union { float a; long b; }, F, L)                                             \
+    X(union_float_double, union { float a; double b; }, F, D)                                         \
+    X(union_double_long, union { double a; long b; }, D, L)                                           \
+    X(union_chars, union { char a; short b; }, C, S)                                                  \
+    X(union_pair, union { struct { float a; float b; } a; double b; }, &two_floats, D)                \
+    X(union_mixed, union { struct { float a; int b; } a; double b; }, &float_int, D)                  \
+    X(union_wide, union { struct { double a; long b; } a; float b; }, &double_long, F)                \
+    X(struct_of_union, struct { union { float a; int b; } a; double b; }, &union_float_int, D)        \
+    X(struct_of_packed, struct { struct PACKED { char a; int b; } a; char b; }, &packed_char_int, C)
 
 static ffi_type *floats[] = {&ffi_type_float, &ffi_type_float, NULL};
 static ffi_type *float_and_int[] = {&ffi_type_float, &ffi_type_sint32, NULL};
@@ -108,8 +114,9 @@ static void pass(const char *name, ffi_type *type, uint64_t padding, void (*alon
         return;
     long numbers[] = {1, 0, 3, 4, 0, 6, 7, 8};
     double reals[] = {2, 5};
-    void *alone_values[] = {value}, *values[] = {&numbers[0], &reals[0], &numbers[2], &numbers[3], &reals[1], &numbers[5],
-                                                 &numbers[6], value, &numbers[7]};
+    void *alone_values[] = {value};
+    void *values[] = {&numbers[0], &reals[0],   &numbers[2], &numbers[3], &reals[1],
+                      &numbers[5], &numbers[6], value,       &numbers[7]};
     for (int turn = 0; turn < 20; turn++) {
         for (size_t k = 0; k < sizeof value; k++)
             value[k] = (unsigned char)rand();
@@ -134,7 +141,7 @@ int main(int count, char **words)
     {                                                                                                              \
         ffi_type *elements[] = {__VA_ARGS__, NULL};                                                                \
         ffi_type it = {sizeof(name##_type), _Alignof(name##_type), FFI_TYPE_STRUCT, elements};                     \
-        pass(#name, &it, padding_of(#name), FFI_FN(name##_0), FFI_FN(name##_7), &refused);                                            \
+        pass(#name, &it, padding_of(#name), FFI_FN(name##_0), FFI_FN(name##_7), &refused);                         \
     }
     LIST(PASS)
     printf("%d refused\n", refused);

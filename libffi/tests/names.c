@@ -1,5 +1,5 @@
-/* Prints each number that ffi.h gives to a program: constants, sizes, offsets. Built with this library's headers and with
- * libffi's own, it has to print the same. */
+/* Prints each number that ffi.h gives to a program: constants, sizes, offsets. Built with this library's headers and
+ * with libffi's own, it has to print the same. */
 #include <ffi.h>
 #include <stdio.h>
 

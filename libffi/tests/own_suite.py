@@ -7,8 +7,8 @@ Each program of libffi.call, .closures, .bhaible, .complex and .go is compiled w
 ABI_NUM, on x86-64 for FFI_GNUW64 too; it is linked with -lffi and run with LD_LIBRARY_PATH set to the folder. It passes
 where its status is 0 and its output matches its dg-output. Last comes a table by folder, above it each failure.
 
-For another machine --cc and --cxx are its compilers, with -L of a libffi.so and -isystem of ffi.h, and --run qemu-user's
-program; QEMU_LD_PREFIX names a folder with that machine's packages, libffi8 among them.
+For another machine --cc and --cxx are its compilers, with -L of a libffi.so and -isystem of ffi.h, and --run
+qemu-user's program; QEMU_LD_PREFIX names a folder with that machine's packages, libffi8 among them.
 """
 
 import argparse

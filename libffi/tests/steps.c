@@ -1,5 +1,5 @@
-/* Calls and closures whose thread is interrupted behind every instruction, by a handler that writes to much of the stack
- * below the red zone: what is still needed there would be lost.  steps  links -lffi; x86-64. */
+/* Calls and closures whose thread is interrupted behind every instruction, by a handler that writes to much of the
+ * stack below the red zone: what is still needed there would be lost.  steps  links -lffi; x86-64. */
 #define _GNU_SOURCE
 #include "expect.h"
 #include <ffi.h>
@@ -9,6 +9,8 @@
 struct mixed { long a; double b; };
 
 static volatile long steps;
+
+static struct mixed times3(struct mixed it) { return (struct mixed){it.a * 3, it.b * 3}; }
 
 static void interrupt(int signal)
 {
@@ -28,7 +30,7 @@ static void triple(ffi_cif *cif, void *result, void **values, void *data)
     else if (cif->rtype == &ffi_type_sint64)
         *(ffi_sarg *)result = *(long *)values[0] * 3 + *(long *)values[cif->nargs - 1];
     else
-        *(struct mixed *)result = (struct mixed){((struct mixed *)values[0])->a * 3, ((struct mixed *)values[0])->b * 3};
+        *(struct mixed *)result = times3(*(struct mixed *)values[0]);
 }
 
 static struct mixed plus(struct mixed it, long a, long b, long c, long d, long e, long f, long g)
@@ -70,8 +72,9 @@ int main(void)
     long double (*of_long_double)(long double) = (long double (*)(long double))made(&long_double);
     struct mixed it = {5, 2.5}, got = {0, 0}, back = {0, 0};
     long numbers_of[7] = {1, 2, 3, 4, 5, 6, 7}, by_number = 0, by_win64 = 0;
-    void *values[] = {&it, &numbers_of[0], &numbers_of[1], &numbers_of[2], &numbers_of[3], &numbers_of[4], &numbers_of[5],
-                      &numbers_of[6]};
+    void *values[8] = {&it};
+    for (int k = 0; k < 7; k++)
+        values[k + 1] = &numbers_of[k];
     double by_real = 0;
     long double by_long_double = 0;
     signal(SIGTRAP, interrupt);

@@ -63,6 +63,11 @@ int main(void)
     widen(&ffi_type_sint32, FFI_FN(whole), (ffi_arg)-3);
     widen(&ffi_type_uint32, FFI_FN(large), 4294967293u);
     ffi_cif cif;
+    for (unsigned fixed = 0; fixed < 4; fixed++) {
+        ffi_type *some[] = {&ffi_type_sint32, &ffi_type_double, &ffi_type_sint64};
+        EXPECT(ffi_prep_cif_var(&cif, FFI_DEFAULT_ABI, fixed, fixed > 2 ? 3 : fixed, &ffi_type_void, some) == FFI_OK);
+        EXPECT(ffi_prep_cif_var(&cif, FFI_DEFAULT_ABI, fixed, 3, &ffi_type_void, some) == FFI_OK);
+    }
     ffi_type *promoted[] = {&ffi_type_sint32, &ffi_type_float}, *narrow[] = {&ffi_type_sint32, &ffi_type_uint8};
     EXPECT(ffi_prep_cif_var(&cif, FFI_DEFAULT_ABI, 1, 2, &ffi_type_void, promoted) == FFI_BAD_ARGTYPE);
     EXPECT(ffi_prep_cif_var(&cif, FFI_DEFAULT_ABI, 1, 2, &ffi_type_void, narrow) == FFI_BAD_ARGTYPE);
@@ -71,7 +76,8 @@ int main(void)
     ffi_type *none[] = {NULL}, empty = {0, 0, FFI_TYPE_STRUCT, none}, *arguments[] = {&empty};
     EXPECT(ffi_prep_cif(&cif, FFI_DEFAULT_ABI, 1, &ffi_type_void, arguments) == FFI_BAD_TYPEDEF);
     size_t offsets[3];
-    ffi_type *parts[] = {&ffi_type_sint8, &ffi_type_double, &ffi_type_sint16, NULL}, it = {0, 0, FFI_TYPE_STRUCT, parts};
+    ffi_type *parts[] = {&ffi_type_sint8, &ffi_type_double, &ffi_type_sint16, NULL};
+    ffi_type it = {0, 0, FFI_TYPE_STRUCT, parts};
     EXPECT(ffi_get_struct_offsets(FFI_DEFAULT_ABI, &it, offsets) == FFI_OK);
     EXPECT(offsets[0] == 0 && offsets[1] == 8 && offsets[2] == 16 && it.size == 24 && it.alignment == 8);
     EXPECT(ffi_get_struct_offsets(FFI_DEFAULT_ABI, &empty, offsets) == FFI_BAD_TYPEDEF);

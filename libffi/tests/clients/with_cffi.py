@@ -3,8 +3,8 @@ import cffi
 
 ffi = cffi.FFI()
 ffi.cdef("""typedef struct { int quot, rem; } div_t; div_t div(int, int); size_t strlen(const char *);
-            void qsort(void *, size_t, size_t, int (*)(const void *, const void *)); struct in_addr { uint32_t s_addr; };
-            char *inet_ntoa(struct in_addr);""")
+            void qsort(void *, size_t, size_t, int (*)(const void *, const void *));
+            struct in_addr { uint32_t s_addr; }; char *inet_ntoa(struct in_addr);""")
 c = ffi.dlopen(None)
 both = c.div(-17, 5)
 assert (both.quot, both.rem, c.strlen(b"seven..")) == (-3, -2, 7)
