@@ -4,8 +4,6 @@
 #include <stdlib.h>
 #include <string.h>
 
-#define MOST_PIECES 96 /* for most signatures */
-
 /* The nodes that the library is told for those of a key; answers how many. The room is enough: see has_asked_places. */
 static size_t told_nodes(const struct key *key, struct ffi3_node *told, uint32_t *fixed)
 {
@@ -33,28 +31,34 @@ static size_t told_nodes(const struct key *key, struct ffi3_node *told, uint32_t
     return count;
 }
 
+void told_end(struct told *told)
+{
+    if (told->pieces != told->own_pieces)
+        free(told->pieces);
+}
+
 bool has_asked_places(const struct key *key, struct told *told)
 {
     uint32_t fixed, status = FFI3_OUT_OF_MEMORY;
-    size_t room = MOST_PIECES;
+    size_t room = sizeof told->own_pieces / sizeof *told->own_pieces;
     struct ffi3_node own_nodes[96], *nodes = own_nodes;
     if (3 * key->length > sizeof own_nodes / sizeof *own_nodes)
         nodes = malloc(3 * key->length * sizeof *nodes);
-    told->pieces = nodes ? malloc(room * sizeof *told->pieces) : NULL;
+    told->pieces = nodes ? told->own_pieces : NULL;
     size_t length = nodes ? told_nodes(key, nodes, &fixed) : 0;
     while (told->pieces) {
         status = ffi3_place_nodes(host_target((ffi_abi)key->nodes[0].count), nodes, length, fixed, &told->call,
                                   told->pieces, room);
         if (status != FFI3_TOO_SMALL)
             break;
-        free(told->pieces);
+        told_end(told);
         room = told->call.pieces;
         told->pieces = malloc(room * sizeof *told->pieces);
     }
     if (nodes != own_nodes)
         free(nodes);
     if (status != FFI3_OK || told->call.frame > INT32_MAX) {
-        free(told->pieces);
+        told_end(told);
         return false;
     }
     host_correct(key, told);

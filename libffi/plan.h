@@ -73,14 +73,17 @@ struct plan {
     struct source *sources;
 };
 
-/* What ffi3_place_nodes told. The caller of has_asked_places frees the pieces. */
+/* What ffi3_place_nodes told. */
 struct told {
     struct ffi3_call call;
-    struct ffi3_piece *pieces;
+    struct ffi3_piece *pieces; /* own_pieces, or malloc's */
+    struct ffi3_piece own_pieces[48];
 };
 
-/* Asks the proved library for the places of a key; answers false where it has none, or memory was refused. */
+/* Asks the proved library for the places of a key; answers false where it has none, or memory was refused. told_end
+ * gives memory back. */
 bool has_asked_places(const struct key *key, struct told *told);
+void told_end(struct told *told);
 
 /* Makes a plan of what was told: malloc's, or NULL. */
 struct plan *plan_from(const struct key *key, uint64_t word, const struct told *told, const ffi_cif *cif);

@@ -102,7 +102,7 @@ static const struct plan *make(const struct key *key, uint64_t hash, uint64_t wo
         return NULL;
     struct plan *plan = plan_from(key, word, &told, cif);
     const struct plan *kept = NULL;
-    free(told.pieces);
+    told_end(&told);
     if (!plan)
         return NULL;
     plan->hash = hash;
