@@ -1,0 +1,154 @@
+/* From libffi's types to nodes. */
+#include "key.h"
+#include "host.h"
+#include <stdlib.h>
+#include <string.h>
+
+#define DEEPEST 16         /* structs in structs: the library's own limit */
+#define MOST_NODES 1000000 /* of a signature */
+
+static const uint8_t SCALARS[FFI_TYPE_LAST + 1] = {
+    [FFI_TYPE_VOID] = FFI3_VOID,     [FFI_TYPE_INT] = FFI3_SINT32,    [FFI_TYPE_FLOAT] = FFI3_FLOAT,
+    [FFI_TYPE_DOUBLE] = FFI3_DOUBLE, [FFI_TYPE_LONGDOUBLE] = FFI3_STRUCT, [FFI_TYPE_UINT8] = FFI3_UINT8,
+    [FFI_TYPE_SINT8] = FFI3_SINT8,   [FFI_TYPE_UINT16] = FFI3_UINT16, [FFI_TYPE_SINT16] = FFI3_SINT16,
+    [FFI_TYPE_UINT32] = FFI3_UINT32, [FFI_TYPE_SINT32] = FFI3_SINT32, [FFI_TYPE_UINT64] = FFI3_UINT64,
+    [FFI_TYPE_SINT64] = FFI3_SINT64, [FFI_TYPE_STRUCT] = FFI3_STRUCT, [FFI_TYPE_POINTER] = FFI3_POINTER,
+    [FFI_TYPE_COMPLEX] = FFI3_STRUCT,
+};
+
+uint32_t scalar_kind(unsigned short type) { return type <= FFI_TYPE_LAST ? SCALARS[type] : FFI3_STRUCT; }
+
+/* ---- Nodes */
+
+bool key_has_more_room(struct key *key)
+{
+    size_t room = 4 * key->room;
+    struct ffi3_node *nodes = room <= MOST_NODES ? malloc(room * sizeof *nodes) : NULL;
+    if (!nodes) {
+        key->status = FFI_BAD_TYPEDEF;
+        return false;
+    }
+    memcpy(nodes, key->nodes, key->length * sizeof *nodes);
+    key_end(key);
+    key->nodes = nodes;
+    key->room = room;
+    return true;
+}
+
+void key_end(struct key *key)
+{
+    if (key->nodes != key->own_nodes)
+        free(key->nodes);
+}
+
+size_t type_end(const struct ffi3_node *nodes, size_t at)
+{
+    for (size_t wanted = 1; wanted > 0; wanted--, at++)
+        if (nodes[at].kind == FFI3_STRUCT)
+            wanted += nodes[at].count;
+        else if (nodes[at].kind == FFI3_ARRAY || nodes[at].kind == NODE_SIZED)
+            wanted++;
+    return at;
+}
+
+/* ---- Types as they are */
+
+/* `alignment` is a power of two. */
+static inline size_t rounded(size_t size, size_t alignment) { return (size + alignment - 1) & ~(alignment - 1); }
+
+bool is_natural(const ffi_type *type)
+{
+    size_t size = 0, alignment = 1;
+    for (ffi_type **it = type->elements; *it; it++) {
+        size_t own = (*it)->alignment;
+        if ((*it)->type == FFI_TYPE_VOID || (*it)->size == 0 || own == 0 || own > 16 || (own & (own - 1)))
+            return false;
+        size = rounded(size, own) + (*it)->size;
+        alignment = own > alignment ? own : alignment;
+    }
+    return size != 0 && rounded(size, alignment) == type->size && alignment == type->alignment;
+}
+
+static bool put_type(struct key *key, const ffi_type *type, int depth);
+
+/* A complex number is passed as a struct of its two parts. */
+static bool put_complex(struct key *key, const ffi_type *type, int depth)
+{
+    if (!type->elements || !type->elements[0])
+        return false;
+    switch (type->elements[0]->type) {
+    case FFI_TYPE_FLOAT: key_put(key, FFI3_COMPLEX_FLOAT, 0); return true;
+    case FFI_TYPE_DOUBLE: key_put(key, FFI3_COMPLEX_DOUBLE, 0); return true;
+    default:
+        key_put(key, FFI3_STRUCT, 2);
+        return put_type(key, type->elements[0], depth + 1) && put_type(key, type->elements[0], depth + 1);
+    }
+}
+
+/* Equal elements one behind another are told as an array, which is placed as they are. */
+static bool put_elements(struct key *key, const ffi_type *type, int depth)
+{
+    size_t at = key->length;
+    uint32_t count = 0;
+    key_put(key, FFI3_STRUCT, 0);
+    for (ffi_type **it = type->elements; *it; count++) {
+        uint32_t run = 1;
+        while (it[run] == *it)
+            run++;
+        if (run > 1)
+            key_put(key, FFI3_ARRAY, run);
+        if (!put_type(key, *it, depth + 1))
+            return false;
+        it += run;
+    }
+    if (key->status == FFI_OK)
+        key->nodes[at].count = count;
+    return true;
+}
+
+/* Adds a type as it is, or answers false where it can't be told so: somewhere its client laid it out itself, or it
+ * is of another kind. What was added then is to be taken back. */
+static bool put_type(struct key *key, const ffi_type *type, int depth)
+{
+    uint32_t kind = scalar_kind(type->type);
+    if (kind != FFI3_STRUCT) {
+        key_put(key, kind, 0);
+        return true;
+    }
+    if (depth >= DEEPEST || key->status != FFI_OK)
+        return false;
+    if (type->type == FFI_TYPE_COMPLEX)
+        return put_complex(key, type, depth);
+    if (type->type != FFI_TYPE_STRUCT || !type->elements || !is_natural(type))
+        return false;
+    return put_elements(key, type, depth);
+}
+
+/* Adds the type of an argument or of the result. */
+static void put_value(struct key *key, const ffi_type *type, ffi_abi abi, bool is_result)
+{
+    size_t before = key->length;
+    if (put_type(key, type, 0) || key->status != FFI_OK)
+        return;
+    key->length = before;
+    if (host_put_long_double(key, type, abi, is_result))
+        return;
+    if (!is_aggregate(type) || !host_put_stand_in(key, type, abi))
+        key->status = FFI_BAD_TYPEDEF;
+}
+
+/* ---- Signatures */
+
+void key_tell(struct key *key, const ffi_cif *cif, unsigned fixed)
+{
+    key->nodes = key->own_nodes;
+    key->room = sizeof key->own_nodes / sizeof *key->own_nodes;
+    key->length = 0;
+    key->status = FFI_OK;
+    key->fixed = fixed;
+    key_put(key, NODE_SIGNATURE, cif->abi);
+    key_put(key, NODE_FIXED, fixed);
+    put_value(key, cif->rtype, cif->abi, true);
+    for (unsigned i = 0; i < cif->nargs && key->status == FFI_OK; i++)
+        put_value(key, cif->arg_types[i], cif->abi, false);
+}

@@ -1,0 +1,71 @@
+/* key.h: a signature as the library is asked for it, and as plans are known by. */
+#ifndef KEY_H
+#define KEY_H
+
+#include <ffi.h>
+#include <ffi3.h>
+#include <stdbool.h>
+
+/* Kinds of node of these files' own, beside those of ffi3.h. None is told to the proved library. */
+#define NODE_SIGNATURE 0x100u    /* the first of each key: `count` is the convention, an ffi_abi */
+#define NODE_FIXED 0x101u        /* the second: how many arguments are fixed, or FFI3_NOT_VARIADIC */
+#define NODE_SIZED 0x102u        /* the type that follows stands in for one of `count` bytes */
+#define NODE_LONG_DOUBLES 0x103u /* `count` long doubles that have registers of their own: long_double.c of the host */
+#define NODES_BEFORE_TYPES 2
+
+struct key {
+    struct ffi3_node *nodes; /* own_nodes, or malloc's: the two, the result, the arguments, those that are void too */
+    size_t length, room;
+    unsigned fixed;
+    ffi_status status; /* FFI_OK, or why there is none */
+    struct ffi3_node own_nodes[40];
+};
+
+/* Makes the key of an interface whose types are laid out. `fixed` is how many arguments are, or FFI3_NOT_VARIADIC.
+ * key_end gives memory back. */
+void key_tell(struct key *key, const ffi_cif *cif, unsigned fixed);
+void key_end(struct key *key);
+
+/* A signature of at most 14 arguments, none of them variadic, and all scalars, is known by one word too: a nibble
+ * for the convention, which is not 0, and one for each type. Answers 0 for another signature. */
+static inline uint64_t word_of(ffi_abi abi, unsigned nargs, const ffi_type *rtype, ffi_type **atypes)
+{
+    uint64_t word = (uint64_t)abi << 4 | rtype->type;
+    if (nargs > 14 || rtype->type >= FFI_TYPE_COMPLEX || rtype->type == FFI_TYPE_STRUCT)
+        return 0;
+    for (unsigned i = 0; i < nargs; i++) {
+        unsigned short type = atypes[i]->type;
+        if (type == FFI_TYPE_VOID || type == FFI_TYPE_STRUCT || type >= FFI_TYPE_COMPLEX)
+            return 0;
+        word = word << 4 | type;
+    }
+    return word;
+}
+
+bool key_has_more_room(struct key *key);
+
+/* Adds a node, or notes that memory was refused. */
+static inline void key_put(struct key *key, uint32_t kind, uint32_t count)
+{
+    if (__builtin_expect(key->length == key->room, 0) && !key_has_more_room(key))
+        return;
+    struct ffi3_node *node = &key->nodes[key->length++];
+    node->kind = kind;
+    node->count = count;
+}
+
+/* Where in nodes the type ends that begins at `at`. */
+size_t type_end(const struct ffi3_node *nodes, size_t at);
+
+static inline bool is_aggregate(const ffi_type *type)
+{
+    return type->type == FFI_TYPE_STRUCT || type->type == FFI_TYPE_COMPLEX;
+}
+
+/* The library's kind of a scalar, or FFI3_STRUCT where it has none for it. */
+uint32_t scalar_kind(unsigned short type);
+
+/* Whether the size and the alignment of a struct are those that its elements make. */
+bool is_natural(const ffi_type *type);
+
+#endif

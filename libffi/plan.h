@@ -1,0 +1,129 @@
+/* plan.h: plans, which say how the values of a signature are moved. One is made for each signature that was
+ * prepared, and stays as long as the process: what plans take is bounded by how many signatures there are. */
+#ifndef PLAN_H
+#define PLAN_H
+
+#include "exchange.h"
+#include "key.h"
+#include <stdatomic.h>
+
+/* ---- Moves
+ *
+ * A place is a number of bytes from the start of the exchange; from FRAME_AT on it is in the caller's frame. */
+
+enum move_kind {
+    MOVE_U8, /* these six read so many bits of the value, and write 64, extended with zeros or by the sign */
+    MOVE_S8,
+    MOVE_U16,
+    MOVE_S16,
+    MOVE_U32,
+    MOVE_S32,
+    MOVE_4, /* so many bytes */
+    MOVE_8,
+    MOVE_BYTES, /* `length` bytes */
+    MOVE_COPY   /* the value's `length` bytes to the place `from`, and the address of that to the place `to` */
+};
+
+struct move {
+    uint16_t kind;
+    uint16_t argument;
+    uint32_t from; /* of an argument's move the value's first byte, of a result's the place */
+    uint32_t to;   /* and the other way round */
+    uint32_t length;
+};
+
+#define NO_PLACE UINT32_MAX
+#define MOST_ARGUMENTS UINT16_MAX /* those that are void among them */
+
+/* Where a closure finds an argument. */
+enum source_kind {
+    AT_PLACE,   /* at the place `at` */
+    AT_ADDRESS, /* at the address that stands there */
+    GATHERED    /* in pieces: `count` moves, from `first` on, put it at byte `at` of the scratch */
+};
+
+struct source {
+    uint32_t kind;
+    uint32_t at;
+    uint32_t first;
+    uint32_t count;
+};
+
+struct plan {
+    uint64_t word; /* of the signature; where it is 0, its key has these nodes */
+    uint64_t hash;
+    const struct ffi3_node *nodes;
+    size_t nodes_count;
+    ffi_abi abi;
+    uint32_t nargs;
+    uint32_t index;   /* of the table of plans */
+    uint32_t stack;   /* bytes of stack arguments, a multiple of 16 */
+    uint32_t frame;   /* these with copies and the result's buffer */
+    uint32_t vectors; /* on AMD64, what goes into al */
+    uint32_t beside;  /* goes into the exchange */
+    uint32_t hidden;  /* the place of the address of the result's buffer, or NO_PLACE */
+    uint32_t back;    /* the place in which the callee gives it back, or NO_PLACE */
+    uint32_t buffer;  /* the place of that buffer, where the client has none */
+    uint32_t scratch; /* bytes for a closure's gathered arguments */
+    uint32_t moves_count;
+    uint32_t results_count;
+    struct move *moves;   /* the caller's, of the arguments */
+    struct move *results; /* the caller's of the result; a callee's are these the other way round */
+    struct move *gathers; /* a callee's, of arguments that stand in pieces */
+    struct source *sources;
+};
+
+/* What ffi3_place_nodes told. */
+struct told {
+    struct ffi3_call call;
+    struct ffi3_piece *pieces; /* own_pieces, or malloc's */
+    struct ffi3_piece own_pieces[48];
+};
+
+/* Asks the proved library for the places of a key; answers false where it has none, or memory was refused. told_end
+ * gives memory back. */
+bool has_asked_places(const struct key *key, struct told *told);
+void told_end(struct told *told);
+
+/* Makes a plan of what was told: malloc's, or NULL. */
+struct plan *plan_from(const struct key *key, uint64_t word, const struct told *told, const ffi_cif *cif);
+
+/* The plan of an interface whose types are laid out, from the table or a new one; or NULL, where there is none or
+ * memory was refused. `fixed` as in key.h. */
+const struct plan *plan_for(const ffi_cif *cif, unsigned fixed);
+
+/* ---- From a prepared interface to its plan: `flags` has the index and a mark, `bytes` the plan's stack. */
+
+#define PLANS_OF_LEAF 1024u
+#define LEAVES 1024u
+#define PLAN_MARK 0xF3u
+#define FLAGS_OF_INDEX(index) (PLAN_MARK << 24 | (index))
+
+struct leaf {
+    _Atomic(const struct plan *) plans[PLANS_OF_LEAF];
+};
+
+extern _Atomic(struct leaf *) plan_leaves[LEAVES];
+
+/* The plan of an interface that another library prepared, or that was changed behind its preparation. */
+const struct plan *planned_again(ffi_cif *cif);
+
+/* The plan that these flags name, or NULL. */
+static inline const struct plan *plan_at(uint32_t flags)
+{
+    uint32_t index = flags & 0xFFFFFF;
+    if (flags >> 24 != PLAN_MARK || index >= PLANS_OF_LEAF * LEAVES)
+        return NULL;
+    struct leaf *leaf = atomic_load_explicit(&plan_leaves[index / PLANS_OF_LEAF], memory_order_acquire);
+    return leaf ? atomic_load_explicit(&leaf->plans[index % PLANS_OF_LEAF], memory_order_acquire) : NULL;
+}
+
+static inline const struct plan *plan_of(ffi_cif *cif)
+{
+    const struct plan *plan = plan_at(cif->flags);
+    if (__builtin_expect(plan && plan->nargs == cif->nargs && plan->abi == cif->abi && plan->stack == cif->bytes, 1))
+        return plan;
+    return planned_again(cif);
+}
+
+#endif

@@ -1,0 +1,156 @@
+/* The table of plans: readers take no lock. */
+#include "plan.h"
+#include "host.h"
+#include "lock.h"
+#include <stdio.h>
+#include <stdlib.h>
+#include <string.h>
+
+_Atomic(struct leaf *) plan_leaves[LEAVES];
+
+/* Plans by their keys, with linear probing. A table that grew too small stays as it was for those who read it. */
+struct table {
+    size_t mask;
+    _Atomic(const struct plan *) slots[];
+};
+
+static _Atomic(struct table *) current;
+static uint32_t plans_count; /* under the lock */
+
+static inline uint64_t mixed(uint64_t hash, uint64_t word) { return (hash + word) * 0x9E3779B97F4A7C15u; }
+
+static inline uint64_t finished(uint64_t hash) { return hash ^ hash >> 32; }
+
+static uint64_t hash_of(const struct key *key)
+{
+    uint64_t hash = key->length;
+    for (size_t at = 0; at < key->length; at++)
+        hash = mixed(hash, (uint64_t)key->nodes[at].count << 32 | key->nodes[at].kind);
+    return finished(hash);
+}
+
+/* The plan of a word, or, where that is 0, of a key. */
+static inline const struct plan *found(const struct table *table, uint64_t hash, uint64_t word, const struct key *key)
+{
+    for (size_t k = hash; table; k++) {
+        const struct plan *plan = atomic_load_explicit(&table->slots[k & table->mask], memory_order_acquire);
+        if (!plan)
+            return NULL;
+        if (plan->hash != hash || plan->word != word)
+            continue;
+        if (word || (plan->nodes_count == key->length &&
+                     memcmp(plan->nodes, key->nodes, key->length * sizeof *key->nodes) == 0))
+            return plan;
+    }
+    return NULL;
+}
+
+static void enter(struct table *table, const struct plan *plan)
+{
+    size_t k = plan->hash;
+    while (atomic_load_explicit(&table->slots[k & table->mask], memory_order_relaxed))
+        k++;
+    atomic_store_explicit(&table->slots[k & table->mask], plan, memory_order_release);
+}
+
+/* Whether the table has room for one more: at most half of it is full. */
+static bool has_slot(void)
+{
+    struct table *table = atomic_load(&current);
+    size_t room = table ? table->mask + 1 : 0;
+    if (2 * (size_t)(plans_count + 1) <= room)
+        return true;
+    room = room ? 2 * room : 64;
+    struct table *larger = calloc(1, sizeof *larger + room * sizeof *larger->slots);
+    if (!larger)
+        return false;
+    larger->mask = room - 1;
+    for (uint32_t k = 1; k <= plans_count; k++)
+        enter(larger, plan_at(FLAGS_OF_INDEX(k)));
+    atomic_store_explicit(&current, larger, memory_order_release);
+    return true;
+}
+
+/* Whether there is a leaf for an index. */
+static bool has_leaf(uint32_t index)
+{
+    _Atomic(struct leaf *) *at = &plan_leaves[index / PLANS_OF_LEAF];
+    struct leaf *leaf = atomic_load(at);
+    if (!leaf && (leaf = calloc(1, sizeof *leaf)))
+        atomic_store_explicit(at, leaf, memory_order_release);
+    return leaf;
+}
+
+/* Puts a new plan into the table, under the lock. The table by indices has it first. */
+static bool has_entered(struct plan *plan)
+{
+    uint32_t index = plans_count + 1; /* 0 is none's */
+    if (index >= PLANS_OF_LEAF * LEAVES || !has_leaf(index) || !has_slot())
+        return false;
+    plan->index = plans_count = index;
+    struct leaf *leaf = atomic_load(&plan_leaves[index / PLANS_OF_LEAF]);
+    atomic_store_explicit(&leaf->plans[index % PLANS_OF_LEAF], plan, memory_order_release);
+    enter(atomic_load(&current), plan);
+    return true;
+}
+
+/* A new plan of a key that has nodes, or the one that another thread has made of it. */
+static const struct plan *make(const struct key *key, uint64_t hash, uint64_t word, const ffi_cif *cif)
+{
+    struct told told;
+    if (!has_asked_places(key, &told))
+        return NULL;
+    struct plan *plan = plan_from(key, word, &told, cif);
+    const struct plan *kept = NULL;
+    told_end(&told);
+    if (!plan)
+        return NULL;
+    plan->hash = hash;
+    pthread_mutex_lock(&plans_lock);
+    kept = found(atomic_load(&current), hash, word, key);
+    if (!kept && has_entered(plan))
+        kept = plan;
+    pthread_mutex_unlock(&plans_lock);
+    if (kept != plan)
+        free(plan);
+    return kept;
+}
+
+static const struct plan *plan_by_nodes(const ffi_cif *cif, unsigned fixed, uint64_t word)
+{
+    struct key key;
+    const struct plan *plan = NULL;
+    key_tell(&key, cif, fixed);
+    if (key.status == FFI_OK) {
+        uint64_t hash = word ? finished(mixed(0, word)) : hash_of(&key);
+        plan = word ? NULL : found(atomic_load_explicit(&current, memory_order_acquire), hash, word, &key);
+        plan = plan ? plan : make(&key, hash, word, cif);
+    }
+    key_end(&key);
+    return plan;
+}
+
+const struct plan *plan_for(const ffi_cif *cif, unsigned fixed)
+{
+    uint64_t word = fixed == FFI3_NOT_VARIADIC ? word_of(cif->abi, cif->nargs, cif->rtype, cif->arg_types) : 0;
+    if (word) {
+        struct table *table = atomic_load_explicit(&current, memory_order_acquire);
+        const struct plan *plan = found(table, finished(mixed(0, word)), word, NULL);
+        if (plan)
+            return plan;
+    }
+    return plan_by_nodes(cif, fixed, word);
+}
+
+/* Such an interface is not written to: it may be another library's, or another thread's. */
+const struct plan *planned_again(ffi_cif *cif)
+{
+    const struct plan *plan = NULL;
+    if (host_has_abi(cif->abi, false) && cif->nargs <= MOST_ARGUMENTS)
+        plan = plan_for(cif, FFI3_NOT_VARIADIC);
+    if (!plan) {
+        fputs("libffi: a call through an interface that is not prepared\n", stderr);
+        abort();
+    }
+    return plan;
+}

@@ -1,0 +1,53 @@
+/* Preparing: call interfaces, and offsets. */
+#include "host.h"
+#include "layout.h"
+#include "plan.h"
+
+/* Nobody who uses an interface while it is prepared again sees another one in between. */
+static inline ffi_status prepare(ffi_cif *cif, ffi_abi abi, unsigned fixed, unsigned nargs, ffi_type *rtype,
+                                 ffi_type **atypes)
+{
+    ffi_cif made = {.abi = abi, .nargs = nargs, .arg_types = atypes, .rtype = rtype};
+    if (!host_has_abi(abi, fixed != FFI3_NOT_VARIADIC))
+        return FFI_BAD_ABI;
+    if (nargs > MOST_ARGUMENTS)
+        return FFI_BAD_TYPEDEF;
+    bool are_laid_out = is_laid_out(rtype);
+    for (unsigned i = 0; i < nargs && are_laid_out; i++)
+        are_laid_out = is_laid_out(atypes[i]);
+    const struct plan *plan = are_laid_out ? plan_for(&made, fixed) : NULL;
+    cif->abi = abi;
+    cif->nargs = nargs;
+    cif->arg_types = atypes;
+    cif->rtype = rtype;
+    cif->bytes = plan ? plan->stack : 0;
+    __atomic_store_n(&cif->flags, plan ? FLAGS_OF_INDEX(plan->index) : 0, __ATOMIC_RELEASE);
+    return plan ? FFI_OK : FFI_BAD_TYPEDEF;
+}
+
+ffi_status ffi_prep_cif(ffi_cif *cif, ffi_abi abi, unsigned nargs, ffi_type *rtype, ffi_type **atypes)
+{
+    return prepare(cif, abi, FFI3_NOT_VARIADIC, nargs, rtype, atypes);
+}
+
+/* Whether C promotes what is passed behind the dots: what is narrower than an int, and float. */
+static bool is_promoted(const ffi_type *type)
+{
+    return type->type == FFI_TYPE_FLOAT || (!is_aggregate(type) && type->size < 4);
+}
+
+ffi_status ffi_prep_cif_var(ffi_cif *cif, ffi_abi abi, unsigned nfixedargs, unsigned ntotalargs, ffi_type *rtype,
+                            ffi_type **atypes)
+{
+    for (unsigned i = nfixedargs; i < ntotalargs && host_has_abi(abi, true); i++)
+        if (is_promoted(atypes[i]))
+            return FFI_BAD_ARGTYPE;
+    return prepare(cif, abi, nfixedargs, ntotalargs, rtype, atypes);
+}
+
+ffi_status ffi_get_struct_offsets(ffi_abi abi, ffi_type *struct_type, size_t *offsets)
+{
+    if (!host_has_abi(abi, false))
+        return FFI_BAD_ABI;
+    return struct_type->type == FFI_TYPE_STRUCT ? lay_out(struct_type, offsets) : FFI_BAD_TYPEDEF;
+}

@@ -1,0 +1,267 @@
+/* Interfaces that are checked before they are used: changed ones, those of another library, those that are prepared
+ * again while they are called, types that several threads lay out, arguments that are void, and frames that are
+ * larger than a thread's stack.  interfaces [LIBFFI]  links -lffi; LIBFFI is another library's file. */
+#define _GNU_SOURCE
+#include "expect.h"
+#include <dlfcn.h>
+#include <ffi.h>
+#include <pthread.h>
+#include <signal.h>
+#include <stdatomic.h>
+#include <stdlib.h>
+#include <string.h>
+#include <sys/mman.h>
+#include <sys/wait.h>
+#include <unistd.h>
+
+static int add(int a, int b) { return a + b; }
+static double same(double a) { return a; }
+static int last(int a) { return a; }
+
+static ffi_type *two[] = {&ffi_type_sint32, &ffi_type_sint32};
+
+static int sum(ffi_cif *cif, int a, int b)
+{
+    void *values[] = {&a, &b};
+    ffi_arg result = 0;
+    ffi_call(cif, FFI_FN(add), &result, values);
+    return (int)result;
+}
+
+/* An interface that another library prepared is planned anew, and so is one whose words were changed. */
+static void use_others(const char *library)
+{
+    ffi_cif cif;
+    void *handle = library ? dlopen(library, RTLD_NOW | RTLD_LOCAL) : NULL;
+    if (handle) {
+        __typeof__(ffi_prep_cif) *prepare = (__typeof__(ffi_prep_cif) *)dlsym(handle, "ffi_prep_cif");
+        EXPECT(prepare(&cif, FFI_DEFAULT_ABI, 2, &ffi_type_sint32, two) == FFI_OK);
+        EXPECT(sum(&cif, 4, 5) == 9);
+    }
+    EXPECT(ffi_prep_cif(&cif, FFI_DEFAULT_ABI, 2, &ffi_type_sint32, two) == FFI_OK);
+    for (unsigned bit = 0; bit < 32; bit++) {
+        ffi_cif changed = cif;
+        changed.flags ^= 1u << bit;
+        EXPECT(bit < 24 || sum(&changed, 4, 5) == 9);
+    }
+    ffi_cif zero = {.abi = FFI_DEFAULT_ABI, .nargs = 2, .rtype = &ffi_type_sint32, .arg_types = two};
+    EXPECT(sum(&zero, 4, 5) == 9);
+}
+
+/* What nothing can be planned for ends the process, and is not called. */
+static void use_none(void)
+{
+    pid_t child = fork();
+    int status;
+    if (child == 0) {
+        ffi_cif cif;
+        memset(&cif, 0xFF, sizeof cif);
+        fclose(stderr);
+        ffi_call(&cif, FFI_FN(add), NULL, NULL);
+        _exit(0);
+    }
+    waitpid(child, &status, 0);
+    EXPECT(WIFSIGNALED(status) && WTERMSIG(status) == SIGABRT);
+}
+
+static ffi_cif hot;
+static atomic_bool is_over;
+
+static void *prepare_again(void *data)
+{
+    while (!is_over)
+        ffi_prep_cif(&hot, FFI_DEFAULT_ABI, 2, &ffi_type_sint32, two);
+    return data;
+}
+
+static void call_while_prepared(void)
+{
+    pthread_t thread;
+    int wrong = 0;
+    ffi_prep_cif(&hot, FFI_DEFAULT_ABI, 2, &ffi_type_sint32, two);
+    pthread_create(&thread, NULL, prepare_again, NULL);
+    for (int i = 0; i < 500000; i++)
+        wrong += sum(&hot, i, 1) != i + 1;
+    is_over = true;
+    pthread_join(thread, NULL);
+    EXPECT(wrong == 0);
+}
+
+struct pair { double x, y; };
+
+static double weigh(struct pair it) { return it.x + 10 * it.y; }
+
+static ffi_type *doubles[] = {&ffi_type_double, &ffi_type_double, NULL};
+static ffi_type shared;
+static pthread_barrier_t barrier;
+static atomic_int wrong_layouts;
+
+static void *lay_out_at_once(void *is_first)
+{
+    for (int turn = 0; turn < 20000; turn++) {
+        pthread_barrier_wait(&barrier);
+        ffi_type *arguments[] = {&shared};
+        ffi_cif cif;
+        struct pair it = {1, 2};
+        void *values[] = {&it};
+        double got = 0;
+        if (ffi_prep_cif(&cif, FFI_DEFAULT_ABI, 1, &ffi_type_double, arguments) == FFI_OK)
+            ffi_call(&cif, FFI_FN(weigh), &got, values);
+        wrong_layouts += got != 21;
+        pthread_barrier_wait(&barrier);
+        if (is_first)
+            shared = (ffi_type){0, 0, FFI_TYPE_STRUCT, doubles};
+    }
+    return NULL;
+}
+
+static void lay_out_in_threads(void)
+{
+    pthread_t threads[3];
+    shared = (ffi_type){0, 0, FFI_TYPE_STRUCT, doubles};
+    pthread_barrier_init(&barrier, NULL, 3);
+    for (long k = 0; k < 3; k++)
+        pthread_create(&threads[k], NULL, lay_out_at_once, k == 0 ? &shared : NULL);
+    for (int k = 0; k < 3; k++)
+        pthread_join(threads[k], NULL);
+    EXPECT(wrong_layouts == 0);
+}
+
+/* Arguments that are void have no place; there may be many. */
+static void pass_voids(void)
+{
+    enum { COUNT = 70000 };
+    static ffi_type *types[COUNT];
+    static void *values[COUNT];
+    int number = 42, other = 1;
+    ffi_cif cif;
+    for (int i = 0; i < COUNT; i++)
+        types[i] = &ffi_type_void, values[i] = &other;
+    types[60000] = &ffi_type_sint32;
+    values[60000] = &number;
+    ffi_arg got = 0;
+    EXPECT(ffi_prep_cif(&cif, FFI_DEFAULT_ABI, 60001, &ffi_type_sint32, types) == FFI_OK);
+    ffi_call(&cif, FFI_FN(last), &got, values);
+    EXPECT((int)got == 42);
+    EXPECT(ffi_prep_cif(&cif, FFI_DEFAULT_ABI, COUNT, &ffi_type_sint32, types) == FFI_BAD_TYPEDEF);
+}
+
+/* What an interface said when it was prepared is what counts. */
+static void change_types(void)
+{
+    ffi_type *types[] = {&ffi_type_double};
+    ffi_cif cif;
+    double it = 2.5, got = 0;
+    void *values[] = {&it};
+    EXPECT(ffi_prep_cif(&cif, FFI_DEFAULT_ABI, 1, &ffi_type_double, types) == FFI_OK);
+    types[0] = &ffi_type_sint32;
+    ffi_call(&cif, FFI_FN(same), &got, values);
+    EXPECT(got == 2.5);
+}
+
+/* ---- A frame that is larger than the thread's stack meets the guard page: nothing beyond it is written. */
+
+#define BEYOND (1 << 20)
+
+static ffi_cif large;
+static volatile unsigned char *beyond;
+
+static void nothing(void) {}
+
+static void met_guard(int signal)
+{
+    size_t written = 0;
+    (void)signal;
+    for (size_t k = 0; k < BEYOND; k++)
+        written += beyond[k] != 0;
+    _exit(written != 0);
+}
+
+static void *overflow(void *alternate)
+{
+    static unsigned char block[4000];
+    void *values[64];
+    stack_t stack = {.ss_sp = alternate, .ss_size = 65536};
+    sigaltstack(&stack, NULL);
+    memset(block, 1, sizeof block);
+    for (int i = 0; i < 64; i++)
+        values[i] = block;
+    ffi_call(&large, FFI_FN(nothing), NULL, values);
+    _exit(2);
+}
+
+static void meet_guard(void)
+{
+    static ffi_type *words[501], *arguments[64], block;
+    for (int i = 0; i < 500; i++)
+        words[i] = &ffi_type_uint64;
+    block = (ffi_type){0, 0, FFI_TYPE_STRUCT, words};
+    for (int i = 0; i < 64; i++)
+        arguments[i] = &block;
+    EXPECT(ffi_prep_cif(&large, FFI_DEFAULT_ABI, 64, &ffi_type_void, arguments) == FFI_OK);
+    pid_t child = fork();
+    int status;
+    if (child == 0) {
+        static char alternate[65536];
+        struct sigaction action = {.sa_handler = met_guard, .sa_flags = SA_ONSTACK};
+        size_t size = 131072;
+        char *at = mmap(NULL, BEYOND + 4096 + size, PROT_READ | PROT_WRITE, MAP_PRIVATE | MAP_ANONYMOUS, -1, 0);
+        beyond = (unsigned char *)at;
+        mprotect(at + BEYOND, 4096, PROT_NONE);
+        sigaction(SIGSEGV, &action, NULL);
+        pthread_attr_t attributes;
+        pthread_t thread;
+        pthread_attr_init(&attributes);
+        pthread_attr_setstack(&attributes, at + BEYOND + 4096, size);
+        pthread_create(&thread, &attributes, overflow, alternate);
+        pthread_join(thread, NULL);
+        _exit(3);
+    }
+    waitpid(child, &status, 0);
+    EXPECT(WIFEXITED(status) && WEXITSTATUS(status) == 0);
+}
+
+/* Plans of many signatures: each is kept once, and what they take is bounded by how many there are. */
+static long pages(void)
+{
+    long all = 0, resident = 0;
+    FILE *file = fopen("/proc/self/statm", "r");
+    EXPECT(file && fscanf(file, "%ld %ld", &all, &resident) == 2);
+    fclose(file);
+    return resident;
+}
+
+static void prepare_many(void)
+{
+    ffi_type *kinds[] = {&ffi_type_sint8, &ffi_type_sint16, &ffi_type_sint32, &ffi_type_sint64,
+                         &ffi_type_float, &ffi_type_double, &ffi_type_pointer, &ffi_type_uint8};
+    long before = 0;
+    for (int turn = 0; turn < 3; turn++) {
+        for (unsigned n = 0; n < 32768; n++) {
+            ffi_type *types[5];
+            ffi_cif cif;
+            for (unsigned i = 0; i < 5; i++)
+                types[i] = kinds[n >> 3 * i & 7];
+            if (ffi_prep_cif(&cif, FFI_DEFAULT_ABI, 5, &ffi_type_void, types) != FFI_OK) {
+                EXPECT(false);
+                return;
+            }
+        }
+        if (turn == 0)
+            before = pages();
+    }
+    EXPECT(pages() - before < 64);
+}
+
+int main(int count, char **words)
+{
+    use_others(count > 1 ? words[1] : NULL);
+    use_none();
+    call_while_prepared();
+    lay_out_in_threads();
+    pass_voids();
+    change_types();
+    meet_guard();
+    prepare_many();
+    return ended();
+}

@@ -1,0 +1,150 @@
+/* Structs and unions that their client laid out itself, to functions that a compiler made: each is passed and given
+ * back as the compiler does it, or refused; nothing is guessed.  laid_out  links -lffi. */
+#include "expect.h"
+#include <ffi.h>
+#include <stdint.h>
+#include <stdlib.h>
+#include <string.h>
+
+#define PACKED __attribute__((packed))
+#define ALIGNED(n) __attribute__((aligned(n)))
+
+#define C &ffi_type_sint8
+#define S &ffi_type_sint16
+#define I &ffi_type_sint32
+#define L &ffi_type_sint64
+#define F &ffi_type_float
+#define D &ffi_type_double
+#define P &ffi_type_pointer
+
+/* Of each its name, its C and its elements. It is passed alone, in registers, and behind seven numbers, and given back. */
+#define LIST(X)                                                                                       \
+    X(packed_floats, struct PACKED { float a; float b; }, F, F)                                       \
+    X(packed_three_floats, struct PACKED { float a; float b; float c; }, F, F, F)                     \
+    X(packed_doubles, struct PACKED { double a; double b; }, D, D)                                    \
+    X(packed_double_int, struct PACKED { double a; int b; }, D, I)                                    \
+    X(packed_int_float, struct PACKED { int a; float b; }, I, F)                                      \
+    X(packed_double_char, struct PACKED { double a; char b; }, D, C)                                  \
+    X(packed_char_double, struct PACKED { char a; double b; }, C, D)                                  \
+    X(packed_char_int, struct PACKED { char a; int b; }, C, I)                                        \
+    X(packed_short_float, struct PACKED { short a; float b; }, S, F)                                  \
+    X(packed_chars, struct PACKED { char a; short b; char c; }, C, S, C)                              \
+    X(packed_large, struct PACKED { char a; double b; double c; }, C, D, D)                           \
+    X(packed_pointers, struct PACKED { void *a; void *b; }, P, P)                                     \
+    X(aligned_8_floats, struct ALIGNED(8) { float a; float b; }, F, F)                                \
+    X(aligned_8_float_int, struct ALIGNED(8) { float a; int b; }, F, I)                               \
+    X(aligned_8_three, struct ALIGNED(8) { float a; float b; int c; }, F, F, I)                       \
+    X(aligned_4_char, struct ALIGNED(4) { char a; }, C)                                               \
+    X(aligned_16_doubles, struct ALIGNED(16) { double a; double b; }, D, D)                           \
+    X(aligned_16_longs, struct ALIGNED(16) { long a; long b; }, L, L)                                 \
+    X(aligned_16_float, struct ALIGNED(16) { float a; float b; }, F, F)                               \
+    X(aligned_16_large, struct ALIGNED(16) { double a; double b; double c; }, D, D, D)                \
+    X(aligned_32_doubles, struct ALIGNED(32) { double a; double b; double c; double d; }, D, D, D, D) \
+    X(union_float_int, union { float a; int b; }, F, I)                                               \
+    X(union_float_long, union { float a; long b; }, F, L)                                             \
+    X(union_float_double, union { float a; double b; }, F, D)                                         \
+    X(union_double_long, union { double a; long b; }, D, L)                                           \
+    X(union_chars, union { char a; short b; }, C, S)                                                  \
+    X(union_pair, union { struct { float a; float b; } a; double b; }, &two_floats, D)                \
+    X(union_mixed, union { struct { float a; int b; } a; double b; }, &float_int, D)                  \
+    X(union_wide, union { struct { double a; long b; } a; float b; }, &double_long, F)                \
+    X(struct_of_union, struct { union { float a; int b; } a; double b; }, &union_float_int, D)        \
+    X(struct_of_packed, struct { struct PACKED { char a; int b; } a; char b; }, &packed_char_int, C)
+
+static ffi_type *floats[] = {&ffi_type_float, &ffi_type_float, NULL};
+static ffi_type *float_and_int[] = {&ffi_type_float, &ffi_type_sint32, NULL};
+static ffi_type *double_and_long[] = {&ffi_type_double, &ffi_type_sint64, NULL};
+static ffi_type *char_and_int[] = {&ffi_type_sint8, &ffi_type_sint32, NULL};
+static ffi_type two_floats = {8, 4, FFI_TYPE_STRUCT, floats}, float_int = {8, 4, FFI_TYPE_STRUCT, float_and_int};
+static ffi_type double_long = {16, 8, FFI_TYPE_STRUCT, double_and_long};
+static ffi_type union_float_int = {4, 4, FFI_TYPE_STRUCT, float_and_int};
+static ffi_type packed_char_int = {5, 1, FFI_TYPE_STRUCT, char_and_int};
+
+#define DECLARE(name, type, ...) typedef type name##_type;
+LIST(DECLARE)
+
+static long seen[10]; /* the integers in front, of the call that was made last */
+
+#define FUNCTIONS(name, ...)                                                                               \
+    __attribute__((noinline)) static name##_type name##_0(name##_type it) { return it; }                   \
+    __attribute__((noinline)) static name##_type name##_7(long a, double b, long c, long d, double e, long f, long g, \
+                                                          name##_type it, long h)                           \
+    {                                                                                                      \
+        long all[] = {a, (long)b, c, d, (long)e, f, g, h};                                                  \
+        memcpy(seen, all, sizeof all);                                                                      \
+        return it;                                                                                         \
+    }
+LIST(FUNCTIONS)
+
+/* The bytes of a type in which nothing stands. */
+static uint64_t padding_of(const char *name)
+{
+    static const struct { const char *name; uint64_t bytes; } PADDED[] = {
+        {"aligned_8_three", 0xF000}, {"aligned_4_char", 0xE}, {"aligned_16_float", 0xFF00},
+        {"aligned_16_large", 0xFF000000}, {"struct_of_union", 0xF0},
+    };
+    for (size_t k = 0; k < sizeof PADDED / sizeof *PADDED; k++)
+        if (strcmp(PADDED[k].name, name) == 0)
+            return PADDED[k].bytes;
+    return 0;
+}
+
+/* Calls with random bytes, which have to come back but for PADDING, a bit for each byte; or it is refused. */
+static bool is_same(const unsigned char *one, const unsigned char *other, size_t size, uint64_t padding)
+{
+    for (size_t k = 0; k < size; k++)
+        if (one[k] != other[k] && !(padding >> k & 1))
+            return false;
+    return true;
+}
+
+static void pass(const char *name, ffi_type *type, uint64_t padding, void (*alone)(void), void (*behind)(void),
+                 int *refused)
+{
+    unsigned char value[64] __attribute__((aligned(32))), got[64] __attribute__((aligned(32)));
+    ffi_type *one[] = {type}, *many[] = {&ffi_type_slong, &ffi_type_double, &ffi_type_slong, &ffi_type_slong,
+                                         &ffi_type_double, &ffi_type_slong, &ffi_type_slong, type, &ffi_type_slong};
+    ffi_cif cif, cif_behind;
+    ffi_status status = ffi_prep_cif(&cif, FFI_DEFAULT_ABI, 1, type, one);
+    EXPECT(status == FFI_OK || status == FFI_BAD_TYPEDEF);
+    EXPECT(ffi_prep_cif(&cif_behind, FFI_DEFAULT_ABI, 9, type, many) == status);
+    printf("%s: size %zu align %u %s\n", name, type->size, type->alignment, status ? "refused" : "passed");
+    *refused += status != FFI_OK;
+    if (status != FFI_OK)
+        return;
+    long numbers[] = {1, 0, 3, 4, 0, 6, 7, 8};
+    double reals[] = {2, 5};
+    void *alone_values[] = {value};
+    void *values[] = {&numbers[0], &reals[0],   &numbers[2], &numbers[3], &reals[1],
+                      &numbers[5], &numbers[6], value,       &numbers[7]};
+    for (int turn = 0; turn < 20; turn++) {
+        for (size_t k = 0; k < sizeof value; k++)
+            value[k] = (unsigned char)rand();
+        /* Of a float that a register holds, a signaling NaN stays what it is: no arithmetic is done. */
+        memset(got, 0xEE, sizeof got);
+        ffi_call(&cif, alone, got, alone_values);
+        EXPECT(is_same(got, value, type->size, padding));
+        EXPECT(got[type->size < 8 ? 8 : type->size] == 0xEE);
+        memset(got, 0xEE, sizeof got);
+        memset(seen, 0, sizeof seen);
+        ffi_call(&cif_behind, behind, got, values);
+        EXPECT(is_same(got, value, type->size, padding));
+        static const long wanted[] = {1, 2, 3, 4, 5, 6, 7, 8};
+        EXPECT(memcmp(seen, wanted, sizeof wanted) == 0);
+    }
+}
+
+int main(int count, char **words)
+{
+    int refused = 0, most = count > 1 ? atoi(words[1]) : 100;
+#define PASS(name, type, ...)                                                                                      \
+    {                                                                                                              \
+        ffi_type *elements[] = {__VA_ARGS__, NULL};                                                                \
+        ffi_type it = {sizeof(name##_type), _Alignof(name##_type), FFI_TYPE_STRUCT, elements};                     \
+        pass(#name, &it, padding_of(#name), FFI_FN(name##_0), FFI_FN(name##_7), &refused);                         \
+    }
+    LIST(PASS)
+    printf("%d refused\n", refused);
+    EXPECT(refused <= most);
+    return ended();
+}
