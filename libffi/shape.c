@@ -18,7 +18,7 @@ static bool add(const ffi_type *type, size_t at, int depth, struct shape *shape)
 
 static bool add_scalar(const ffi_type *type, size_t at, struct shape *shape)
 {
-    if (type->type == FFI_TYPE_VOID || type->size == 0 || type->size > 16 || at + type->size > SHAPE_BYTES)
+    if (type->type == FFI_TYPE_VOID || type->size == 0 || is_sized_otherwise(type) || at + type->size > SHAPE_BYTES)
         return false;
     uint64_t *kind = type->type == FFI_TYPE_FLOAT        ? &shape->real4
                      : type->type == FFI_TYPE_DOUBLE     ? &shape->real8
