@@ -5,6 +5,7 @@
 #include <stdint.h>
 #include <stdlib.h>
 #include <string.h>
+#include <unistd.h>
 
 #define PACKED __attribute__((packed))
 #define ALIGNED(n) __attribute__((aligned(n)))
@@ -181,6 +182,31 @@ static void say_other_sizes(void)
     EXPECT(ffi_prep_cif(&cif, FFI_DEFAULT_ABI, 1, &ffi_type_void, complexes) == FFI_OK);
 }
 
+/* ---- Unions of unions, and types that are in themselves: an answer comes, whatever it is. */
+
+static void end_soon(void)
+{
+    ffi_type unions[17], *elements[17][3], round, *rounds[] = {&round, &round, &round, NULL}, *arguments[1];
+    ffi_cif cif;
+    alarm(20);
+    unions[0] = (ffi_type){4, 4, FFI_TYPE_SINT32, NULL};
+    for (int depth = 1; depth <= 16; depth++) {
+        elements[depth][0] = elements[depth][1] = &unions[depth - 1];
+        elements[depth][2] = NULL;
+        unions[depth] = (ffi_type){4, 4, FFI_TYPE_STRUCT, elements[depth]};
+        arguments[0] = &unions[depth];
+        ffi_status status = ffi_prep_cif(&cif, FFI_DEFAULT_ABI, 1, &ffi_type_void, arguments);
+        EXPECT(status == FFI_OK || (depth > 4 && status == FFI_BAD_TYPEDEF));
+    }
+    arguments[0] = &round;
+    for (size_t size = 0; size <= 48; size += 8) {
+        round = (ffi_type){size, size ? 8 : 0, FFI_TYPE_STRUCT, rounds};
+        ffi_status status = ffi_prep_cif(&cif, FFI_DEFAULT_ABI, 1, &ffi_type_void, arguments);
+        EXPECT(status == FFI_BAD_TYPEDEF || size > 16);
+    }
+    alarm(0);
+}
+
 int main(int count, char **words)
 {
     int refused = 0, most = count > 1 ? atoi(words[1]) : 100;
@@ -193,6 +219,7 @@ int main(int count, char **words)
     LIST(PASS)
     pass_wide();
     say_other_sizes();
+    end_soon();
     printf("%d refused\n", refused);
     EXPECT(refused <= most);
     return ended();
