@@ -21,7 +21,8 @@ uint32_t handle_count(struct handle *it, uint8_t *shown, size_t room, struct cou
 uint32_t handle_share(struct handle *it, struct handle *other);
 void handle_release(struct handle *it);
 
-static long due, counted;
+static long due;
+static _Atomic long counted;
 static _Atomic long blocks; // that are not given back
 
 void *__real_malloc(size_t size);
@@ -30,8 +31,7 @@ void __real_free(void *block);
 
 static int is_refused(void)
 {
-    counted++;
-    return counted == due;
+    return ++counted == due;
 }
 
 void *__wrap_malloc(size_t size)
