@@ -141,10 +141,8 @@ def is_local(name: str, pc: int) -> bool:
     """Whether a symbol at an address is known as one of its file alone, by debug information or by the symbol table."""
     if gdb.lookup_static_symbol(name) is not None:
         return True
-    file = gdb.current_progspace().objfile_for_address(pc)
-    if file is None:
-        return False
-    said = gdb.execute(f"maintenance print msymbols -objfile {file.filename}", to_string=True)
+    file = gdb.solib_name(pc) or gdb.current_progspace().filename
+    said = gdb.execute(f"maintenance print msymbols -objfile {file}", to_string=True)
     return re.search(rf"^\[ *\d+\] t {pc:#x} {re.escape(name)}\b", said, re.M) is not None
 
 

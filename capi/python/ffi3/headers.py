@@ -51,6 +51,8 @@ TOKEN = re.compile(r"""
   | (?P<mark>\.\.\.|<<=?|>>=?|[-+&|<>=!]=|->|&&|\|\||\+\+|--|.)
     """, re.M | re.S | re.X)
 MARKER = re.compile(r'\s*#\s*(?:line\s+)?(\d+)\s+"(.*?)"([ \d]*)')
+PRAGMA = re.compile(r"^\s*#\s*pragma\s+(pack|options|ms_struct)|__pragma|_Pragma", re.M)
+LAYS_OUT = {"__attribute__", "__attribute", "__declspec", "_Alignas", "alignas"}
 WITH_BRACKETS = {"__attribute__", "__attribute", "__asm__", "__asm", "asm", "__declspec"}
 LEFT_OUT = {"__extension__", "__restrict", "__restrict__", "__inline", "__inline__", "__forceinline", "__thread",
             "_Noreturn", "__noreturn__", "__cdecl", "__stdcall", "__unaligned"}
@@ -382,7 +384,7 @@ class Definitions(c_ast.NodeVisitor):
             raise Refused("a complex integer")
         return Integer(value)
 
-    def parameter(self, node: c_ast.Node) -> Kind:
+    def parameter(self, node: c_ast.Node, is_plain: bool) -> Kind:
         """The type of a parameter: an array and a function are pointers (C11 6.7.6.3), and a union that an attribute
         makes transparent is passed as its first member."""
         meant = self.behind(node)
@@ -390,8 +392,8 @@ class Definitions(c_ast.NodeVisitor):
             return Pointer("")
         if isinstance(getattr(meant, "type", None), c_ast.Union) and meant.declname in self.transparent:
             first = meant.type.decls[0]
-            return self.read(first.type, f"{value_of(node)}.{first.name}")
-        return self.read(node, value_of(node))
+            return self.read(first.type, f"{value_of(node, is_plain)}.{first.name}")
+        return self.read(node, value_of(node, is_plain))
 
     def behind(self, node: c_ast.Node) -> c_ast.Node:
         """What a typedef name stands for; the node itself where it is none."""
@@ -407,19 +409,22 @@ class Definitions(c_ast.NodeVisitor):
         return isinstance(node, c_ast.TypeDecl) and getattr(node.type, "names", None) == ["void"]
 
 
-def spelled(node: c_ast.Node) -> str:
-    """The type of a parameter or result in C, where it can be named: no struct or enum that is written out."""
+def spelled(node: c_ast.Node, is_plain: bool = False) -> str:
+    """The type of a parameter or result in C. A struct or an enum that is written out there has no name, and can be
+    written once more only where no attribute or pragma says how it is laid out."""
     kind = node.type
     if isinstance(kind, c_ast.IdentifierType):
         return " ".join(kind.names)
-    if kind.name is None:
+    if kind.name:
+        return f"{type(kind).__name__.lower()} {kind.name}"
+    if not is_plain:
         raise Refused("a struct or an enum without a tag")
-    return f"{type(kind).__name__.lower()} {kind.name}"
+    return " ".join(c_generator.CGenerator().visit(kind).split())
 
 
-def value_of(node: c_ast.Node) -> str:
+def value_of(node: c_ast.Node, is_plain: bool) -> str:
     """An expression of the type of a parameter or result; none for a pointer, which is asked nothing."""
-    return "" if isinstance(node, c_ast.PtrDecl) else f"(*({spelled(node)} *)0)"
+    return "" if isinstance(node, c_ast.PtrDecl) else f"(*({spelled(node, is_plain)} *)0)"
 
 
 # ---- functions
@@ -432,6 +437,7 @@ class Function:
     target: str
     chunk: Chunk = field(repr=False)
     node: c_ast.Node | None = field(default=None, repr=False)
+    prototype: c_ast.FuncDecl | None = field(default=None, repr=False)
     result: Kind | None = field(default=None, repr=False)
     arguments: tuple[Kind, ...] = field(default=(), repr=False)
     names: tuple[str, ...] = ()
@@ -468,9 +474,10 @@ class Function:
     def types(self) -> list[Kind]:
         return [kind for kind in (self.result, *self.arguments) if kind]
 
-    def understand(self, definitions: Definitions) -> None:
-        """Finds the types, or the reason."""
-        node = definitions.behind(self.node.type)
+    def understand(self, definitions: Definitions, has_pragma: bool) -> None:
+        """Finds the types, or the reason; has_pragma says that some pragma may have laid out structs."""
+        is_plain = not has_pragma and LAYS_OUT.isdisjoint(self.chunk.raw)
+        self.prototype = node = definitions.behind(self.node.type)
         listed = node.args.params if node.args else []
         self.is_variadic = bool(listed) and isinstance(listed[-1], c_ast.EllipsisParam)
         listed = listed[:-1] if self.is_variadic else listed
@@ -481,8 +488,8 @@ class Function:
                 listed = []
             self.names = tuple(getattr(each, "name", None) or "" for each in listed)
             if not definitions.is_void(node.type):
-                self.result = definitions.read(node.type, value_of(node.type))
-            self.arguments = tuple(definitions.parameter(each.type) for each in listed)
+                self.result = definitions.read(node.type, value_of(node.type, is_plain))
+            self.arguments = tuple(definitions.parameter(each.type, is_plain) for each in listed)
         except Refused as refused:
             self.reason = str(refused)
 
@@ -556,20 +563,28 @@ def preprocessed(compiler: Compiler, headers: Iterable[str], more: Iterable[str]
     return made.stdout
 
 
+def asking(i: int, question: str) -> str:
+    """A function by which a compiler writes the value of a constant expression into its assembly, the lowest of four
+    digits first. Each has ten bits: gcc writes no larger constant for RISC-V."""
+    digits = ", ".join(f'"i" (n >> {10 * k} & 1023)' for k in range(4))
+    return (f"void ffi3_{i}(void) {{ enum {{ n = ({question}) }}; "
+            f'__asm__(".ascii \\"@@ {i} %c0 %c1 %c2 %c3 @@\\"" : : {digits}); }}')
+
+
 def answers_of(compiler: Compiler, text: str, questions: Iterable[str]) -> dict[str, int]:
-    """The compiler's answers to integer constant expressions, none where it refuses the expression."""
+    """The compiler's answers to constant expressions of natural numbers, none where it refuses the expression."""
     listed = list(dict.fromkeys(questions))
     with tempfile.TemporaryDirectory() as folder:
         file, refused = Path(folder, "asked.c"), set()
         while True:
             numbers = [i for i in range(len(listed)) if i not in refused]
-            asked = [f'void ffi3_{i}(void) {{ __asm__(".ascii \\"@@ {i} %c0 @@\\"" : : "i" '
-                     f"((long long)({listed[i]}))); }}" for i in numbers]
+            asked = [asking(i, listed[i]) for i in numbers]
             file.write_text("\n".join([text, '# 1 "asked"', *asked, ""]), "utf-8", "surrogateescape")
             made = run(*compiler.words, "-x", "cpp-output", "-w", "-S", "-O0", "-o", "-", file)
             if made.returncode == 0:
-                found = re.findall(r"@@ (\d+) (-?\d+) @@", made.stdout)
-                return {listed[int(i)]: int(number) for i, number in found}
+                found = re.findall(r"@@ (\d+) (\d+) (\d+) (\d+) (\d+) @@", made.stdout)
+                return {listed[int(i)]: sum(int(digit) << 10 * k for k, digit in enumerate(digits))
+                        for i, *digits in found}
             wrong = {numbers[int(line) - 1] for line in re.findall(r"^asked:(\d+):\d+: error", made.stderr, re.M)}
             if not wrong:
                 raise Failed(made.stderr.strip())
@@ -625,7 +640,7 @@ def functions_of(compiler: Compiler, text: str, is_wanted: Wanted) -> list[Funct
         if is_function and is_wanted(chunk):
             functions.setdefault(node.name, Function(node.name, compiler.target, chunk, node))
     for function in functions.values():
-        function.understand(definitions)
+        function.understand(definitions, PRAGMA.search(text) is not None)
     for chunk in left_out:
         if chunk.is_function():
             name = chunk.words[chunk.words.index("(") - 1]
