@@ -51,7 +51,7 @@ TOKEN = re.compile(r"""
   | (?P<mark>\.\.\.|<<=?|>>=?|[-+&|<>=!]=|->|&&|\|\||\+\+|--|.)
     """, re.M | re.S | re.X)
 MARKER = re.compile(r'\s*#\s*(?:line\s+)?(\d+)\s+"(.*?)"([ \d]*)')
-PRAGMA = re.compile(r"^\s*#\s*pragma\s+(pack|options|ms_struct)|__pragma|_Pragma", re.M)
+PRAGMA = re.compile(r"^[ \t]*#[ \t]*pragma[ \t]+(pack|options|ms_struct)|__pragma|_Pragma", re.M)
 LAYS_OUT = {"__attribute__", "__attribute", "__declspec", "_Alignas", "alignas"}
 WITH_BRACKETS = {"__attribute__", "__attribute", "__asm__", "__asm", "asm", "__declspec"}
 LEFT_OUT = {"__extension__", "__restrict", "__restrict__", "__inline", "__inline__", "__forceinline", "__thread",
@@ -639,8 +639,9 @@ def functions_of(compiler: Compiler, text: str, is_wanted: Wanted) -> list[Funct
         is_function = type(node) is c_ast.Decl and isinstance(definitions.behind(node.type), c_ast.FuncDecl)
         if is_function and is_wanted(chunk):
             functions.setdefault(node.name, Function(node.name, compiler.target, chunk, node))
+    has_pragma = PRAGMA.search(text) is not None
     for function in functions.values():
-        function.understand(definitions, PRAGMA.search(text) is not None)
+        function.understand(definitions, has_pragma)
     for chunk in left_out:
         if chunk.is_function():
             name = chunk.words[chunk.words.index("(") - 1]
