@@ -2,6 +2,7 @@
 
 import argparse
 import json
+import os
 import sys
 import time
 from collections.abc import Callable, Sequence
@@ -71,9 +72,7 @@ def _layout(words) -> int:
 
 
 def _arguments(words) -> int:
-    registers = dict(each.split("=", 1) for each in words.registers)
-    found = arguments(words.target, words.declaration, {name: int(value, 0) for name, value in registers.items()},
-                      words.sp, words.stack)
+    found = arguments(words.target, words.declaration, dict(words.registers), words.sp, words.stack)
     for i, value in enumerate(found):
         print(f"{i}: {', '.join(map(str, value))}")
     return 0
@@ -112,7 +111,9 @@ def _header(words) -> int:
 def _svg(words) -> int:
     from . import drawing
     if not words.headers:
-        text = drawing.svg(words.declaration)
+        if words.folders or words.defined or words.cc or words.all:
+            words.parser.error("-I, -D, --cc and --all are of --header")
+        text = drawing.svg(words.declaration, words.target or TARGETS)
     else:
         _, [entry] = _surveyed(words, [words.declaration])
         if not entry.is_read:
@@ -134,6 +135,24 @@ def _page(words) -> int:
     return 0
 
 
+def _bits(text: str) -> int:
+    """64 bits, in decimal or with 0x in front."""
+    try:
+        value = int(text, 0)
+    except ValueError:
+        value = -1
+    if not 0 <= value < 1 << 64:
+        raise argparse.ArgumentTypeError(f"{text!r} is no number from 0 to {(1 << 64) - 1:#x}")
+    return value
+
+
+def _register(text: str) -> tuple[str, int]:
+    name, mark, value = text.partition("=")
+    if not mark:
+        raise argparse.ArgumentTypeError(f"{text!r} has no =, as a0=7 has")
+    return name, _bits(value)
+
+
 def _with_compiler(parser: argparse.ArgumentParser) -> None:
     parser.add_argument("--target", action="append", choices=TARGETS,
                         help="a target; may be given again; else all four")
@@ -152,7 +171,7 @@ def _parser() -> argparse.ArgumentParser:
     def command(name: str, does: Callable, what: str, more: str = "") -> argparse.ArgumentParser:
         made = commands.add_parser(name, help=what, description=f"{what[0].upper()}{what[1:]}.\n\n{more}",
                                    formatter_class=raw)
-        made.set_defaults(does=does)
+        made.set_defaults(does=does, parser=made)
         return made
 
     made = command("place", _place, "where a function's arguments and result stand, a line a piece")
@@ -164,8 +183,9 @@ def _parser() -> argparse.ArgumentParser:
                    'python3 -m ffi3 arguments amd64 "int f(int a, double b)" rdi=7 xmm0=0x3ff0000000000000')
     made.add_argument("target", choices=TARGETS)
     made.add_argument("declaration", help="the function's declaration in C")
-    made.add_argument("registers", nargs="*", metavar="REGISTER=VALUE", help="64 bits; what is not named holds 0")
-    made.add_argument("--sp", type=lambda text: int(text, 0), default=0, help="the stack pointer")
+    made.add_argument("registers", nargs="*", type=_register, metavar="REGISTER=VALUE",
+                      help="64 bits; what is not named holds 0")
+    made.add_argument("--sp", type=_bits, default=0, help="the stack pointer")
     made.add_argument("--stack", type=bytes.fromhex, default=b"", help="the bytes from there on, in hexadecimal")
     made = command("header", _header, "every function of a C header with its places, and what is not read", PLACES)
     made.add_argument("headers", nargs="+", metavar="FILE.h")
@@ -208,6 +228,9 @@ def main(words: Sequence[str] | None = None) -> int:
             raise
         print("ffi3: headers are read with pycparser: pip install pycparser, or python3-pycparser of Debian",
               file=sys.stderr)
+        return 1
+    except BrokenPipeError:  # who reads has read enough, as head does
+        os.dup2(os.open(os.devnull, os.O_WRONLY), sys.stdout.fileno())
         return 1
     except _failures() as error:
         print(f"ffi3: {error.args[0] if isinstance(error, KeyError) else error}", file=sys.stderr)

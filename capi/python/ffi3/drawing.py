@@ -6,7 +6,7 @@
     drawing.drawn(drawing.of_entry(entry))
 """
 
-from collections.abc import Iterator, Mapping, Sequence
+from collections.abc import Iterable, Iterator, Mapping, Sequence
 from typing import TYPE_CHECKING, NamedTuple
 
 from .library import HIDDEN, RESULT, TARGETS, Call, Part, Piece, layout, place
@@ -31,13 +31,13 @@ class Subject(NamedTuple):
     sizes: dict[str, dict[Part, int]]
 
 
-def of_text(declaration: str | bytes) -> Subject:
+def of_text(declaration: str | bytes, targets: Iterable[str] = TARGETS) -> Subject:
     """The function that a text declares, its arguments by their numbers."""
     count = layout(declaration).arguments
     sizes = {i: layout(declaration, i).size for i in range(count)} | {HIDDEN: layout(declaration).size}
     title = declaration if isinstance(declaration, str) else declaration.decode()
-    return Subject(title, tuple(map(str, range(count))), {target: place(target, declaration) for target in TARGETS},
-                   dict.fromkeys(TARGETS, sizes))
+    calls = {target: place(target, declaration) for target in targets}
+    return Subject(title, tuple(map(str, range(count))), calls, dict.fromkeys(calls, sizes))
 
 
 def of_entry(entry: "Entry") -> Subject:
@@ -190,6 +190,6 @@ def drawn(subject: Subject) -> str:
         *drawing.lines, "</svg>", ""])
 
 
-def svg(declaration: str | bytes) -> str:
-    """A drawing of the function that a text declares, on the four targets."""
-    return drawn(of_text(declaration))
+def svg(declaration: str | bytes, targets: Iterable[str] = TARGETS) -> str:
+    """A drawing of the function that a text declares, on these targets."""
+    return drawn(of_text(declaration, targets))

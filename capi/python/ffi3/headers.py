@@ -64,6 +64,7 @@ INSTEAD = {"__const": "const", "__const__": "const", "__volatile__": "volatile",
            "__int8": "char", "__int16": "short", "__int32": "int", "__int64": "long long"}
 TRANSPARENT = {"transparent_union", "__transparent_union__"}
 OPEN, CLOSE = "([{", ")]}"
+AT_ONCE = 200  # so many chunks are parsed together
 BUILT_IN = ("typedef struct __ffi3_va_list __builtin_va_list; typedef __int128 __int128_t; "
             "typedef unsigned __int128 __uint128_t;")
 
@@ -144,16 +145,31 @@ def chunks(text: str) -> Iterator[Chunk]:
 
 def parsed(found: Sequence[Chunk]) -> tuple[list[tuple[Chunk, c_ast.Node]], list[Chunk]]:
     """The declarations that pycparser finds, each with its chunk, and the chunks that it cannot parse."""
+    parser, typedefs, declared, left_out = c_parser.CParser(), set(), [], []
+    for start in range(0, len(found), AT_ONCE):
+        here, unparsed = parsed_at_once(parser, found[start:start + AT_ONCE], typedefs)
+        typedefs |= {node.name for _, node in here if isinstance(node, c_ast.Typedef)}
+        declared += here
+        left_out += unparsed
+    return declared, left_out
+
+
+def parsed_at_once(parser: c_parser.CParser, found: Sequence[Chunk],
+                   typedefs: set[str]) -> tuple[list[tuple[Chunk, c_ast.Node]], list[Chunk]]:
+    """The same of some chunks, in front of which these names are known as those of types. What it cannot parse is left out,
+    and the others are given to it again."""
     left_out = set()
     while True:
-        lines = [BUILT_IN, *("" if i in left_out else " ".join(chunk.words) for i, chunk in enumerate(found))]
+        kept = [[] if i in left_out else chunk.words for i, chunk in enumerate(found)]
+        known = sorted(typedefs.intersection(chain.from_iterable(kept)))
+        lines = [" ".join([BUILT_IN, *(f"typedef int {name};" for name in known)]), *map(" ".join, kept)]
         try:
-            tree = c_parser.CParser().parse("\n".join(lines))
+            tree = parser.parse("\n".join(lines))
             declared = [(found[node.coord.line - 2], node) for node in tree.ext if node.coord.line > 1]
             return declared, [found[i] for i in sorted(left_out)]
         except c_parser.ParseError as error:
             number = int(re.match(r":?(\d+)", str(error))[1]) - 2
-            if number in left_out:
+            if number in left_out or number < 0:
                 raise Failed(f"pycparser: {error}") from None
             left_out.add(number)
 

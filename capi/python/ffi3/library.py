@@ -30,6 +30,7 @@ HIDDEN = "hidden"
 LEFT_OUT_LONG_DOUBLE, LAID_OUT_OTHERWISE = 6, 20
 _RESULT, _HIDDEN = 0xFFFFFFFF, 0xFFFFFFFE
 _NOT_VARIADIC = 0xFFFFFFFF
+_MOST_32, _MOST_64 = (1 << 32) - 1, (1 << 64) - 1
 _ADDRESS = 1
 _GENERAL, _FLOATING, _STACK = range(3)
 _RESTS = ("free", "extended", "extended by 32", "ones")
@@ -188,8 +189,11 @@ def _load() -> ctypes.CDLL:
     beside = Path(__file__).resolve().parents[2] / "out" / "libffi3.so"
     name = os.environ.get("FFI3_LIBRARY") or (str(beside) if beside.exists() else ctypes.util.find_library("ffi3"))
     if not name:
-        raise OSError("libffi3.so is not found: run capi/build, or name it in FFI3_LIBRARY")
+        raise OSError("libffi3.so is not found: capi/build makes it, where this package is used in its repository, and "
+                      "capi/install puts it where programs look; or name it in FFI3_LIBRARY")
     library = ctypes.CDLL(name)
+    if not hasattr(library, "ffi3_version"):
+        raise OSError(f"{name} is another library: it has no ffi3_version")
     # An older version may have other structs, and is lent none. Later ones with the same first number only add to them.
     library.ffi3_version.restype, library.ffi3_version.argtypes = ctypes.c_uint32, []
     found = library.ffi3_version()
@@ -224,7 +228,26 @@ def version() -> str:
 
 
 def _bytes_of(text: str | bytes) -> bytes:
-    return text.encode() if isinstance(text, str) else bytes(text)
+    return text.encode() if isinstance(text, str) else bytes(memoryview(text))
+
+
+def _target(name: str) -> int:
+    if name not in TARGETS:
+        raise ValueError(f"no target {name!r}: {', '.join(TARGETS)}")
+    return TARGETS.index(name)
+
+
+def _number(value: int, most: int) -> int:
+    """A number for C, where ctypes would drop the bits that C has no room for: in place of one that is negative or too
+    great the greatest, which is as wrong to the library."""
+    return index(value) if 0 <= index(value) <= most else most
+
+
+def _word(value: int, what: str) -> int:
+    """64 bits, of which no other number can take the place."""
+    if not 0 <= index(value) <= _MOST_64:
+        raise ValueError(f"{what}: {value} is no number of 64 bits")
+    return index(value)
 
 
 def _refuse(status: int, fault: _Fault, value: int | None = None) -> NoReturn:
@@ -261,7 +284,7 @@ def _part(number: int) -> Part:
 
 def _placed(target: str, tell) -> Call:
     """A call; tell makes that of the library, with the target's number, the struct and the array with its capacity."""
-    number, told = TARGETS.index(target), _Call()
+    number, told = _target(target), _Call()
 
     def ask(array, capacity):
         return tell(number, ctypes.byref(told), array, capacity), told.pieces
@@ -278,7 +301,7 @@ def _placed(target: str, tell) -> Call:
 def place(target: str, declaration: str | bytes) -> Call:
     """Where everything stands in a call, by a target's standard, of the function that a text declares.
 
-    Raises Error where the text declares none, and ValueError where there is no such target.
+    Raises Error where the text declares none, and another ValueError where there is no such target.
     """
     text = _bytes_of(declaration)
     return _placed(target, lambda number, *into: _library.ffi3_place(number, text, len(text), *into))
@@ -287,19 +310,25 @@ def place(target: str, declaration: str | bytes) -> Call:
 def _nodes_of(nodes: Iterable[Node]):
     """An array of nodes, and how many they are."""
     pairs = [(each, 0) if isinstance(each, (str, int)) else each for each in nodes]
-    made = [_Node(_NODE_KINDS.index(kind) if isinstance(kind, str) else kind, count) for kind, count in pairs]
+    made = [_Node(_kind(kind), _number(count, _MOST_32)) for kind, count in pairs]
     return (_Node * len(made))(*made), len(made)
+
+
+def _kind(kind: str | int) -> int:
+    if isinstance(kind, str) and kind not in _NODE_KINDS:
+        raise ValueError(f"no kind of node {kind!r}: {', '.join(_NODE_KINDS)}")
+    return _NODE_KINDS.index(kind) if isinstance(kind, str) else _number(kind, _MOST_32)
 
 
 def place_nodes(target: str, nodes: Iterable[Node], fixed: int | None = None) -> Call:
     """Where everything stands in a call of the function whose result and arguments are these nodes.
 
     A node is the name of a kind, or a pair of it and of how many members a struct, or elements an array, has. Of a
-    variadic function fixed says how many arguments are named. Raises as place does; the offset of an Error then says
-    behind how many nodes the fault is.
+    variadic function fixed says how many arguments are named. Raises as place does, and ValueError where a kind has no
+    such name; the offset of an Error then says behind how many nodes the fault is.
     """
     array, count = _nodes_of(nodes)
-    named = _NOT_VARIADIC if fixed is None else fixed
+    named = _NOT_VARIADIC if fixed is None else _number(fixed, _NOT_VARIADIC - 1)
     return _placed(target, lambda number, *into: _library.ffi3_place_nodes(number, array, count, named, *into))
 
 
@@ -325,8 +354,9 @@ def layout_nodes(nodes: Iterable[Node]) -> Type:
 def check_layout(nodes: Iterable[Node], size: int, align: int, offsets: Sequence[int] = ()) -> None:
     """Raises Error where the one type that these nodes are is laid out otherwise, or where they are none."""
     (array, count), fault = _nodes_of(nodes), _Fault()
-    starts = (ctypes.c_size_t * len(offsets))(*offsets)
-    status = _library.ffi3_check_layout(array, count, size, align, starts, len(starts), ctypes.byref(fault))
+    starts = (ctypes.c_size_t * len(offsets))(*(_number(each, _MOST_64) for each in offsets))
+    status = _library.ffi3_check_layout(array, count, _number(size, _MOST_64), _number(align, _MOST_64), starts,
+                                        len(starts), ctypes.byref(fault))
     if status != _OK:
         _refuse(status, fault)
 
@@ -336,10 +366,8 @@ def layout(declaration: str | bytes, value: Part = RESULT) -> Layout:
 
     Raises Error where the text declares none, and IndexError where it has no such argument.
     """
-    text, told, number = _bytes_of(declaration), _Layout(), _RESULT
-    if value != RESULT:
-        # a number that C has no room for, as -1, is that of no argument either
-        number = index(value) if 0 <= index(value) < _HIDDEN else _HIDDEN
+    text, told = _bytes_of(declaration), _Layout()
+    number = _RESULT if value == RESULT else _number(value, _HIDDEN)
 
     def ask(array, capacity):
         status = _library.ffi3_layout(text, len(text), number, ctypes.byref(told), array, capacity)
@@ -367,12 +395,12 @@ def _scalar(kind: str, held: bytes) -> Scalar:
 def _named_registers(number: int, values: Mapping[str, int], sp: int) -> _Registers:
     """The registers of a target by their names; those that are not named hold 0."""
     files = {_register(number, place, k): (place, k) for place in (_GENERAL, _FLOATING) for k in range(32)}
-    found = _Registers(sp=sp)
+    found = _Registers(sp=_word(sp, "sp"))
     for name, value in values.items():
         if name not in files or not name:
             raise KeyError(f"no register {name}")
         place, k = files[name]
-        (found.general if place == _GENERAL else found.floating)[k] = value
+        (found.general if place == _GENERAL else found.floating)[k] = _word(value, name)
     return found
 
 
@@ -383,10 +411,10 @@ def arguments(target: str, declaration: str | bytes, registers: Mapping[str, int
     registers has 64 bits for each name, of floating registers the lowest; those that are not named hold 0. stack has
     the bytes of memory from sp on. Each argument is the tuple of its scalars, a pointer an int. Raises ShortStack
     where the stack has too few bytes and NotInStack where an address points elsewhere, both LookupError; KeyError where
-    a name is no register; otherwise as place does.
+    a name is no register, ValueError where a register holds more than 64 bits; otherwise as place does.
     """
-    number, text, told = TARGETS.index(target), _bytes_of(declaration), _Arguments()
-    held, stack = _named_registers(number, registers, sp), bytes(stack)
+    number, text, told = _target(target), _bytes_of(declaration), _Arguments()
+    held, stack = _named_registers(number, registers, sp), bytes(memoryview(stack))
 
     def ask(array, capacity):
         status = _library.ffi3_arguments(number, text, len(text), ctypes.byref(held), stack, len(stack),
