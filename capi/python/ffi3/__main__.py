@@ -8,7 +8,7 @@ import time
 from collections.abc import Callable, Sequence
 from pathlib import Path
 
-from . import HIDDEN, RESULT, TARGETS, Error, arguments, layout, place, version
+from . import RESULT, TARGETS, Error, NotInStack, ShortStack, arguments, layout, place, version
 
 HELP = """\
 Where C's calling standards put the arguments and the result of a function.
@@ -72,7 +72,10 @@ def _layout(words) -> int:
 
 
 def _arguments(words) -> int:
-    found = arguments(words.target, words.declaration, dict(words.registers), words.sp, words.stack)
+    try:
+        found = arguments(words.target, words.declaration, dict(words.registers), words.sp, words.stack)
+    except KeyError as error:
+        words.parser.error(error.args[0])
     for i, value in enumerate(found):
         print(f"{i}: {', '.join(map(str, value))}")
     return 0
@@ -213,7 +216,7 @@ def _parser() -> argparse.ArgumentParser:
 
 def _failures() -> tuple[type[BaseException], ...]:
     """What is told in a line and ends the program with status 1."""
-    found: list[type[BaseException]] = [Error, LookupError, OSError]
+    found: list[type[BaseException]] = [Error, ShortStack, NotInStack, OSError]
     if "ffi3.headers" in sys.modules:
         found.append(sys.modules["ffi3.headers"].Failed)
     return tuple(found)
@@ -233,7 +236,7 @@ def main(words: Sequence[str] | None = None) -> int:
         os.dup2(os.open(os.devnull, os.O_WRONLY), sys.stdout.fileno())
         return 1
     except _failures() as error:
-        print(f"ffi3: {error.args[0] if isinstance(error, KeyError) else error}", file=sys.stderr)
+        print(f"ffi3: {error}", file=sys.stderr)
         return 1
 
 

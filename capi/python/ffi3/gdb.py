@@ -27,8 +27,16 @@ import gdb
 
 sys.path.insert(0, str(Path(__file__).resolve().parents[1]))
 
-from ffi3 import headers, library  # noqa: E402
-from ffi3.library import HIDDEN, RESULT, Call, Node, Piece, Scalar, Type  # noqa: E402
+try:
+    from ffi3 import headers, library
+    from ffi3.library import RESULT, Call, Node, Piece, Scalar, Type
+except ModuleNotFoundError as error:
+    if error.name != "pycparser":
+        raise
+    raise gdb.GdbError("ffi3 reads prototypes with pycparser, which gdb's own Python, "
+                       f"{sys.version.split()[0]} of {sys.prefix}, does not find") from None
+except (OSError, ImportError) as error:
+    raise gdb.GdbError(f"ffi3: {error}") from None
 
 MOST_STACK = 64 * 1024
 PAGE = 4096
@@ -113,7 +121,7 @@ def doubts(stop: Stop) -> Iterator[str]:
     name, behind = known.groups() if known else ("", None)
     if behind:
         yield f"the stop is {behind} bytes behind the first instruction of {name}: registers may have changed"
-    elif not is_behind_a_call(stop):
+    elif not is_behind_a_call(stop, return_address(stop)):
         yield "no call stands before the address to which this returns: the stop may not be at a function's entry"
     if name and not behind and is_local(name, pc):
         yield f"{name} is local to its file: a compiler may have changed how it is called"
@@ -121,13 +129,19 @@ def doubts(stop: Stop) -> Iterator[str]:
         yield "no symbol has this address: if the function is local, a compiler may have changed how it is called"
 
 
-def is_behind_a_call(stop: Stop) -> bool:
-    """Whether a call stands before the address to which a function that begins here would return."""
+def return_address(stop: Stop) -> int:
+    """Where a function that begins here would return to; 0 where its place has no memory."""
+    if stop.machine.link:
+        return stop.register(stop.machine.link)
     try:
-        if stop.machine.link:
-            back = stop.register(stop.machine.link)
-        else:
-            back = int.from_bytes(stop.memory(stop.register("sp"), 8), "little")
+        return int.from_bytes(stop.memory(stop.register("sp"), 8), "little")
+    except gdb.MemoryError:
+        return 0
+
+
+def is_behind_a_call(stop: Stop, back: int) -> bool:
+    """Whether a call stands before an address."""
+    try:
         for length in (5, 2, 3, 4, 6, 7) if stop.machine.target == "amd64" else (4, 2):
             [found] = stop.frame.architecture().disassemble(back - length, count=1)
             if found["length"] == length and stop.machine.jump.search(found["asm"]):
@@ -176,18 +190,19 @@ def one_of(found: Sequence[headers.Function], where: str) -> headers.Function:
 
 
 def compiler_of(target: str, flags: Sequence[str]) -> headers.Compiler:
-    """The target's compiler with more words."""
+    """The target's compiler with more words. What it has otherwise than the target's own is told."""
     own = headers.compiler_for(target)
+    if own.note:
+        print(f"note: {own.note}")
     return headers.Compiler(target, (*own.words, *flags), own.note)
 
 
-def of_text(target: str, text: str, flags: Sequence[str] = ()) -> headers.Function:
-    """The last function that a text in C declares, read by the target's compiler."""
+def of_text(compiler: headers.Compiler, text: str) -> headers.Function:
+    """The last function that a text in C declares, as a compiler reads it."""
     with tempfile.NamedTemporaryFile("w", suffix=".h") as file:
         file.write(text.strip().rstrip(";") + ";\n")
         file.flush()
-        found = headers.read(file.name, compiler=compiler_of(target, flags),
-                             is_wanted=lambda chunk: chunk.file == file.name)
+        found = headers.read(file.name, compiler=compiler, is_wanted=lambda chunk: chunk.file == file.name)
     return one_of(found, "this text")
 
 
@@ -196,13 +211,14 @@ def prototype_of(target: str, text: str) -> Prototype:
     try:
         asked_for = re.fullmatch(r"\s*(\w+)\s+in\s+([^:]*)(?::(.*))?", text)
         if not asked_for:
-            return Prototype(of_text(target, text), ())
+            return Prototype(of_text(compiler_of(target, ()), text), ())
         name, (path, *flags), more = asked_for[1], asked_for[2].split(), asked_for[3]
-        function = one_of(headers.read(path, compiler=compiler_of(target, flags), names=[name]), path)
+        compiler = compiler_of(target, flags)
+        function = one_of(headers.read(path, compiler=compiler, names=[name]), path)
         if not more:
             return Prototype(function, ())
         included = f'"{Path(path).resolve()}"' if Path(path).exists() else f"<{path}>"
-        given = of_text(target, f"#include {included}\nvoid ffi3_more({more})", flags)
+        given = of_text(compiler, f"#include {included}\nvoid ffi3_more({more})")
         return Prototype(function, given.nodes[1:])
     except headers.Failed as failed:
         raise gdb.GdbError(str(failed)) from None
@@ -315,8 +331,9 @@ def shown(kind: Type, value: tuple[Scalar, ...]) -> str:
 
 
 def pointed(address: int) -> str:
+    count = min(24, PAGE - address % PAGE)
     try:
-        held = gdb.selected_inferior().read_memory(address, 24).tobytes() if address else b""
+        held = gdb.selected_inferior().read_memory(address, count).tobytes() if address else b""
     except gdb.MemoryError:
         held = b""
     words = held.split(b"\0")[0]
@@ -364,6 +381,8 @@ ffi3-result NAME in HEADER [COMPILER'S FLAGS]"""
         function = prototype_of(stop.machine.target, text).function
         kind, call = function.layout(RESULT), function.place()
         pieces = call.pieces[call.passed:]
+        if not is_behind_a_call(stop, stop.frame.pc()):
+            print("note: no call stands before the instruction at which it stopped: no function may have returned here")
         if not kind.leaves:
             print("nothing comes back")
         elif not pieces:

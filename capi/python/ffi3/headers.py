@@ -276,7 +276,10 @@ class Array(Kind):
         return answered(answers, size(self.value)) // one if one else 0
 
     def nodes(self, answers: Answers) -> tuple[Node, ...]:
-        return (("array", self.count(answers)), *self.element.nodes(answers))
+        count = self.count(answers)
+        if count >= 1 << 32:  # more than a node can say
+            raise Refused(f"too large: {answered(answers, size(self.value))}")
+        return (("array", count), *self.element.nodes(answers))
 
 
 @dataclass(frozen=True)
@@ -579,12 +582,17 @@ def preprocessed(compiler: Compiler, headers: Iterable[str], more: Iterable[str]
     return made.stdout
 
 
+DIGITS = 7  # of ten bits each
+
+
 def asking(i: int, question: str) -> str:
-    """A function by which a compiler writes the value of a constant expression into its assembly, the lowest of four
-    digits first. Each has ten bits: gcc writes no larger constant for RISC-V."""
-    digits = ", ".join(f'"i" (n >> {10 * k} & 1023)' for k in range(4))
-    return (f"void ffi3_{i}(void) {{ enum {{ n = ({question}) }}; "
-            f'__asm__(".ascii \\"@@ {i} %c0 %c1 %c2 %c3 @@\\"" : : {digits}); }}')
+    """A function by which a compiler writes the value of a constant expression into its assembly, the lowest of seven
+    digits first. Each has ten bits: gcc writes no larger constant for RISC-V. A second constant divides by 0 where the
+    first is not the value: a compiler for Windows has enums of 32 bits alone."""
+    digits = ", ".join(f'"i" ((unsigned long long)n >> {10 * k} & 1023)' for k in range(DIGITS))
+    marks = " ".join(f"%c{k}" for k in range(DIGITS))
+    return (f'void ffi3_{i}(void) {{ enum {{ n = ({question}), m = 1 / (n == ({question})) }}; '
+            f'__asm__(".ascii \\"@@ {i} {marks} @@\\"" : : {digits}); }}')
 
 
 def answers_of(compiler: Compiler, text: str, questions: Iterable[str]) -> dict[str, int]:
@@ -598,9 +606,9 @@ def answers_of(compiler: Compiler, text: str, questions: Iterable[str]) -> dict[
             file.write_text("\n".join([text, '# 1 "asked"', *asked, ""]), "utf-8", "surrogateescape")
             made = run(*compiler.words, "-x", "cpp-output", "-w", "-S", "-O0", "-o", "-", file)
             if made.returncode == 0:
-                found = re.findall(r"@@ (\d+) (\d+) (\d+) (\d+) (\d+) @@", made.stdout)
-                return {listed[int(i)]: sum(int(digit) << 10 * k for k, digit in enumerate(digits))
-                        for i, *digits in found}
+                found = re.findall(r"@@ (\d+)((?: \d+)+) @@", made.stdout)
+                return {listed[int(i)]: sum(int(digit) << 10 * k for k, digit in enumerate(digits.split()))
+                        for i, digits in found}
             wrong = {numbers[int(line) - 1] for line in re.findall(r"^asked:(\d+):\d+: error", made.stderr, re.M)}
             if not wrong:
                 raise Failed(made.stderr.strip())
