@@ -134,6 +134,9 @@ class Browser:
         return [(each["role"]["value"], each.get("name", {}).get("value", "")) for each in nodes
                 if not each.get("ignored")]
 
+    def size(self, width: int, height: int) -> None:
+        self.ask("Emulation.setDeviceMetricsOverride", width=width, height=height, deviceScaleFactor=1, mobile=False)
+
     def prefers(self, scheme: str) -> None:
         self.ask("Emulation.setEmulatedMedia", features=[{"name": "prefers-color-scheme", "value": scheme}])
 

@@ -8,6 +8,7 @@ union un { int i; float f; };
 struct has_union { int a; union { int i; float f; }; };
 struct holds_union { union un u; };
 struct large { char c[5000]; };
+struct huge { char c[(1ull << 41) + 8]; };
 struct none { char c[0]; };
 struct padded { _Alignas(16) int i; };
 struct inside { struct { char c; int i; } __attribute__((packed)); double d; };
@@ -33,6 +34,7 @@ int r_has_union(struct has_union); //= a union by value
 int r_holds_union(struct holds_union); //= a union by value
 int r_unknown(struct unknown); //= a struct without members here: unknown
 int r_large(struct large); //= too large: 5000
+int r_huge(struct huge); //= too large: 2199023255560
 int r_deep(struct deep); //= at node 16: too deep
 int r_none(struct none); //= bad typedef
 int r_four(four); //= left out: vector
