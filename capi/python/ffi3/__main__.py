@@ -229,6 +229,7 @@ def _failures() -> tuple[type[BaseException], ...]:
 
 
 def main(words: Sequence[str] | None = None) -> int:
+    """Does what the words of the command line say, and answers the status."""
     given = _parser().parse_args(words)
     try:
         return given.does(given)

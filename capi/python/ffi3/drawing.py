@@ -50,6 +50,7 @@ def of_entry(entry: "Entry") -> Subject:
 
 
 def colour(part: Part) -> str:
+    """Of an argument its own; results and their buffers are grey."""
     return _RESULT_COLOUR if part in (RESULT, HIDDEN) else _COLOURS[part % len(_COLOURS)]
 
 
@@ -59,6 +60,7 @@ def label(names: tuple[str, ...], part: Part) -> str:
 
 
 def escaped(text: str) -> str:
+    """A text as XML has it."""
     return text.replace("&", "&amp;").replace("<", "&lt;").replace(">", "&gt;").replace('"', "&quot;")
 
 

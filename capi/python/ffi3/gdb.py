@@ -294,6 +294,7 @@ def named_arguments(stop: Stop, prototype: Prototype) -> list[tuple[Scalar, ...]
 
 
 def read_or_say(stop: Stop, at: int, size: int, what: str) -> bytes:
+    """Memory to which a reference leads."""
     try:
         return stop.memory(at, size)
     except gdb.MemoryError:
@@ -331,6 +332,7 @@ def shown(kind: Type, value: tuple[Scalar, ...]) -> str:
 
 
 def pointed(address: int) -> str:
+    """A pointer, with the text that stands there, if any."""
     count = min(24, PAGE - address % PAGE)
     try:
         held = gdb.selected_inferior().read_memory(address, count).tobytes() if address else b""

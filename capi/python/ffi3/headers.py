@@ -112,6 +112,7 @@ def past_brackets(listed: Sequence[tuple], at: int) -> int:
 
 
 def chunks(text: str) -> Iterator[Chunk]:
+    """The chunks of a preprocessed text. A function's body is left out, and so is what pycparser has no word for."""
     listed, at, depth, chunk = list(tokens(text)), 0, 0, None
     while at < len(listed):
         kind, word, files, line = listed[at]
@@ -183,18 +184,22 @@ REALS = {"float": 4, "double": 8}
 
 
 def size(value: str) -> str:
+    """A question: the size of an expression's type."""
     return f"sizeof({value})"
 
 
 def sign(value: str) -> str:
+    """Whether it has a sign: a question that a compiler refuses of what is neither integer nor real."""
     return f"((__typeof__({value}))-1 < 0)"
 
 
 def align(value: str) -> str:
+    """Its alignment."""
     return f"_Alignof(__typeof__({value}))"
 
 
 def answered(answers: Answers, question: str) -> int:
+    """The answer that a type must have to stand by value."""
     if question not in answers:
         raise Refused("a type without a size")
     return answers[question]
@@ -537,6 +542,7 @@ class Compiler:
 
 
 def run(*words, **more) -> subprocess.CompletedProcess:
+    """What a program says; Failed where it does not start."""
     # (a header may have bytes that are no UTF-8 in its comments and texts)
     try:
         return subprocess.run([str(word) for word in words], capture_output=True, encoding="utf-8",
@@ -574,6 +580,7 @@ def compiler_for(target: str | None = None, cc: str | None = None, folders: Iter
 
 
 def preprocessed(compiler: Compiler, headers: Iterable[str], more: Iterable[str] = ()) -> str:
+    """Headers as the compiler's preprocessor leaves them: those of files that are there, and else of its folders."""
     text = "".join(f'#include "{Path(header).resolve()}"\n' if Path(header).exists() else f"#include <{header}>\n"
                    for header in headers)
     made = run(*compiler.words, "-E", *more, "-x", "c", "-", input=text)

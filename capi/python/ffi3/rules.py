@@ -75,6 +75,7 @@ RULES = {
 
 
 def is_floating(place: str) -> bool:
+    """Whether a register is a floating or vector register, by its name."""
     return place.startswith(("xmm", "v", "fa"))
 
 
