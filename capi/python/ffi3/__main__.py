@@ -45,6 +45,15 @@ nodes, as ffi3.place_nodes takes them, `fixed`, and `need`, `frame`, `vectors` a
 """
 
 
+ARGUMENTS = """\
+  python3 -m ffi3 arguments aapcs64 "int f(int a, double b)" x0=7 v0=0x3ff0000000000000
+  python3 -m ffi3 arguments amd64 "int f(int a, double b)" rdi=7 xmm0=0x3ff0000000000000 --stack 9e10400000000000
+
+On amd64 and win64 the return address stands first on the stack, in 8 bytes, and on win64 the shadow store of 32 behind
+it. Each argument is a line of its scalars.
+"""
+
+
 class Progress:
     """Says on a terminal what is done, where it takes longer than a second."""
 
@@ -183,13 +192,15 @@ def _parser() -> argparse.ArgumentParser:
         made.set_defaults(does=does, parser=made)
         return made
 
-    made = command("place", _place, "where a function's arguments and result stand, a line a piece")
+    made = command("place", _place, "where a function's arguments and result stand, a line a piece",
+                   '  python3 -m ffi3 place riscv "double f(struct { int i; float x; } a)"')
     made.add_argument("target", choices=TARGETS)
     made.add_argument("declaration", help="the function's declaration in C")
-    made = command("layout", _layout, "size, alignment and scalars of each argument and of the result")
+    made = command("layout", _layout, "size, alignment and scalars of each argument and of the result",
+                   '  python3 -m ffi3 layout "double f(struct { int i; float x; } a)"')
     made.add_argument("declaration", help="the function's declaration in C")
     made = command("arguments", _arguments, "what a function was called with, from registers and stack at its entry",
-                   'python3 -m ffi3 arguments amd64 "int f(int a, double b)" rdi=7 xmm0=0x3ff0000000000000')
+                   ARGUMENTS)
     made.add_argument("target", choices=TARGETS)
     made.add_argument("declaration", help="the function's declaration in C")
     made.add_argument("registers", nargs="*", type=_register, metavar="REGISTER=VALUE",
@@ -203,14 +214,14 @@ def _parser() -> argparse.ArgumentParser:
     made.add_argument("--json", action="store_true", help="for programs: types as nodes, pieces with all that is known")
     _with_compiler(made)
     made = command("svg", _svg, "a drawing of registers and stack, each argument in a colour of its own",
-                   'python3 -m ffi3 svg call.svg "double f(struct { int i; float x; } a)"\n'
-                   "python3 -m ffi3 svg crc32.svg crc32 --header zlib.h --target amd64 --target win64")
+                   '  python3 -m ffi3 svg call.svg "double f(struct { int i; float x; } a)"\n'
+                   "  python3 -m ffi3 svg crc32.svg crc32 --header zlib.h --target amd64 --target win64")
     made.add_argument("file", metavar="FILE.svg")
     made.add_argument("declaration", help="the function's declaration in C, or its name in a header")
     made.add_argument("--header", action="append", default=[], dest="headers", metavar="FILE.h")
     _with_compiler(made)
     made = command("page", _page, "one page of HTML that draws every function of a header, and works from the disk",
-                   "python3 -m ffi3 page zlib.h -o zlib.html")
+                   "  python3 -m ffi3 page zlib.h -o zlib.html")
     made.add_argument("headers", nargs="+", metavar="FILE.h")
     made.add_argument("-o", dest="output", metavar="FILE.html", help="else the first header's name with .html")
     made.add_argument("--function", action="append", default=[], metavar="NAME",
