@@ -352,7 +352,15 @@ ffi3-args PROTOTYPE
 ffi3-args NAME in HEADER [COMPILER'S FLAGS] [: TYPE, TYPE..]
 
 The types behind the colon are those of what stands in the place of the dots. A note says where the stop is not at an
-entry, or the function is local, so that its caller may have passed something else."""
+entry, or the function is local, so that its caller may have passed something else.
+
+    break *(long)&deflateInit2_                 its first instruction, where `break deflateInit2_` may be behind it
+    run
+    ffi3-args deflateInit2_ in zlib.h
+    ffi3-args SDL_RenderCopyF in SDL.h -I/usr/include/SDL2
+    ffi3-args printf in stdio.h : int, double
+    ffi3-args double weigh(struct { int id; float weight; } item, const char *label, double scale)
+    ffi3-args typedef enum { OFF, ON } state; void set(state now, char label[8])"""
 
     def __init__(self):
         super().__init__("ffi3-args", gdb.COMMAND_DATA)
@@ -373,7 +381,12 @@ class Result(gdb.Command):
     """Prints what a function gave back, where it has just returned, as behind `finish`.
 
 ffi3-result PROTOTYPE
-ffi3-result NAME in HEADER [COMPILER'S FLAGS]"""
+ffi3-result NAME in HEADER [COMPILER'S FLAGS]
+
+    finish
+    ffi3-result deflateInit2_ in zlib.h
+
+A large struct is read through the address that comes back; by AAPCS64 none does."""
 
     def __init__(self):
         super().__init__("ffi3-result", gdb.COMMAND_DATA)

@@ -157,8 +157,8 @@ def parsed(found: Sequence[Chunk]) -> tuple[list[tuple[Chunk, c_ast.Node]], list
 
 def parsed_at_once(parser: c_parser.CParser, found: Sequence[Chunk],
                    typedefs: set[str]) -> tuple[list[tuple[Chunk, c_ast.Node]], list[Chunk]]:
-    """The same of some chunks, in front of which these names are those of types. What it cannot parse is left out, and the
-    others are given to it again."""
+    """The same of some chunks, in front of which these names are those of types. What it cannot parse is left out, and
+    the others are given to it again."""
     left_out = set()
     while True:
         kept = [[] if i in left_out else chunk.words for i, chunk in enumerate(found)]
