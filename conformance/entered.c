@@ -39,7 +39,7 @@ int main(void)
     struct wide wide = {1, 2, 3, 4, 5};
     struct tag tag = {"hello", -9};
     double found = weigh(item, "label", 2.25, box, wide, 11, 1L << 40, tag, 200, ON, 1.5f, -3);
-    found += pair("%d %f", 42, 6.5).weight + widen(1).e;
+    found += pair("%d %f", 42, 6.5, 1, 2, 3, 4, 5, 6, 7, wide).weight + widen(1).e;
 #ifdef WITH_ZLIB
     z_stream stream;
     memset(&stream, 0, sizeof stream);
