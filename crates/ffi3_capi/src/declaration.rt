@@ -21,7 +21,7 @@ pub enum Declaration<'a> {
 }
 
 /// The signature of the function that is declared; otherwise the fault, or None for a want of memory.
-pub(crate) fn declared(
+pub fn declared(
     alloc: Global,
     declaration: Declaration<'_>,
 ) -> Result<Sig, Option<TextFault>>
