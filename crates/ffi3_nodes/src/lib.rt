@@ -15,7 +15,7 @@ pub use single::{RefusedType, read_type};
 #[repr(C)]
 #[derive(Clone, Copy, Debug)]
 pub struct Node {
-    /// A scalar's kind, or one of those below.
+    /// A scalar's kind, from `FFI3_UINT8`, 0, to `FFI3_POINTER`, 12, or one of those below.
     pub kind: u32,
     /// Of a struct how many elements follow; of an array how many it has of the one type that follows; of another 0.
     pub count: u32,

@@ -17,7 +17,7 @@ pub record IsCollected (std : Standard) (s : Signature) (m : Image) (bytes : Lis
   pub owned : (vs : List ValueTree) → Own std s vs m → values_packed s.arguments bytes ≡ vs
   pub padding : HaveZeroPadding s.arguments bytes
 
--- OR WHY NOT
+-- OR WHY NOT: the first of these that is so
 abbrev pub IsNotCollected : Standard → Signature → Image → List ℕ → Uncollected → Type 0
 IsNotCollected std s m old (WrongSize wanted) = (wanted ≡ packed_size s.arguments) × (length old ≢ wanted)
 IsNotCollected std s m old (ShortStack wanted) =
