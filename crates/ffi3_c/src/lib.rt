@@ -153,13 +153,8 @@ pub extern "C" fn ffi3_prepare(
 ) -> u32
     ensures { Prepares (AreNodesOf nodes.now fixed) (IsFaultOfNodes nodes.now fixed) target interface.old.kept result fault.new interface.new.kept }
 {
-    ffi3_interface::prepare(
-        alloc,
-        target,
-        Declaration::Nodes(nodes, fixed),
-        interface,
-        fault,
-    )
+    let declaration = Declaration::Nodes(nodes, fixed);
+    ffi3_interface::prepare(alloc, target, declaration, interface, fault)
 }
 
 /// Lets another handle keep the same interface.

@@ -4,7 +4,7 @@ ghost use Rattle.ffi3_moves.specs.Moves.{moves_of};
 ghost use Rattle.ffi3_prepared.specs.Prepared.{signature_in, standard_in};
 ghost use Rattle.ffi3_interface.specs.Listing.{TellsMoves, kind_number, lists, moves_by, told_move};
 
-use ffi3_capi::codes::{DONE, NOT_PREPARED, OUT_OF_MEMORY, UNKNOWN_VALUE};
+use ffi3_capi::codes::{NOT_PREPARED, OUT_OF_MEMORY, UNKNOWN_VALUE};
 use ffi3_capi::fill::{fill, room_status};
 use ffi3_cif::Cif;
 use ffi3_handle::{Handle, Kept};
