@@ -29,12 +29,12 @@ is_interface declares target to s k is declared keeps = record {
 
 module _ (declares : Signature → Type 0) (is_fault : TextFault → Type 0) (target : ℕ) (old : Option Kept) where
   pub prepared_as : (k : Kept) (f : TextFault) (new : Option Kept) → IsInterface declares target k → f ≡ fault_with NoFault → new ≡ Some k → Prepares declares is_fault target old 0 f new
-  prepared_as k f new is told now =
-      subst (λ (n : Option Kept). Prepares declares is_fault target old 0 f n) (sym now) (subst (λ (g : TextFault). Prepares declares is_fault target old 0 g (Some k)) (sym told) (prepared k is))
+  prepared_as k f new is said now =
+      subst (λ (n : Option Kept). Prepares declares is_fault target old 0 f n) (sym now) (subst (λ (g : TextFault). Prepares declares is_fault target old 0 g (Some k)) (sym said) (prepared k is))
 
   pub refused_as : (r : Refusal) (f : TextFault) (status : ℕ) → IsPlaceRefusal is_fault target r → f ≡ fault_in r → status ≡ status_of r → Prepares declares is_fault target old status f old
-  refused_as r f status is told answered =
-      subst (λ (n : ℕ). Prepares declares is_fault target old n f old) (sym answered) (subst (λ (g : TextFault). Prepares declares is_fault target old (status_of r) g old) (sym told) (refused r is))
+  refused_as r f status is said answered =
+      subst (λ (n : ℕ). Prepares declares is_fault target old n f old) (sym answered) (subst (λ (g : TextFault). Prepares declares is_fault target old (status_of r) g old) (sym said) (refused r is))
 
 abbrev IsTrue : Bool → Type 0
 IsTrue true = Unit {0}

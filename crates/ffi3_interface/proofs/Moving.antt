@@ -14,9 +14,8 @@ use Rattle.ffi3_prepared.specs.Prepared.{signature_in, standard_in}
 use Rattle.ffi3_handle.specs.declared.kept.Kept.{Kept}
 use Rattle.ffi3_interface.specs.declared.transfers.Reason.{Reason}
 use Rattle.ffi3_interface.specs.Keeping.{interface_in}
-use Rattle.ffi3_interface.specs.Transfers.{Stores, stored, unstored, Loads, loaded, unloaded, Collects, collected, uncollected, Gives, given, ungiven}
+use Rattle.ffi3_interface.specs.Transfers.{Stores, stored, unstored, Loads, loaded, unloaded, Collects, collected, uncollected, collects_nothing, Gives, given, ungiven, gives_nothing}
 use Rattle.ffi3_interface.specs.Transfers.{unstored_status, no_reason, uncollected_status, uncollected_reason, ungiven_status, ungiven_reason}
-use Rattle.ffi3_interface.specs.Transfers as transfers
 
 -- what is not written makes the same image
 pub same_image : (old new : Registers) (before after : List ℕ) → new ≡ old → after ≡ before → image_in new after ≡ image_in old before
@@ -64,8 +63,8 @@ module _ {it : Option Kept} (k : Kept) (is : it ≡ Some k) (p : Prepared) (at :
       subst (λ (m : Image). Gives it value old status r m) (sym same) (subst (λ (x : Reason). Gives it value old status x old) (sym told) with_status)
 
 module _ {it : Option Kept} (is : it ≡ None) where
-  pub collects_nothing : (m : Image) (old : List ℕ) (r : Reason) → r ≡ no_reason → Collects it m old 10 r old
-  collects_nothing m old r none = subst (λ (x : Reason). Collects it m old 10 x old) (sym none) (transfers.Collects.nothing is)
+  pub collects_of_none : (m : Image) (old : List ℕ) (r : Reason) → r ≡ no_reason → Collects it m old 10 r old
+  collects_of_none m old r none = subst (λ (x : Reason). Collects it m old 10 x old) (sym none) (collects_nothing is)
 
-  pub gives_nothing : (value : List ℕ) (old : Image) (r : Reason) → r ≡ no_reason → Gives it value old 10 r old
-  gives_nothing value old r none = subst (λ (x : Reason). Gives it value old 10 x old) (sym none) (transfers.Gives.nothing is)
+  pub gives_of_none : (value : List ℕ) (old : Image) (r : Reason) → r ≡ no_reason → Gives it value old 10 r old
+  gives_of_none value old r none = subst (λ (x : Reason). Gives it value old 10 x old) (sym none) (gives_nothing is)

@@ -2,11 +2,11 @@
 use Rattle.std.specs.Prelude.{◌≡◌, ℕ, List, Option, Some, None}
 use Rattle.ffi3_place_rules.specs.Image.{Image}
 use Rattle.ffi3_transfer.specs.declared.Unstored.{Unstored}
-use Rattle.ffi3_transfer.specs.declared.Unstored.TheVariants as unstored
+use Rattle.ffi3_transfer.specs.declared.Unstored.TheVariants as not_stored
 use Rattle.ffi3_transfer.specs.declared.Uncollected.{Uncollected}
-use Rattle.ffi3_transfer.specs.declared.Uncollected.TheVariants as uncollected
+use Rattle.ffi3_transfer.specs.declared.Uncollected.TheVariants as not_collected
 use Rattle.ffi3_transfer.specs.declared.Ungiven.{Ungiven}
-use Rattle.ffi3_transfer.specs.declared.Ungiven.TheVariants as ungiven
+use Rattle.ffi3_transfer.specs.declared.Ungiven.TheVariants as not_given
 use Rattle.ffi3_transfer.specs.Calls.{IsCallStored, IsNotStored, IsLoaded, IsNotLoaded, IsGiven, IsNotGiven}
 use Rattle.ffi3_transfer.specs.Collected.{IsCollected, IsNotCollected}
 use Rattle.ffi3_prepared.specs.Prepared.{signature_in, standard_in}
@@ -17,20 +17,20 @@ use Rattle.ffi3_interface.specs.declared.transfers.Reason.{Reason}
 use Rattle.ffi3_interface.specs.Keeping.{interface_in}
 
 abbrev pub unstored_status : Unstored → ℕ
-unstored_status (unstored.WrongSize wanted) = WRONG_SIZE
-unstored_status (unstored.ShortStack wanted) = SHORT_STACK
-unstored_status unstored.HighStack = HIGH_STACK
+unstored_status (not_stored.WrongSize wanted) = WRONG_SIZE
+unstored_status (not_stored.ShortStack wanted) = SHORT_STACK
+unstored_status not_stored.HighStack = HIGH_STACK
 
 abbrev pub uncollected_status : Uncollected → ℕ
-uncollected_status (uncollected.WrongSize wanted) = WRONG_SIZE
-uncollected_status (uncollected.ShortStack wanted) = SHORT_STACK
-uncollected_status (uncollected.NotInStack argument address) = NOT_IN_STACK
+uncollected_status (not_collected.WrongSize wanted) = WRONG_SIZE
+uncollected_status (not_collected.ShortStack wanted) = SHORT_STACK
+uncollected_status (not_collected.NotInStack argument address) = NOT_IN_STACK
 
 abbrev pub ungiven_status : Ungiven → ℕ
-ungiven_status (ungiven.WrongSize wanted) = WRONG_SIZE
-ungiven_status (ungiven.ShortStack wanted) = SHORT_STACK
-ungiven_status ungiven.HighStack = HIGH_STACK
-ungiven_status (ungiven.NotInStack address) = NOT_IN_STACK
+ungiven_status (not_given.WrongSize wanted) = WRONG_SIZE
+ungiven_status (not_given.ShortStack wanted) = SHORT_STACK
+ungiven_status not_given.HighStack = HIGH_STACK
+ungiven_status (not_given.NotInStack address) = NOT_IN_STACK
 
 -- what is told beside the number: how many bytes are wanted, or an address and whose it is
 abbrev pub no_reason : Reason
@@ -43,15 +43,15 @@ abbrev pub points : ℕ → ℕ → Reason
 points i to = record { wanted = 0; address = to; argument = i; reserved = 0 }
 
 abbrev pub uncollected_reason : Uncollected → Reason
-uncollected_reason (uncollected.WrongSize wanted) = wants wanted
-uncollected_reason (uncollected.ShortStack wanted) = wants wanted
-uncollected_reason (uncollected.NotInStack argument address) = points argument address
+uncollected_reason (not_collected.WrongSize wanted) = wants wanted
+uncollected_reason (not_collected.ShortStack wanted) = wants wanted
+uncollected_reason (not_collected.NotInStack argument address) = points argument address
 
 abbrev pub ungiven_reason : Ungiven → Reason
-ungiven_reason (ungiven.WrongSize wanted) = wants wanted
-ungiven_reason (ungiven.ShortStack wanted) = wants wanted
-ungiven_reason ungiven.HighStack = no_reason
-ungiven_reason (ungiven.NotInStack address) = points HIDDEN_PART address
+ungiven_reason (not_given.WrongSize wanted) = wants wanted
+ungiven_reason (not_given.ShortStack wanted) = wants wanted
+ungiven_reason not_given.HighStack = no_reason
+ungiven_reason (not_given.NotInStack address) = points HIDDEN_PART address
 
 -- WHAT ffi3_store ANSWERS, and the image that registers and stack are then
 pub data Stores (it : Option Kept) (values : List ℕ) (old : Image) : ℕ → Image → Type 0 where
@@ -61,7 +61,7 @@ pub data Stores (it : Option Kept) (values : List ℕ) (old : Image) : ℕ → I
   unstored : (k : Kept) (f : Unstored) → it ≡ Some k
       → IsNotStored (standard_in (interface_in k)) (signature_in (interface_in k)) values old f
       → Stores it values old (unstored_status f) old
-  nothing : it ≡ None → Stores it values old NOT_PREPARED old
+  stores_nothing : it ≡ None → Stores it values old NOT_PREPARED old
 
 -- WHAT ffi3_load ANSWERS, and the bytes of the result then
 pub data Loads (it : Option Kept) (m : Image) (old : List ℕ) : ℕ → List ℕ → Type 0 where
@@ -70,7 +70,7 @@ pub data Loads (it : Option Kept) (m : Image) (old : List ℕ) : ℕ → List �
   unloaded : (k : Kept) (f : Unstored) → it ≡ Some k
       → IsNotLoaded (standard_in (interface_in k)) (signature_in (interface_in k)) m old f
       → Loads it m old (unstored_status f) old
-  nothing : it ≡ None → Loads it m old NOT_PREPARED old
+  loads_nothing : it ≡ None → Loads it m old NOT_PREPARED old
 
 -- WHAT ffi3_collect ANSWERS, what it tells beside it, and the bytes of the values then
 pub data Collects (it : Option Kept) (m : Image) (old : List ℕ) : ℕ → Reason → List ℕ → Type 0 where
@@ -80,7 +80,7 @@ pub data Collects (it : Option Kept) (m : Image) (old : List ℕ) : ℕ → Reas
   uncollected : (k : Kept) (f : Uncollected) → it ≡ Some k
       → IsNotCollected (standard_in (interface_in k)) (signature_in (interface_in k)) m old f
       → Collects it m old (uncollected_status f) (uncollected_reason f) old
-  nothing : it ≡ None → Collects it m old NOT_PREPARED no_reason old
+  collects_nothing : it ≡ None → Collects it m old NOT_PREPARED no_reason old
 
 -- WHAT ffi3_give ANSWERS, what it tells beside it, and the image that registers and stack are then
 pub data Gives (it : Option Kept) (value : List ℕ) (old : Image) : ℕ → Reason → Image → Type 0 where
@@ -90,4 +90,4 @@ pub data Gives (it : Option Kept) (value : List ℕ) (old : Image) : ℕ → Rea
   ungiven : (k : Kept) (f : Ungiven) → it ≡ Some k
       → IsNotGiven (standard_in (interface_in k)) (signature_in (interface_in k)) value old f
       → Gives it value old (ungiven_status f) (ungiven_reason f) old
-  nothing : it ≡ None → Gives it value old NOT_PREPARED no_reason old
+  gives_nothing : it ≡ None → Gives it value old NOT_PREPARED no_reason old

@@ -42,7 +42,7 @@ const LISTS: [MoveList; 5] = [
 
 /// A move: C's `struct ffi3_move`.
 #[repr(C)]
-#[derive(Clone, Copy, Drop)]
+#[derive(Clone, Copy)]
 pub struct ToldMove {
     /// How it makes the bytes that it writes.
     pub kind: u32,

@@ -1,12 +1,12 @@
 use Rattle.std.proofs.Common.{rules}
 use Rattle.ffi3_transfer.specs.Stored.{image_in}
 use Rattle.ffi3_interface.proofs.Answering.{none_if}
-use Rattle.ffi3_interface.proofs.Moving.{collected_as, collects_nothing, uncollected_as}
+use Rattle.ffi3_interface.proofs.Moving.{collected_as, collects_of_none, uncollected_as}
 use Rattle.ffi3_interface.proofs.transfers.collect.Goals as goal
 
 pub returns-then-not-is_kept-clause-collected : goal.returns-then-not-is_kept-clause-collected
 returns-then-not-is_kept-clause-collected c =
-    collects_nothing (none_if c.args.it.now.kept (search rules)) (image_in c.args.registers.now c.args.stack.now) c.args.values.now c.no_reason.result c.no_reason.ensures
+    collects_of_none (none_if c.args.it.now.kept (search rules)) (image_in c.args.registers.now c.args.stack.now) c.args.values.now c.no_reason.result c.no_reason.ensures
 
 pub returns-in-Ok-clause-collected : goal.returns-in-Ok-clause-collected
 returns-in-Ok-clause-collected c =

@@ -1,12 +1,12 @@
 use Rattle.std.proofs.Common.{rules}
 use Rattle.ffi3_transfer.specs.Stored.{image_in}
 use Rattle.ffi3_interface.proofs.Answering.{none_if}
-use Rattle.ffi3_interface.proofs.Moving.{given_as, gives_nothing, same_image, ungiven_as}
+use Rattle.ffi3_interface.proofs.Moving.{given_as, gives_of_none, same_image, ungiven_as}
 use Rattle.ffi3_interface.proofs.transfers.give.Goals as goal
 
 pub returns-then-not-is_kept-clause-given : goal.returns-then-not-is_kept-clause-given
 returns-then-not-is_kept-clause-given c =
-    gives_nothing (none_if c.args.it.now.kept (search rules)) c.args.value.now (image_in c.args.registers.now c.args.stack.now) c.no_reason.result c.no_reason.ensures
+    gives_of_none (none_if c.args.it.now.kept (search rules)) c.args.value.now (image_in c.args.registers.now c.args.stack.now) c.no_reason.result c.no_reason.ensures
 
 pub returns-in-Ok-clause-given : goal.returns-in-Ok-clause-given
 returns-in-Ok-clause-given c =

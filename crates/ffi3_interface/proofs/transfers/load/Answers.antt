@@ -1,12 +1,12 @@
 use Rattle.std.proofs.Common.{rules}
 use Rattle.ffi3_transfer.specs.Stored.{image_in}
-use Rattle.ffi3_interface.specs.Transfers as transfers
+use Rattle.ffi3_interface.specs.Transfers.{loads_nothing}
 use Rattle.ffi3_interface.proofs.Answering.{none_if}
 use Rattle.ffi3_interface.proofs.Moving.{loaded_as, unloaded_as}
 use Rattle.ffi3_interface.proofs.transfers.load.Goals as goal
 
 pub returns-then-not-is_kept-clause-loaded : goal.returns-then-not-is_kept-clause-loaded
-returns-then-not-is_kept-clause-loaded c = transfers.Loads.nothing (none_if c.args.it.now.kept (search rules))
+returns-then-not-is_kept-clause-loaded c = loads_nothing (none_if c.args.it.now.kept (search rules))
 
 pub returns-in-Ok-clause-loaded : goal.returns-in-Ok-clause-loaded
 returns-in-Ok-clause-loaded c =

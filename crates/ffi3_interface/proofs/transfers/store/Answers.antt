@@ -1,12 +1,12 @@
 use Rattle.std.proofs.Common.{rules}
 use Rattle.ffi3_transfer.specs.Stored.{image_in}
-use Rattle.ffi3_interface.specs.Transfers as transfers
+use Rattle.ffi3_interface.specs.Transfers.{stores_nothing}
 use Rattle.ffi3_interface.proofs.Answering.{none_if}
 use Rattle.ffi3_interface.proofs.Moving.{same_image, stored_as, unstored_as}
 use Rattle.ffi3_interface.proofs.transfers.store.Goals as goal
 
 pub returns-then-not-is_kept-clause-stored : goal.returns-then-not-is_kept-clause-stored
-returns-then-not-is_kept-clause-stored c = transfers.Stores.nothing (none_if c.args.it.now.kept (search rules))
+returns-then-not-is_kept-clause-stored c = stores_nothing (none_if c.args.it.now.kept (search rules))
 
 pub returns-in-Ok-clause-stored : goal.returns-in-Ok-clause-stored
 returns-in-Ok-clause-stored c =
