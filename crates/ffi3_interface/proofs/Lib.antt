@@ -1,3 +1,3 @@
-mod Answering
-mod Telling
-mod Moving
+pub mod Answering
+pub mod Telling
+pub mod Moving
