@@ -6,8 +6,8 @@
 #include <stdint.h>
 
 /* The exchange region, through which the stubs hand registers over: docs/FORMATS.md, section 7, has the places up to
- * 552, and the stubs' rows go by them. It stands on the stack of the call, 16-aligned, and the call owns it; behind
- * it stands the caller's frame. */
+ * 552, and the stubs' rows go by them. It stands on the stack of the call, which owns it: that of a caller 16-aligned,
+ * and behind it the caller's frame; that of a closure aligned to 8 only. */
 struct exchange {
     uint64_t general[32];  /* by the numbers of instructions: x0 0, x1 1 ..; rax 0, rcx 1, rdx 2, rsi 6, rdi 7 .. */
     uint64_t floating[32]; /* of each the low 64 bits */

@@ -16,6 +16,19 @@ static const uint8_t SCALARS[FFI_TYPE_LAST + 1] = {
     [FFI_TYPE_COMPLEX] = FFI3_STRUCT,
 };
 
+static const uint8_t SIZES[FFI_TYPE_LAST + 1] = {
+    [FFI_TYPE_INT] = 4,    [FFI_TYPE_FLOAT] = 4,  [FFI_TYPE_DOUBLE] = 8, [FFI_TYPE_LONGDOUBLE] = 16,
+    [FFI_TYPE_UINT8] = 1,  [FFI_TYPE_SINT8] = 1,  [FFI_TYPE_UINT16] = 2, [FFI_TYPE_SINT16] = 2,
+    [FFI_TYPE_UINT32] = 4, [FFI_TYPE_SINT32] = 4, [FFI_TYPE_UINT64] = 8, [FFI_TYPE_SINT64] = 8,
+    [FFI_TYPE_POINTER] = 8,
+};
+
+bool is_sized_otherwise(const ffi_type *type)
+{
+    size_t size = type->type <= FFI_TYPE_LAST ? SIZES[type->type] : 0;
+    return size && (type->size != size || type->alignment != size);
+}
+
 uint32_t scalar_kind(unsigned short type) { return type <= FFI_TYPE_LAST ? SCALARS[type] : FFI3_STRUCT; }
 
 /* ---- Nodes */
@@ -61,7 +74,8 @@ bool is_natural(const ffi_type *type)
     size_t size = 0, alignment = 1;
     for (ffi_type **it = type->elements; *it; it++) {
         size_t own = (*it)->alignment;
-        if ((*it)->type == FFI_TYPE_VOID || (*it)->size == 0 || own == 0 || own > 16 || (own & (own - 1)))
+        if ((*it)->type == FFI_TYPE_VOID || (*it)->size == 0 || own == 0 || own > 16 || (own & (own - 1)) ||
+            is_sized_otherwise(*it))
             return false;
         size = rounded(size, own) + (*it)->size;
         alignment = own > alignment ? own : alignment;
@@ -74,14 +88,15 @@ static bool put_type(struct key *key, const ffi_type *type, int depth);
 /* A complex number is passed as a struct of its two parts. */
 static bool put_complex(struct key *key, const ffi_type *type, int depth)
 {
-    if (!type->elements || !type->elements[0])
+    const ffi_type *part = type->elements ? type->elements[0] : NULL;
+    if (!part || is_sized_otherwise(part) || type->size != 2 * part->size || type->alignment != part->alignment)
         return false;
-    switch (type->elements[0]->type) {
+    switch (part->type) {
     case FFI_TYPE_FLOAT: key_put(key, FFI3_COMPLEX_FLOAT, 0); return true;
     case FFI_TYPE_DOUBLE: key_put(key, FFI3_COMPLEX_DOUBLE, 0); return true;
     default:
         key_put(key, FFI3_STRUCT, 2);
-        return put_type(key, type->elements[0], depth + 1) && put_type(key, type->elements[0], depth + 1);
+        return put_type(key, part, depth + 1) && put_type(key, part, depth + 1);
     }
 }
 

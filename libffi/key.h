@@ -65,6 +65,10 @@ static inline bool is_aggregate(const ffi_type *type)
 /* The library's kind of a scalar, or FFI3_STRUCT where it has none for it. */
 uint32_t scalar_kind(unsigned short type);
 
+/* Whether a scalar has another size or alignment than its type has. A plan is shared by all that have its key, which
+ * has no sizes of scalars, so none may count. */
+bool is_sized_otherwise(const ffi_type *type);
+
 /* Whether the size and the alignment of a struct are those that its elements make. */
 bool is_natural(const ffi_type *type);
 

@@ -44,11 +44,12 @@ static enum move_kind of_length(uint32_t length)
 
 static bool is_scalar(const ffi_type *type) { return !is_aggregate(type) && type->type != FFI_TYPE_LONGDOUBLE; }
 
-/* How many bytes of the value a piece has: a stand-in may be longer than the type that it stands in for. */
+/* How many bytes of the value a piece has: a stand-in may be longer than the type that it stands in for. What a client
+ * says of a scalar's size does not count. */
 static uint32_t length_of(const struct ffi3_piece *piece, const ffi_type *type)
 {
     size_t left = type->size > piece->offset ? type->size - piece->offset : 0;
-    return piece->length < left ? piece->length : (uint32_t)left;
+    return is_scalar(type) || piece->length < left ? piece->length : (uint32_t)left;
 }
 
 static struct move move_in(const struct ffi3_piece *piece, const ffi_type *type, uint16_t argument)

@@ -11,6 +11,7 @@ _Atomic(struct leaf *) plan_leaves[LEAVES];
 /* Plans by their keys, with linear probing. A table that grew too small stays as it was for those who read it. */
 struct table {
     size_t mask;
+    struct table *smaller; /* the one that it took the place of */
     _Atomic(const struct plan *) slots[];
 };
 
@@ -65,6 +66,7 @@ static bool has_slot(void)
     if (!larger)
         return false;
     larger->mask = room - 1;
+    larger->smaller = table;
     for (uint32_t k = 1; k <= plans_count; k++)
         enter(larger, plan_at(FLAGS_OF_INDEX(k)));
     atomic_store_explicit(&current, larger, memory_order_release);

@@ -12,6 +12,7 @@
 #include <stdlib.h>
 #include <string.h>
 #include <sys/mman.h>
+#include <sys/stat.h>
 #include <unistd.h>
 
 #define SLOTS (BLOCK_BYTES / SLOT_BYTES)
@@ -33,19 +34,31 @@ static struct block *open_blocks;
 
 /* ---- Code */
 
+/* Whether this file is the one that is mapped, by its number, and has the block's bytes: what is mapped behind a file's
+ * end can't be read. In another root another file may have the library's name. */
+static bool is_mapped_file(int file, unsigned long number, off_t at)
+{
+    struct stat found;
+    return fstat(file, &found) == 0 && (unsigned long)found.st_ino == number && found.st_size - at >= BLOCK_BYTES;
+}
+
 /* Where in which file this library's slots_code stands, by the list of mappings that the kernel gives. The caller owns
  * the file; -1 where it isn't found. */
 static int own_file(off_t *at)
 {
-    unsigned long first, end, offset, wanted = (unsigned long)slots_code;
+    unsigned long first, end, offset, number, wanted = (unsigned long)slots_code;
     char line[4352], path[4097];
     int file = -1;
     FILE *maps = fopen("/proc/self/maps", "re");
     while (maps && file < 0 && fgets(line, sizeof line, maps))
-        if (sscanf(line, "%lx-%lx %*4s %lx %*s %*s %4096[^\n]", &first, &end, &offset, path) == 4 && first <= wanted &&
-            wanted < end) {
+        if (sscanf(line, "%lx-%lx %*4s %lx %*s %lu %4096[^\n]", &first, &end, &offset, &number, path) == 5 &&
+            first <= wanted && wanted < end) {
             *at = (off_t)(offset + (wanted - first));
             file = open(path, O_RDONLY | O_CLOEXEC);
+            if (file >= 0 && !is_mapped_file(file, number, *at)) {
+                close(file);
+                file = -1;
+            }
             break;
         }
     if (maps)

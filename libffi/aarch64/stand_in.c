@@ -38,12 +38,13 @@ static bool put_homogeneous(struct key *key, uint32_t kind, size_t count)
     return true;
 }
 
-static bool has_long_double(const ffi_type *type, int depth)
+/* Whether one may be there: types in one another without end are not looked through. */
+static bool may_have_long_double(const ffi_type *type, int depth, unsigned *looks)
 {
-    bool has_one = type->type == FFI_TYPE_LONGDOUBLE;
-    for (ffi_type **it = is_aggregate(type) && depth < 16 ? type->elements : NULL; it && *it && !has_one; it++)
-        has_one = has_long_double(*it, depth + 1);
-    return has_one;
+    bool may = type->type == FFI_TYPE_LONGDOUBLE || ++*looks > 100000;
+    for (ffi_type **it = is_aggregate(type) && depth < 16 ? type->elements : NULL; it && *it && !may; it++)
+        may = may_have_long_double(*it, depth + 1, looks);
+    return may;
 }
 
 /* A type of up to 16 bytes that is not homogeneous is in general registers or on the stack by its size. By which
@@ -55,7 +56,8 @@ bool host_put_stand_in(struct key *key, const ffi_type *type, ffi_abi abi)
     if (type->size == 0 || type->alignment == 0 || type->alignment > 16 || (type->alignment & (type->alignment - 1)))
         return false;
     if (!find_shape(type, &shape)) {
-        size_t widest = has_long_double(type, 0) ? SHAPE_BYTES : WIDEST_OF_DOUBLES;
+        unsigned looks = 0;
+        size_t widest = may_have_long_double(type, 0, &looks) ? SHAPE_BYTES : WIDEST_OF_DOUBLES;
         return type->size > widest && put_bytes(key, type);
     }
     uint64_t others = shape.integer | shape.real16;

@@ -3,7 +3,8 @@
 /* st(0) and st(1), 16 bytes each, where no register of the rows has its place. */
 #define X87_AT ((uint32_t)offsetof(struct exchange, general[16]))
 
-/* How many long doubles are all of the type: 1 of a long double and of a struct of one, 2 of a complex one; else 0. */
+/* How many long doubles are all of the type: 1 of a long double and of a struct of one, 2 of a complex one; else 0. A
+ * struct of a complex one has four eightbytes, so it is in memory, as an argument and as a result. */
 static uint32_t long_doubles_of(const ffi_type *type, int depth)
 {
     if (type->type == FFI_TYPE_LONGDOUBLE)
@@ -11,7 +12,7 @@ static uint32_t long_doubles_of(const ffi_type *type, int depth)
     if (!is_aggregate(type) || !type->elements || !type->elements[0] || type->elements[1] || depth > 16)
         return 0;
     uint32_t count = long_doubles_of(type->elements[0], depth + 1);
-    return type->type == FFI_TYPE_COMPLEX ? 2 * count : count;
+    return type->type == FFI_TYPE_COMPLEX ? 2 * count : count == 1;
 }
 
 /* By the psABI, class X87 is in memory as an argument and in st(0) as a result, and COMPLEX_X87 in st(0) and st(1). GCC

@@ -178,12 +178,12 @@ make_call:
 	ROUTINE	enter_go_closure
 	RECEIVE	receive_go_closure, 0
 	.size	enter_go_closure, .-enter_go_closure
-	.balign	32
-win64_core:
+	ROUTINE	win64_core
 	RECEIVE	receive_closure, 192
-	.balign	32
-win64_go_core:
+	.size	win64_core, .-win64_core
+	ROUTINE	win64_go_core
 	RECEIVE	receive_go_closure, 192
+	.size	win64_go_core, .-win64_go_core
 	ROUTINE	enter_closure_win64
 	RECEIVE_WIN64 win64_core
 	.size	enter_closure_win64, .-enter_closure_win64

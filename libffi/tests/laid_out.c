@@ -5,6 +5,7 @@
 #include <stdint.h>
 #include <stdlib.h>
 #include <string.h>
+#include <unistd.h>
 
 #define PACKED __attribute__((packed))
 #define ALIGNED(n) __attribute__((aligned(n)))
@@ -17,7 +18,8 @@
 #define D &ffi_type_double
 #define P &ffi_type_pointer
 
-/* Of each its name, its C and its elements. It is passed alone, in registers, and behind seven numbers, and given back. */
+/* Of each its name, its C and its elements. It is passed alone, in registers, and behind seven numbers, and given
+ * back. */
 #define LIST(X)                                                                                       \
     X(packed_floats, struct PACKED { float a; float b; }, F, F)                                       \
     X(packed_three_floats, struct PACKED { float a; float b; float c; }, F, F, F)                     \
@@ -134,6 +136,77 @@ static void pass(const char *name, ffi_type *type, uint64_t padding, void (*alon
     }
 }
 
+/* ---- Complex long doubles in a struct: on x86-64 in memory, where a complex one alone is in x87 registers. */
+
+struct wide { _Complex long double it; };
+
+__attribute__((noinline)) static struct wide turned(struct wide it)
+{
+    __real__ it.it += 1;
+    __imag__ it.it -= 1;
+    return it;
+}
+
+static void pass_wide(void)
+{
+    ffi_type *elements[] = {&ffi_type_complex_longdouble, NULL}, type = {0, 0, FFI_TYPE_STRUCT, elements};
+    ffi_type *arguments[] = {&type};
+    struct wide it, got;
+    void *values[] = {&it};
+    ffi_cif cif;
+    __real__ it.it = 5;
+    __imag__ it.it = 7;
+    EXPECT(ffi_prep_cif(&cif, FFI_DEFAULT_ABI, 1, &type, arguments) == FFI_OK);
+    ffi_call(&cif, FFI_FN(turned), &got, values);
+    EXPECT(__real__ got.it == 6 && __imag__ got.it == 6);
+}
+
+/* ---- What a client says of a scalar's size counts for nobody: a plan is shared by all of its signature. */
+
+static float half(void) { return 0.5f; }
+
+static void say_other_sizes(void)
+{
+    ffi_type narrow = {2, 2, FFI_TYPE_FLOAT, NULL}, *elements[] = {&narrow, NULL};
+    ffi_type of_narrow = {2, 2, FFI_TYPE_STRUCT, elements}, *arguments[] = {&of_narrow};
+    ffi_type *parts[] = {&ffi_type_double, NULL}, complex = {4, 8, FFI_TYPE_COMPLEX, parts}, *complexes[] = {&complex};
+    ffi_cif cif;
+    float got = 0;
+    (void)ffi_prep_cif(&cif, FFI_DEFAULT_ABI, 0, &narrow, NULL);
+    EXPECT(ffi_prep_cif(&cif, FFI_DEFAULT_ABI, 0, &ffi_type_float, NULL) == FFI_OK);
+    ffi_call(&cif, FFI_FN(half), &got, NULL);
+    EXPECT(got == 0.5f);
+    EXPECT(ffi_prep_cif(&cif, FFI_DEFAULT_ABI, 1, &ffi_type_void, arguments) == FFI_BAD_TYPEDEF);
+    (void)ffi_prep_cif(&cif, FFI_DEFAULT_ABI, 1, &ffi_type_void, complexes);
+    complexes[0] = &ffi_type_complex_double;
+    EXPECT(ffi_prep_cif(&cif, FFI_DEFAULT_ABI, 1, &ffi_type_void, complexes) == FFI_OK);
+}
+
+/* ---- Unions of unions, and types that are in themselves: an answer comes, whatever it is. */
+
+static void end_soon(void)
+{
+    ffi_type unions[17], *elements[17][3], round, *rounds[] = {&round, &round, &round, NULL}, *arguments[1];
+    ffi_cif cif;
+    alarm(20);
+    unions[0] = (ffi_type){4, 4, FFI_TYPE_SINT32, NULL};
+    for (int depth = 1; depth <= 16; depth++) {
+        elements[depth][0] = elements[depth][1] = &unions[depth - 1];
+        elements[depth][2] = NULL;
+        unions[depth] = (ffi_type){4, 4, FFI_TYPE_STRUCT, elements[depth]};
+        arguments[0] = &unions[depth];
+        ffi_status status = ffi_prep_cif(&cif, FFI_DEFAULT_ABI, 1, &ffi_type_void, arguments);
+        EXPECT(status == FFI_OK || (depth > 4 && status == FFI_BAD_TYPEDEF));
+    }
+    arguments[0] = &round;
+    for (size_t size = 0; size <= 48; size += 8) {
+        round = (ffi_type){size, size ? 8 : 0, FFI_TYPE_STRUCT, rounds};
+        ffi_status status = ffi_prep_cif(&cif, FFI_DEFAULT_ABI, 1, &ffi_type_void, arguments);
+        EXPECT(status == FFI_BAD_TYPEDEF || size > 16);
+    }
+    alarm(0);
+}
+
 int main(int count, char **words)
 {
     int refused = 0, most = count > 1 ? atoi(words[1]) : 100;
@@ -144,6 +217,9 @@ int main(int count, char **words)
         pass(#name, &it, padding_of(#name), FFI_FN(name##_0), FFI_FN(name##_7), &refused);                         \
     }
     LIST(PASS)
+    pass_wide();
+    say_other_sizes();
+    end_soon();
     printf("%d refused\n", refused);
     EXPECT(refused <= most);
     return ended();

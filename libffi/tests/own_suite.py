@@ -1,7 +1,7 @@
 #!/usr/bin/env python3
 """Runs libffi's own test suite over a library, as its DejaGnu scripts do, and over Debian's libffi beside it.
 
-    libffi_suite.py TESTSUITE LIBRARY_FOLDER [--jobs N] [--only FOLDER] [--cc WORDS] [--cxx WORDS] [--run WORDS]
+    own_suite.py TESTSUITE LIBRARY_FOLDER [--jobs N] [--only FOLDER] [--cc WORDS] [--cxx WORDS] [--run WORDS]
 
 Each program of libffi.call, .closures, .bhaible, .complex and .go is compiled with -O0 and -O2, and, where it has
 ABI_NUM, on x86-64 for FFI_GNUW64 too; it is linked with -lffi and run with LD_LIBRARY_PATH set to the folder. It passes
