@@ -413,8 +413,9 @@ uint32_t ffi3_sizes(struct ffi3_interface *interface, struct ffi3_sizes *sizes);
  * REGISTERS->sp on. They need not stand there yet: addresses are computed from sp alone.
  *
  * A caller stores its values, loads these registers and that stack, calls, and then loads its result. A callee keeps
- * registers and stack as they are at its entry, collects its arguments, and gives its result. Where a call is refused,
- * registers, stack, values and result are as they were. An INTERFACE that keeps nothing is told first
+ * registers and stack as they are at its entry, collects its arguments, and gives its result. Values are packed: see
+ * ffi3_sizes; who has each at an address of its own copies it there, or back. Where a call is refused, registers, stack,
+ * values and result are as they were. An INTERFACE that keeps nothing is told first
  * (FFI3_NOT_PREPARED), then FFI3_WRONG_SIZE, FFI3_SHORT_STACK, FFI3_HIGH_STACK and FFI3_NOT_IN_STACK in this order.
  */
 
