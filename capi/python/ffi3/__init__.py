@@ -9,6 +9,10 @@
     ffi3.layout_nodes([("struct", 2), "sint32", "float"])               # size 8, align 4, offsets 0 and 4, two leaves
     ffi3.arguments("riscv", "double f(struct { int i; float x; } a)", {"a0": 7, "fa0": 0x3f800000})     # [(7, 1.0)]
 
+    kept = ffi3.Interface("riscv", ["double", ("struct", 2), "sint32", "float"])    # prepared once
+    kept.moves("store")                                                 # what brings the values to their places
+    kept.store(bytes([7, 0, 0, 0, 0, 0, 128, 63]))                      # registers by name, and the stack's bytes
+
     from ffi3 import headers                                            # wants pycparser and a compiler
     for function in headers.read("zlib.h", "riscv"):
         print(function.declaration, function.place().pieces if function.is_read else function.reason)
@@ -20,14 +24,14 @@ too; `headers` reads C headers, `drawing` and `page` show where things stand, `g
 import sys
 
 try:
-    from .library import (HIDDEN, RESULT, TARGETS, VERSION, Call, Error, Layout, NotInStack, Piece, ShortStack, Type,
-                          VersionError, arguments, check_layout, layout, layout_nodes, place, place_nodes, scalars,
-                          version)
+    from .library import (FRAME_AT, HIDDEN, MOVES, RESULT, TARGETS, VERSION, Call, Error, Interface, Layout, Move,
+                          NotInStack, Piece, ShortStack, Sizes, Type, VersionError, arguments, check_layout, layout,
+                          layout_nodes, place, place_nodes, scalars, version)
 except (OSError, ImportError) as error:
     if sys.argv[:1] != ["-m"]:
         raise
     sys.exit(f"ffi3: {error}")  # to who runs the package as a program a line says enough
 
-__all__ = ["HIDDEN", "RESULT", "TARGETS", "VERSION", "Call", "Error", "Layout", "NotInStack", "Piece", "ShortStack",
-           "Type", "VersionError", "arguments", "check_layout", "layout", "layout_nodes", "place", "place_nodes",
-           "scalars", "version"]
+__all__ = ["FRAME_AT", "HIDDEN", "MOVES", "RESULT", "TARGETS", "VERSION", "Call", "Error", "Interface", "Layout",
+           "Move", "NotInStack", "Piece", "ShortStack", "Sizes", "Type", "VersionError", "arguments", "check_layout",
+           "layout", "layout_nodes", "place", "place_nodes", "scalars", "version"]

@@ -24,8 +24,8 @@ TARGETS = ("amd64", "aapcs64", "riscv", "win64")
 RESULT = "result"
 HIDDEN = "hidden"
 
-(_OK, _TOO_SMALL, _NOT_DECLARED, _UNKNOWN_TARGET, _UNKNOWN_VALUE, _OUT_OF_MEMORY, _SHORT_STACK,
- _NOT_IN_STACK) = range(8)
+(_OK, _TOO_SMALL, _NOT_DECLARED, _UNKNOWN_TARGET, _UNKNOWN_VALUE, _OUT_OF_MEMORY, _SHORT_STACK, _NOT_IN_STACK,
+ _WRONG_SIZE, _HIGH_STACK, _NOT_PREPARED) = range(11)
 # Two kinds of fault that a client may want to tell apart from others.
 LEFT_OUT_LONG_DOUBLE, LAID_OUT_OTHERWISE = 6, 20
 _RESULT, _HIDDEN = 0xFFFFFFFF, 0xFFFFFFFE
@@ -39,6 +39,10 @@ _KINDS = ("uint8", "sint8", "uint16", "sint16", "uint32", "sint32", "uint64", "s
 _SIZES = dict(zip(_KINDS, (1, 1, 2, 2, 4, 4, 8, 8, 16, 16, 4, 8, 8)))
 _NODE_KINDS = (*_KINDS, "void", "complex float", "complex double", "long double", "complex long double", "vector",
                "struct", "array")
+MOVES = ("store", "load", "collect", "give", "hidden")
+_MOVE_KINDS = ("bytes", "zero", "sign", "ones", "number", "address", "behind")
+_NOWHERE = 0xFFFFFFFFFFFFFFFF
+FRAME_AT = 576  # where in an exchange the frame begins
 
 
 # Of the library that this module knows, as FFI3_VERSION of ffi3.h.
@@ -141,6 +145,26 @@ class Type(NamedTuple):
     leaves: tuple[tuple[int, str], ...]
 
 
+class Sizes(NamedTuple):
+    """The sizes of an interface in bytes, and where in an exchange a hidden result's address is given back, or None."""
+
+    values: int
+    result: int
+    link: int
+    frame: int
+    returned: int | None
+
+
+class Move(NamedTuple):
+    """A move, as ffi3.h has it: its kind, as "bytes" or "address", the argument's number, and start for `from`."""
+
+    kind: str
+    part: int
+    start: int
+    to: int
+    length: int
+
+
 class _Fault(ctypes.Structure):
     _fields_ = [("kind", ctypes.c_uint32), ("argument", ctypes.c_uint32), ("offset", ctypes.c_size_t),
                 ("number", ctypes.c_size_t)]
@@ -176,6 +200,25 @@ class _Registers(ctypes.Structure):
     _fields_ = [("general", ctypes.c_uint64 * 32), ("floating", ctypes.c_uint64 * 32), ("sp", ctypes.c_uint64)]
 
 
+class _Interface(ctypes.Structure):
+    _fields_ = [("kept", ctypes.c_void_p)]
+
+
+class _Sizes(ctypes.Structure):
+    _fields_ = [*((name, ctypes.c_size_t) for name in ("values", "result", "link", "frame")),
+                ("returned", ctypes.c_uint64), ("reserved", ctypes.c_uint64 * 3)]
+
+
+class _Reason(ctypes.Structure):
+    _fields_ = [("wanted", ctypes.c_size_t), ("address", ctypes.c_uint64), ("argument", ctypes.c_uint32),
+                ("reserved", ctypes.c_uint32)]
+
+
+class _Move(ctypes.Structure):
+    _fields_ = [("kind", ctypes.c_uint32), ("part", ctypes.c_uint32), ("from", ctypes.c_uint64),
+                ("to", ctypes.c_uint64), ("length", ctypes.c_uint64)]
+
+
 class _Arguments(ctypes.Structure):
     _fields_ = [*((name, ctypes.c_size_t) for name in ("arguments", "size", "stack")), ("address", ctypes.c_uint64),
                 ("argument", ctypes.c_uint32), ("fault", _Fault)]
@@ -200,7 +243,8 @@ def _load() -> ctypes.CDLL:
     if found < VERSION or found // 10000 != VERSION // 10000:
         raise VersionError(found, VERSION, name)
     uint32, size, text = ctypes.c_uint32, ctypes.c_size_t, ctypes.c_char_p
-    nodes, whole = ctypes.POINTER(_Node), ctypes.POINTER(_Type)
+    nodes, whole, kept = ctypes.POINTER(_Node), ctypes.POINTER(_Type), ctypes.POINTER(_Interface)
+    registers, reason = ctypes.POINTER(_Registers), ctypes.POINTER(_Reason)
     for function, result, parameters in (
         ("place", uint32, [uint32, text, size, ctypes.POINTER(_Call), ctypes.POINTER(_Piece), size]),
         ("place_nodes", uint32, [uint32, nodes, size, uint32, ctypes.POINTER(_Call), ctypes.POINTER(_Piece), size]),
@@ -209,8 +253,16 @@ def _load() -> ctypes.CDLL:
         ("check_layout", uint32, [nodes, size, size, size, ctypes.POINTER(ctypes.c_size_t), size,
                                   ctypes.POINTER(_Fault)]),
         ("layout", uint32, [text, size, uint32, ctypes.POINTER(_Layout), ctypes.POINTER(_Leaf), size]),
-        ("arguments", uint32, [uint32, text, size, ctypes.POINTER(_Registers), text, size, ctypes.POINTER(_Arguments),
-                               text, size]),
+        ("arguments", uint32, [uint32, text, size, registers, text, size, ctypes.POINTER(_Arguments), text, size]),
+        ("prepare", uint32, [uint32, nodes, size, uint32, kept, ctypes.POINTER(_Fault)]),
+        ("share", uint32, [kept, kept]),
+        ("release", None, [kept]),
+        ("sizes", uint32, [kept, ctypes.POINTER(_Sizes)]),
+        ("moves", uint32, [kept, uint32, ctypes.POINTER(size), ctypes.POINTER(_Move), size]),
+        ("store", uint32, [kept, text, size, registers, text, size]),
+        ("load", uint32, [kept, registers, text, size, text, size]),
+        ("collect", uint32, [kept, registers, text, size, text, size, reason]),
+        ("give", uint32, [kept, text, size, registers, text, size, reason]),
         ("fault_text", size, [ctypes.POINTER(_Fault), text, size]),
         ("register_name", size, [uint32, uint32, uint32, text, size]),
     ):
@@ -328,8 +380,12 @@ def place_nodes(target: str, nodes: Iterable[Node], fixed: int | None = None) ->
     such name; the offset of an Error then says behind how many nodes the fault is.
     """
     array, count = _nodes_of(nodes)
-    named = _NOT_VARIADIC if fixed is None else _number(fixed, _NOT_VARIADIC - 1)
-    return _placed(target, lambda number, *into: _library.ffi3_place_nodes(number, array, count, named, *into))
+    return _placed(target, lambda number, *into: _library.ffi3_place_nodes(number, array, count, _named(fixed), *into))
+
+
+def _named(fixed: int | None) -> int:
+    """How many arguments are named, as C is told it."""
+    return _NOT_VARIADIC if fixed is None else _number(fixed, _NOT_VARIADIC - 1)
 
 
 def layout_nodes(nodes: Iterable[Node]) -> Type:
@@ -434,3 +490,111 @@ def arguments(target: str, declaration: str | bytes, registers: Mapping[str, int
         values.append(scalars(kind.leaves, found[start:start + kind.size]))
         start += -(-kind.size // 8) * 8
     return values
+
+
+# ---- a call by an interface that is prepared once
+
+def _held(target: int, registers: _Registers) -> dict[str, int]:
+    """What the registers of a target hold, by their names."""
+    files = ((_GENERAL, registers.general), (_FLOATING, registers.floating))
+    named = ((_register(target, place, k), file[k]) for place, file in files for k in range(32))
+    return {name: value for name, value in named if name}
+
+
+class Interface:
+    """The interface of a function, by a target's standard, whose nodes are as place_nodes has them: prepared once.
+
+    sizes has its sizes. Values are bytes, one argument after another, each from a multiple of 8 on. registers has 64
+    bits for each name, and 0 for those that are not named; stack has the bytes of memory from sp on, or as many zeros
+    as the call takes. Raises as place_nodes does; ValueError where values, result or stack have not the bytes that
+    they take, and LookupError where an address points past the stack. One thread at a time has it: see share.
+    """
+
+    def __init__(self, target: str, nodes: Iterable[Node], fixed: int | None = None):
+        self._number, kept, fault = _target(target), _Interface(), _Fault()
+        array, count = _nodes_of(nodes)
+        status = _library.ffi3_prepare(self._number, array, count, _named(fixed), ctypes.byref(kept),
+                                       ctypes.byref(fault))
+        if status != _OK:
+            _refuse(status, fault)
+        self._kept = kept
+        self.sizes = self._find_sizes()
+
+    def __del__(self):
+        if hasattr(self, "_kept"):
+            _library.ffi3_release(ctypes.byref(self._kept))
+
+    def _find_sizes(self) -> Sizes:
+        told = _Sizes()
+        self._check(_library.ffi3_sizes(ctypes.byref(self._kept), ctypes.byref(told)))
+        returned = None if told.returned == _NOWHERE else told.returned
+        return Sizes(told.values, told.result, told.link, told.frame, returned)
+
+    def _check(self, status: int, reason: _Reason | None = None) -> None:
+        if status == _OUT_OF_MEMORY:
+            raise MemoryError
+        if status == _NOT_IN_STACK:
+            raise LookupError(f"{_part(reason.argument)}: {reason.address:#x} is not among the bytes of the stack")
+        if status != _OK:
+            why = {_WRONG_SIZE: "these are not so many bytes as wanted", _SHORT_STACK: "the stack has too few bytes",
+                   _HIGH_STACK: "the stack reaches the last address"}
+            raise ValueError(why[status])
+
+    def _machine(self, registers: Mapping[str, int] | None, sp: int, stack: bytes | None):
+        memory = bytes(self.sizes.link + self.sizes.frame if stack is None else memoryview(stack))
+        return _named_registers(self._number, registers or {}, sp), ctypes.create_string_buffer(memory, len(memory))
+
+    def share(self) -> "Interface":
+        """Another that keeps the same, for another thread."""
+        other = object.__new__(Interface)
+        other._kept, other._number, other.sizes = _Interface(), self._number, self.sizes
+        self._check(_library.ffi3_share(ctypes.byref(self._kept), ctypes.byref(other._kept)))
+        return other
+
+    def moves(self, which: str) -> list[Move]:
+        """The moves of one of the lists MOVES."""
+        if which not in MOVES:
+            raise ValueError(f"no list of moves {which!r}: {', '.join(MOVES)}")
+        number, count = MOVES.index(which), ctypes.c_size_t()
+
+        def ask(array, capacity):
+            status = _library.ffi3_moves(ctypes.byref(self._kept), number, ctypes.byref(count), array, capacity)
+            return status, count.value
+
+        status, found = _filled(_Move, ask)
+        self._check(status)
+        return [Move(_MOVE_KINDS[each.kind], each.part, getattr(each, "from"), each.to, each.length) for each in found]
+
+    def store(self, values: bytes, registers: Mapping[str, int] | None = None, sp: int = 0,
+              stack: bytes | None = None) -> tuple[dict[str, int], bytes]:
+        """Registers and stack where the callee begins, from these and the values."""
+        held, memory = self._machine(registers, sp, stack)
+        values = bytes(memoryview(values))
+        self._check(_library.ffi3_store(ctypes.byref(self._kept), values, len(values), ctypes.byref(held), memory,
+                                        len(memory)))
+        return _held(self._number, held), memory.raw
+
+    def load(self, registers: Mapping[str, int] | None = None, sp: int = 0, stack: bytes | None = None) -> bytes:
+        """The result, from registers and stack at the return."""
+        held, memory = self._machine(registers, sp, stack)
+        result = ctypes.create_string_buffer(self.sizes.result)
+        self._check(_library.ffi3_load(ctypes.byref(self._kept), ctypes.byref(held), memory, len(memory), result,
+                                       len(result)))
+        return result.raw
+
+    def collect(self, registers: Mapping[str, int] | None = None, sp: int = 0, stack: bytes | None = None) -> bytes:
+        """The values, from registers and stack where the callee begins."""
+        (held, memory), reason = self._machine(registers, sp, stack), _Reason()
+        values = ctypes.create_string_buffer(self.sizes.values)
+        self._check(_library.ffi3_collect(ctypes.byref(self._kept), ctypes.byref(held), memory, len(memory), values,
+                                          len(values), ctypes.byref(reason)), reason)
+        return values.raw
+
+    def give(self, result: bytes, registers: Mapping[str, int] | None = None, sp: int = 0,
+             stack: bytes | None = None) -> tuple[dict[str, int], bytes]:
+        """Registers and stack at the return, from those of the entry and the result."""
+        (held, memory), reason = self._machine(registers, sp, stack), _Reason()
+        result = bytes(memoryview(result))
+        self._check(_library.ffi3_give(ctypes.byref(self._kept), result, len(result), ctypes.byref(held), memory,
+                                       len(memory), ctypes.byref(reason)), reason)
+        return _held(self._number, held), memory.raw

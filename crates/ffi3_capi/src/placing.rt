@@ -47,7 +47,7 @@ pub struct Placement {
 const TARGETS: [Target; 4] = [Target::Amd64, Target::Aapcs64, Target::Riscv, Target::Win64];
 
 /// The target of this number.
-pub(crate) fn target_numbered(n: u32) -> Option<Target>
+pub fn target_numbered(n: u32) -> Option<Target>
     ensures { result ≡ slice_get targets n }
 {
     TARGETS.get(n as usize).copied()

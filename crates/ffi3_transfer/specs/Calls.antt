@@ -11,7 +11,7 @@ use Rattle.ffi3_place_rules.specs.declared.Res.TheVariants.{Nothing, Direct as D
 use Rattle.ffi3_place_rules.specs.Isa.{to_list}
 use Rattle.ffi3_place_rules.specs.Image.{Image, word_at}
 use Rattle.ffi3_place_rules.specs.Standard.{Standard, frame_of, plan_of}
-use Rattle.ffi3_place_rules.specs.Holds.{Holds, HoldsResult, OwnResult, OwnsHidden, OwnsResult, FillsResult, RegisterHolds}
+use Rattle.ffi3_place_rules.specs.Holds.{Holds, HoldsResult, Kept, OwnResult, OwnsHidden, OwnsResult, FillsResult, RegisterHolds}
 use Rattle.ffi3_place_rules.specs.Sound.{IsNoneOf, hidden_locs, result_locs}
 use Rattle.ffi3_pieces.specs.Stored.{IsPlace}
 use Rattle.ffi3_pieces.specs.Standing.{all_uses}
@@ -61,7 +61,7 @@ pub record IsLoaded (std : Standard) (s : Signature) (m : Image) (bytes : List �
   pub is : bytes ≡ result_bytes m s.result_type (plan_of std s).res
   pub value : (v : ValueTree) → OwnResult std s v m → value_in s.result_type bytes ≡ v
 
--- OR WHY NOT
+-- OR WHY NOT: the first of these that is so
 abbrev pub IsNotLoaded : Standard → Signature → Image → List ℕ → Unstored → Type 0
 IsNotLoaded std s m old (WrongSize wanted) = (wanted ≡ size_of s.result_type) × (length old ≢ wanted)
 IsNotLoaded std s m old (ShortStack wanted) =
@@ -93,7 +93,7 @@ ResultKeeps old new Nothing = ⊤
 ResultKeeps old new (DirectRes pieces) = AllByRecursion (KeepsAbove 0 old new) pieces
 ResultKeeps old new (Hidden at buffer) = ⊤
 
--- by the standard alone: in its registers, or wherever the address that was passed points to
+-- by the standard alone: in its registers, or wherever the address that was passed points to, be that the return address or the place of the address itself (AAPCS64, "Result return"; psABI AMD64 3.2.3, "Returning of Values"; RISC-V psABI, "Integer Calling Convention"; Microsoft x64, "Return values")
 abbrev pub IsGivenBy : Standard → Tree → Res → List ℕ → Image → Image → Type 0
 IsGivenBy std t Nothing bytes old new = ⊤
 IsGivenBy std t (DirectRes pieces) bytes old new =
@@ -114,6 +114,8 @@ pub record IsGiven (std : Standard) (s : Signature) (bytes : List ℕ) (old new 
   pub size : length new.stack ≡ length old.stack
   pub registers : (l : Loc) → IsPlace 0 l → IsNoneOf (given_locs std (plan_of std s).res) l → SameAt 0 l old new
   pub kept : ResultKeeps old new (plan_of std s).res
+  -- what a callee preserves is as it was
+  pub preserved : Kept std old (at_return std new)
   pub beside : (i : ℕ) → IsBeside std s.result_type (plan_of std s).res old i
       → get_or new.stack i 0 ≡ get_or old.stack i 0
 
@@ -127,7 +129,7 @@ PointsPast std t (DirectRes pieces) m address = ⊥
 PointsPast std t (Hidden at buffer) m address =
     (address ≡ word_at m std.link at) × (is_in_image m address (size_of t) ≡ false)
 
--- OR WHY NOT
+-- OR WHY NOT: the first of these that is so
 abbrev pub IsNotGiven : Standard → Signature → List ℕ → Image → Ungiven → Type 0
 IsNotGiven std s bytes m (WrongValue wanted) = (wanted ≡ size_of s.result_type) × (length bytes ≢ wanted)
 IsNotGiven std s bytes m (ShortEntry wanted) =
@@ -135,4 +137,5 @@ IsNotGiven std s bytes m (ShortEntry wanted) =
 IsNotGiven std s bytes m HighEntry =
     (length bytes ≡ size_of s.result_type) × (giving_bytes std s ≤ length m.stack) × (2 ^ 64 ≤ m.sp + length m.stack)
 IsNotGiven std s bytes m (NotInStack address) =
-    (length bytes ≡ size_of s.result_type) × PointsPast std s.result_type (plan_of std s).res m address
+    (length bytes ≡ size_of s.result_type) × (giving_bytes std s ≤ length m.stack)
+    × (m.sp + length m.stack < 2 ^ 64) × PointsPast std s.result_type (plan_of std s).res m address
