@@ -46,7 +46,7 @@ const LISTS: [MoveList; 5] = [
 pub struct ToldMove {
     /// How it makes the bytes that it writes.
     pub kind: u32,
-    /// The number of the argument whose value it moves; 0 for a result.
+    /// The number of the argument whose value it moves; 0 for a result, and for the number of vector registers.
     pub part: u32,
     pub from: u64,
     pub to: u64,
