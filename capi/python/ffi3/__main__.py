@@ -184,7 +184,7 @@ def _parser() -> argparse.ArgumentParser:
     raw = argparse.RawDescriptionHelpFormatter
     parser = argparse.ArgumentParser(prog="python3 -m ffi3", description=HELP, formatter_class=raw)
     parser.add_argument("--version", action="version", version=f"ffi3 {version()}")
-    commands = parser.add_subparsers(dest="command", required=True, metavar="COMMAND")
+    commands = parser.add_subparsers(dest="command", metavar="COMMAND")
 
     def command(name: str, does: Callable, what: str, more: str = "") -> argparse.ArgumentParser:
         made = commands.add_parser(name, help=what, description=f"{what[0].upper()}{what[1:]}.\n\n{more}",
@@ -241,7 +241,11 @@ def _failures() -> tuple[type[BaseException], ...]:
 
 def main(words: Sequence[str] | None = None) -> int:
     """Does what the words of the command line say, and answers the status."""
-    given = _parser().parse_args(words)
+    parser = _parser()
+    given = parser.parse_args(words)
+    if not given.command:
+        parser.print_help(sys.stderr)
+        return 2
     try:
         return given.does(given)
     except ModuleNotFoundError as error:
