@@ -14,7 +14,7 @@ use Rattle.ffi3_host_stubs.proofs.Memory.{both, less, unlike}
 use Rattle.ffi3_host_stubs.proofs.Amd64Rows.{load_general_row, load_floating_row, load_area_row, store_general_row, store_floating_row, store_area_row}
 
 -- rows of the model, one after another
-pub row_list : List Row → List ℕ
+unfoldable pub row_list : List Row → List ℕ
 row_list [] = []
 row_list (row ∷ rest) = amd64_row 0 row ++ row_list rest
 

@@ -3,3 +3,4 @@ pub mod Effects
 pub mod Memory
 pub mod Amd64Rows
 pub mod Amd64Segments
+pub mod Amd64Stubs
