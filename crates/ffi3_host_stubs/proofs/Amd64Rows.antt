@@ -18,7 +18,7 @@ use Rattle.ffi3_host_stubs.proofs.Standing.{plain, wraps, unmoved, along, ends}
 
 -- ---- distances
 
-pub disp : ℕ → ℤ
+unfoldable pub disp : ℕ → ℤ
 disp o = disp32 (byte_at 0 o) (byte_at 1 o) (byte_at 2 o) (byte_at 3 o)
 
 extended : (b : Bool) (x y : ℤ) → b ≡ true → (if b then x else y) ≡ x

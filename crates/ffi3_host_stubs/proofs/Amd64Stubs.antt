@@ -29,7 +29,7 @@ call_loaded x s = from_exchange Amd64 11 x (call_loads Amd64) (call_placed x s)
 abbrev after_call : ℕ → Processor → Processor
 after_call x s = pushed 7 (word_at (x + 512) (call_loaded x s)) (call_loaded x s)
 
-call_runs : (s : Processor) (from : ℕ) → from < 16 → from ≢ 4 → s.general from + 552 ≤ half → s.sp ≤ s.general from → 8 ≤ word_at (s.general from + 520) s → word_at (s.general from + 520) s ≤ s.general from → HasCode s s.pc (host_bytes Amd64 from Call) → TakesBy Amd64 18 s (after_call (s.general from) s)
+call_runs : (s : Processor) (from : ℕ) → from < 16 → from ≢ 4 → s.general from + 552 ≤ half → s.sp ≤ s.general from → 8 ≤ word_at (s.general from + 520) s → word_at (s.general from + 520) s ≤ s.general from → HasCode s s.pc (host_bytes Amd64 from 0 Call) → TakesBy Amd64 18 s (after_call (s.general from) s)
 unfolding host_bytes row_list is_plain are_moved
 call_runs s from in_range not_sp far above room under h =
     let x : ℕ = s.general from in
@@ -48,12 +48,12 @@ call_runs s from in_range not_sp far above room under h =
     let last = call_row s3 x 512 [] (omega arith) came.base (omega (arith, far)) (omega (arith, under)) room came.stands in
     and_then Amd64 1 17 18 s s1 e refl (one_step Amd64 s s1 one) (and_then Amd64 1 16 17 s1 s2 e refl (one_step Amd64 s1 s2 two) (and_then Amd64 15 1 16 s2 s3 e refl came.steps (one_step Amd64 s3 e last)))
 
-has_called : (s : Processor) (from x : ℕ) → 8 ≤ word_at (x + 520) s → HasCalled Amd64 x (s.pc + length (host_bytes Amd64 from Call)) s (after_call x s)
+has_called : (s : Processor) (from x : ℕ) → 8 ≤ word_at (x + 520) s → HasCalled Amd64 x (s.pc + length (host_bytes Amd64 from 0 Call)) s (after_call x s)
 unfolding host_bytes are_apart
 has_called s from x room =
     let p : ℕ = word_at (x + 520) s in
     let m : Processor = call_loaded x s in
-    let behind : m.pc + 7 ≡ s.pc + length (host_bytes Amd64 from Call) = omega arith in
+    let behind : m.pc + 7 ≡ s.pc + length (host_bytes Amd64 from 0 Call) = omega arith in
     record {
       loaded = came_from_exchange Amd64 11 x (call_loads Amd64) (call_placed x s) refl;
       others = λ l out.
@@ -66,8 +66,8 @@ has_called s from x room =
       code = refl;
     }
 
-pub calls : (from : ℕ) → from < 16 → from ≢ 4 → Calls Amd64 from (host_bytes Amd64 from Call)
-calls from in_range not_sp s is room under callee =
+pub calls_by : (from : ℕ) → from < 16 → from ≢ 4 → Calls Amd64 from (host_bytes Amd64 from 0 Call)
+calls_by from in_range not_sp s is room under callee =
     let x : ℕ = s.general from in
     (after_call x s, in_turn Amd64 18 s (after_call x s) (call_runs s from in_range not_sp is.high is.above room under is.code), has_called s from x room)
 
@@ -79,7 +79,7 @@ return_taken x s = to_exchange Amd64 11 x (result_loads Amd64) (received 3 (G 11
 abbrev after_return : ℕ → Processor → Processor
 after_return x s = with_sp_by 7 (word_at (x + 544) (return_taken x s)) (return_taken x s)
 
-return_runs : (s : Processor) (from : ℕ) → from < 16 → from ≢ 4 → s.general from + 552 ≤ half → s.sp ≤ s.general from → HasCode s s.pc (host_bytes Amd64 from Return) → TakesBy Amd64 6 s (after_return (s.general from) s)
+return_runs : (s : Processor) (from : ℕ) → from < 16 → from ≢ 4 → s.general from + 552 ≤ half → s.sp ≤ s.general from → HasCode s s.pc (host_bytes Amd64 from 0 Return) → TakesBy Amd64 6 s (after_return (s.general from) s)
 unfolding host_bytes row_list is_plain are_moved
 return_runs s from in_range not_sp far above h =
     let x : ℕ = s.general from in
@@ -94,12 +94,12 @@ return_runs s from in_range not_sp far above h =
     let last = load_sp_row s2 x 544 [] (omega arith) came.base (omega (arith, far)) (omega (arith, above)) came.stands in
     and_then Amd64 1 5 6 s s1 e refl (one_step Amd64 s s1 one) (and_then Amd64 4 1 5 s1 s2 e refl came.steps (one_step Amd64 s2 e last))
 
-has_returned : (s : Processor) (from x : ℕ) → HasReturned Amd64 x (s.pc + length (host_bytes Amd64 from Return)) s (after_return x s)
+has_returned : (s : Processor) (from x : ℕ) → HasReturned Amd64 x (s.pc + length (host_bytes Amd64 from 0 Return)) s (after_return x s)
 unfolding host_bytes place misses are_spread
 has_returned s from x =
     let t : Processor = received 3 (G 11) x s in
     let e : Processor = after_return x s in
-    let behind : e.pc ≡ s.pc + length (host_bytes Amd64 from Return) = omega arith in
+    let behind : e.pc ≡ s.pc + length (host_bytes Amd64 from 0 Return) = omega arith in
     let same : (l : Loc) → same_loc l (G 11) ≡ false → held l t ≡ held l s = λ l out. set_other 11 x l s t refl refl out in
     record {
       stored = went_from 11 x (result_loads Amd64) s t e refl same (went_to_exchange Amd64 11 x (result_loads Amd64) t refl);
@@ -110,7 +110,7 @@ has_returned s from x =
       code = refl;
     }
 
-pub returns_back : (from : ℕ) → from < 16 → from ≢ 4 → Returns Amd64 from (host_bytes Amd64 from Return)
+pub returns_back : (from : ℕ) → from < 16 → from ≢ 4 → Returns Amd64 from (host_bytes Amd64 from 0 Return)
 returns_back from in_range not_sp s is small =
     let x : ℕ = s.general from in
     (after_return x s, in_turn Amd64 6 s (after_return x s) (return_runs s from in_range not_sp is.high is.above is.code), has_returned s from x)
@@ -126,18 +126,18 @@ exit_restored x s = from_area Amd64 0 (callee_saved_words Amd64) (exit_placed x 
 abbrev exit_given : ℕ → Processor → Processor
 exit_given x s = from_exchange Amd64 11 x (result_loads Amd64) (exit_restored x s)
 
-abbrev exit_raised : ℕ → Processor → Processor
-exit_raised x s = with_sp_by 8 ((exit_given x s).sp + 56) (exit_given x s)
+abbrev exit_raised : ℕ → ℕ → Processor → Processor
+exit_raised x gap s = with_sp_by 8 ((exit_given x s).sp + (56 + gap)) (exit_given x s)
 
-abbrev after_exit : ℕ → Processor → Processor
-after_exit x s = popped (exit_raised x s)
+abbrev after_exit : ℕ → ℕ → Processor → Processor
+after_exit x gap s = popped (exit_raised x gap s)
 
-exit_runs : (s : Processor) (from : ℕ) → from < 16 → from ≢ 4 → s.general from + 552 ≤ half → s.sp ≤ s.general from → word_at (s.general from + 536) s ≤ s.general from → word_at (s.general from + 536) s + 64 ≤ half → HasCode s s.pc (host_bytes Amd64 from Exit) → TakesBy Amd64 14 s (after_exit (s.general from) s)
+exit_runs : (s : Processor) (from gap : ℕ) → from < 16 → from ≢ 4 → gap ≤ 1024 → s.general from + 552 ≤ half → s.sp ≤ s.general from → word_at (s.general from + 536) s ≤ s.general from → word_at (s.general from + 536) s + (56 + gap) + 8 ≤ half → HasCode s s.pc (host_bytes Amd64 from gap Exit) → TakesBy Amd64 14 s (after_exit (s.general from) gap s)
 unfolding host_bytes row_list is_plain are_moved are_saved
-exit_runs s from in_range not_sp far above under top h =
+exit_runs s from gap in_range not_sp room far above under top h =
     let x : ℕ = s.general from in
     let t5 : List ℕ = amd64_row 0 (jump returns) ++ [] in
-    let t4 : List ℕ = amd64_row 0 (sum 4 4 (pos 56)) ++ t5 in
+    let t4 : List ℕ = amd64_row 0 (sum 4 4 (pos (56 + gap))) ++ t5 in
     let t3 : List ℕ = row_list (exchange_loads 11 (result_loads Amd64)) ++ t4 in
     let t2 : List ℕ = row_list (area_loads 4 0 (callee_saved_words Amd64)) ++ t3 in
     let t1 : List ℕ = amd64_row 0 (load (G 4) 11 536) ++ t2 in
@@ -145,26 +145,26 @@ exit_runs s from in_range not_sp far above under top h =
     let s2 : Processor = exit_placed x s in
     let s3 : Processor = exit_restored x s in
     let s4 : Processor = exit_given x s in
-    let s5 : Processor = exit_raised x s in
-    let e : Processor = after_exit x s in
+    let s5 : Processor = exit_raised x gap s in
+    let e : Processor = after_exit x gap s in
     let one = copy_row s from t1 in_range not_sp (omega (arith, far)) h in
     let h1 : HasCode s1 s1.pc t1 = onward s s1 (copy_bytes Amd64 11 from) t1 3 refl refl refl h in
     let two = load_sp_row s1 x 536 t2 (omega arith) refl (omega (arith, far)) (omega (arith, above)) h1 in
     let h2 : HasCode s2 s2.pc t2 = onward s1 s2 (amd64_row 0 (load (G 4) 11 536)) t2 7 refl refl refl h1 in
     let back : Came s2 s3 x 6 t3 = area_loaded x (callee_saved_words Amd64) s2 0 t3 refl refl (omega arith) (omega (arith, top)) h2 in
     let given : Came s3 s4 x 4 t4 = exchange_loaded x (result_loads Amd64) s3 t4 refl back.base far under back.stands in
-    let five = rise_row s4 56 t5 (omega arith) (omega (arith, top)) given.stands in
-    let h5 : HasCode s5 s5.pc t5 = onward s4 s5 (amd64_row 0 (sum 4 4 (pos 56))) t5 8 refl refl refl given.stands in
+    let five = rise_row s4 (56 + gap) t5 (omega (arith, room)) (omega (arith, top)) given.stands in
+    let h5 : HasCode s5 s5.pc t5 = onward s4 s5 (amd64_row 0 (sum 4 4 (pos (56 + gap)))) t5 8 refl refl refl given.stands in
     let last = return_row s5 [] (omega (arith, top)) h5 in
     and_then Amd64 1 13 14 s s1 e refl (one_step Amd64 s s1 one) (and_then Amd64 1 12 13 s1 s2 e refl (one_step Amd64 s1 s2 two) (and_then Amd64 6 6 12 s2 s3 e refl back.steps (and_then Amd64 4 2 6 s3 s4 e refl given.steps (and_then Amd64 1 1 2 s4 s5 e refl (one_step Amd64 s4 s5 five) (one_step Amd64 s5 e last)))))
 
-has_left : (s : Processor) (x : ℕ) → HasLeft Amd64 x (word_at (x + 536) s) s (after_exit x s)
+has_left : (s : Processor) (x gap : ℕ) → HasLeft Amd64 x (word_at (x + 536) s) gap s (after_exit x gap s)
 unfolding are_apart are_disjoint
-has_left s x =
+has_left s x gap =
     let area : ℕ = word_at (x + 536) s in
     let t : Processor = exit_placed x s in
     let m : Processor = exit_restored x s in
-    let e : Processor = after_exit x s in
+    let e : Processor = after_exit x gap s in
     let first : t.sp + 0 ≡ area = omega arith in
     let after : (l : Loc) → is_in l (result_loads Amd64) ≡ false → held l e ≡ held l m = λ l out. exchange_others Amd64 11 x (result_loads Amd64) m l out in
     record {
@@ -180,10 +180,10 @@ has_left s x =
       code = refl;
     }
 
-pub leaves : (from : ℕ) → from < 16 → from ≢ 4 → Leaves Amd64 from (host_bytes Amd64 from Exit)
-leaves from in_range not_sp s is under back top =
+pub leaves : (from gap : ℕ) → from < 16 → from ≢ 4 → gap ≤ 1024 → Leaves Amd64 from gap (host_bytes Amd64 from gap Exit)
+leaves from gap in_range not_sp room s is under back top =
     let x : ℕ = s.general from in
-    (after_exit x s, in_turn Amd64 14 s (after_exit x s) (exit_runs s from in_range not_sp is.high is.above under (omega (arith, top)) is.code), has_left s x)
+    (after_exit x gap s, in_turn Amd64 14 s (after_exit x gap s) (exit_runs s from gap in_range not_sp room is.high is.above under top is.code), has_left s x gap)
 
 -- ---- Entry
 
@@ -205,7 +205,7 @@ entry_passed x s = to_exchange Amd64 11 x (entry_stores Amd64) (entry_noted x s)
 abbrev after_entry : ℕ → Processor → Processor
 after_entry x s = with_sp_by 7 (word_at (x + 528) (entry_passed x s)) (entry_passed x s)
 
-entry_runs : (s : Processor) (from : ℕ) → from < 16 → from ≢ 4 → s.general from + 552 ≤ half → s.sp ≤ s.general from → 56 ≤ s.sp → HasCode s s.pc (host_bytes Amd64 from Entry) → TakesBy Amd64 26 s (after_entry (s.general from) s)
+entry_runs : (s : Processor) (from : ℕ) → from < 16 → from ≢ 4 → s.general from + 552 ≤ half → s.sp ≤ s.general from → 56 ≤ s.sp → HasCode s s.pc (host_bytes Amd64 from 0 Entry) → TakesBy Amd64 26 s (after_entry (s.general from) s)
 unfolding host_bytes row_list is_plain are_moved are_saved
 entry_runs s from in_range not_sp far above room h =
     let x : ℕ = s.general from in
@@ -231,7 +231,7 @@ entry_runs s from in_range not_sp far above room h =
     let last = load_sp_row s5 x 528 [] (omega arith) came.base (omega (arith, far)) (omega (arith, above)) came.stands in
     and_then Amd64 1 25 26 s s1 e refl (one_step Amd64 s s1 one) (and_then Amd64 7 18 25 s1 s2 e refl saves.steps (and_then Amd64 1 17 18 s2 s3 e refl (one_step Amd64 s2 s3 three) (and_then Amd64 1 16 17 s3 s4 e refl (one_step Amd64 s3 s4 four) (and_then Amd64 15 1 16 s4 s5 e refl came.steps (one_step Amd64 s5 e last)))))
 
-has_entered : (s : Processor) (from x : ℕ) → s.sp ≤ x → 56 ≤ s.sp → HasEntered Amd64 x (s.pc + length (host_bytes Amd64 from Entry)) s (after_entry x s)
+has_entered : (s : Processor) (from x : ℕ) → s.sp ≤ x → 56 ≤ s.sp → HasEntered Amd64 x (s.pc + length (host_bytes Amd64 from 0 Entry)) s (after_entry x s)
 unfolding host_bytes place misses are_spread
 has_entered s from x above room =
     let w : Processor = entry_fallen s in
@@ -239,7 +239,7 @@ has_entered s from x above room =
     let e : Processor = after_entry x s in
     let v : ℕ = s.sp - 56 in
     let first : w.sp + 0 ≡ v = omega arith in
-    let behind : e.pc ≡ s.pc + length (host_bytes Amd64 from Entry) = omega arith in
+    let behind : e.pc ≡ s.pc + length (host_bytes Amd64 from 0 Entry) = omega arith in
     let around : (a : ℕ) → IsOutside v s.sp a → (entry_saved s).memory a ≡ s.memory a = λ a out. area_outside Amd64 0 (stub_area Amd64) w a (⊎_elim (λ h. inl (omega (arith, h))) (λ h. inr (omega (arith, h, room))) out) in
     let same : (l : Loc) → same_loc l (G 11) ≡ false → held l t ≡ held l s = λ l out. set_other 11 x l s t refl refl out in
     let area : (a : ℕ) → v ≤ a → a < v + 8 * length (stub_area Amd64) → e.memory a ≡ (entry_saved s).memory a = λ a low high. exchange_outside Amd64 11 x (entry_stores Amd64) t a (inl (omega (arith, high, above, room))) refl ∙ byte_other (x + 536) v a (entry_saved s).memory (inl (omega (arith, high, above, room))) in
@@ -255,7 +255,7 @@ has_entered s from x above room =
       code = refl;
     }
 
-pub enters : (from : ℕ) → from < 16 → from ≢ 4 → Enters Amd64 from (host_bytes Amd64 from Entry)
+pub enters : (from : ℕ) → from < 16 → from ≢ 4 → Enters Amd64 from (host_bytes Amd64 from 0 Entry)
 enters from in_range not_sp s is room to =
     let x : ℕ = s.general from in
     (after_entry x s, in_turn Amd64 26 s (after_entry x s) (entry_runs s from in_range not_sp is.high is.above room is.code), has_entered s from x is.above room)

@@ -4,3 +4,7 @@ pub mod Memory
 pub mod Amd64Rows
 pub mod Amd64Segments
 pub mod Amd64Stubs
+pub mod Amd64Slot
+pub mod WordSegments
+pub mod Aarch64Rows
+pub mod Aarch64Stubs

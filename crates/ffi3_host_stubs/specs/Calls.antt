@@ -151,27 +151,28 @@ Enters isa from bytes =
 
 -- ---- Exit
 
--- where Exit goes: to the address above the save area, or in the register that holds it
+-- where Exit goes: to the address that stands above save area and gap, or to that in its register
 abbrev pub left_to : Isa → ℕ → Processor → Processor → ℕ
-left_to Amd64 area before after = word_at (area + area_bytes Amd64) before
-left_to Aarch64 area before after = after.general 30
-left_to Riscv area before after = target_of Riscv (after.general 1)
+left_to Amd64 above before after = word_at above before
+left_to Aarch64 above before after = after.general 30
+left_to Riscv above before after = target_of Riscv (after.general 1)
 
-pub record HasLeft (isa : Isa) (x area : ℕ) (before after : Processor) : Type 0 where
+-- the save area begins at `area` and ends with a gap of so many bytes
+pub record HasLeft (isa : Isa) (x area gap : ℕ) (before after : Processor) : Type 0 where
   pub restored : CameFromArea area (callee_saved_words isa) before after
   pub loaded : CameFromExchange x (result_loads isa) before after
   pub others : OthersStay (exit_scratch isa ++ (callee_saved_words isa ++ result_loads isa)) before after
-  pub sp : after.sp ≡ area + area_bytes isa + pushed_bytes isa
-  pub pc : after.pc ≡ left_to isa area before after
+  pub sp : after.sp ≡ area + (area_bytes isa + gap) + pushed_bytes isa
+  pub pc : after.pc ≡ left_to isa (area + (area_bytes isa + gap)) before after
   pub memory : after.memory ≡ before.memory
   pub code : after.code ≡ before.code
 
 -- Wherever the bytes stand, what is preserved comes from the save area, whose address stands at 536 of the exchange region, not above it, and results from that region, whose address register `from` holds
-abbrev pub Leaves : Isa → ℕ → List ℕ → Type 0
-Leaves isa from bytes =
+abbrev pub Leaves : Isa → ℕ → ℕ → List ℕ → Type 0
+Leaves isa from gap bytes =
     (s : Processor) → IsAtStub isa (s.general from) bytes s
     → word_at (s.general from + 536) s ≤ s.general from → word_at (word_at (s.general from + 536) s) s ≤ half
-    → word_at (s.general from + 536) s + area_bytes isa + pushed_bytes isa ≤ half
+    → word_at (s.general from + 536) s + (area_bytes isa + gap) + pushed_bytes isa ≤ half
     → (t : Processor)
     × TakesSteps isa (host_steps isa Exit) s t
-    × HasLeft isa (s.general from) (word_at (s.general from + 536) s) s t
+    × HasLeft isa (s.general from) (word_at (s.general from + 536) s) gap s t
