@@ -1,5 +1,5 @@
 -- What each row of AArch64's tables does.
-use Rattle.std.proofs.Common.{◌≡◌, ◌≢◌, ℕ, ◌+◌, ◌-◌, ◌*◌, ◌/◌, ◌%◌, ◌^◌, ◌<◌, ◌≤◌, Bool, true, false, if◌then◌else◌, List, ◌++◌, length, refl, sym, ap, ◌∙◌, arith, lit<, Some, pos, negsuc}
+use Rattle.std.proofs.Common.{inr, ◌≡◌, ◌≢◌, ℕ, ◌+◌, ◌-◌, ◌*◌, ◌/◌, ◌%◌, ◌^◌, ◌<◌, ◌≤◌, Bool, true, false, if◌then◌else◌, List, ◌++◌, length, refl, sym, ap, ◌∙◌, arith, lit<, Some, pos, negsuc}
 use Rattle.std.specs.Prelude.{◌==◌, ◌-ℤ◌, ◌&&◌, not, nat_lt}
 use Rattle.ffi3_isa.specs.declared.Instr.{Instr}
 use Rattle.ffi3_isa.specs.declared.Instr.TheVariants.{Ld, Sd, Fld, Fsd, Addi, Br, Blr}
@@ -51,7 +51,7 @@ load_general_row s x t b o tail in_range b_range eight short al at far above h =
       window = length (row ++ tail);
       aligned = al;
       stands = stands_immediate s 0b1111100101 (o / 8) b t tail (Ld t b (pos (8 * (o / 8)))) (omega arith) (omega (arith, short)) b_range (omega (arith, in_range)) refl h;
-      above = loads_there s.sp addr (x + o) to above;
+      kept = inr (loads_there s.sp addr (x + o) to above);
       is_after = sym (ap (λ (z : Bool). shape z (word_at addr s) (next 4 s)) (not_31 t in_range) ∙ ap (λ (a : ℕ). shape false (word_at a s) (next 4 s)) to ∙ ap (λ (n : ℕ). shape false (word_at (x + o) s) n) behind);
     }
 
@@ -69,7 +69,7 @@ load_floating_row s x t b o tail in_range b_range eight short al at far above h 
       window = length (row ++ tail);
       aligned = al;
       stands = stands_immediate s 0b1111110101 (o / 8) b t tail (Fld t b (pos (8 * (o / 8)))) (omega arith) (omega (arith, short)) b_range in_range refl h;
-      above = loads_there s.sp addr (x + o) to above;
+      kept = inr (loads_there s.sp addr (x + o) to above);
       is_after = sym (ap (λ (a : ℕ). shape (word_at a s) (next 4 s)) to ∙ ap (λ (n : ℕ). shape (word_at (x + o) s) n) behind);
     }
 
@@ -87,7 +87,7 @@ store_general_row s x t b o tail in_range b_range eight short al at far h =
       window = length (row ++ tail);
       aligned = al;
       stands = stands_immediate s 0b1111100100 (o / 8) b t tail (Sd t b (pos (8 * (o / 8)))) (omega arith) (omega (arith, short)) b_range (omega (arith, in_range)) refl h;
-      above = tt;
+      kept = tt;
       is_after = sym (ap (λ (z : Bool). shape z addr (next 4 s)) (not_31 t in_range) ∙ ap (λ (a : ℕ). shape false a (next 4 s)) to ∙ ap (λ (n : ℕ). shape false (x + o) n) behind);
     }
 
@@ -105,7 +105,7 @@ store_floating_row s x t b o tail in_range b_range eight short al at far h =
       window = length (row ++ tail);
       aligned = al;
       stands = stands_immediate s 0b1111110100 (o / 8) b t tail (Fsd t b (pos (8 * (o / 8)))) (omega arith) (omega (arith, short)) b_range in_range refl h;
-      above = tt;
+      kept = tt;
       is_after = sym (ap (λ (a : ℕ). shape a (next 4 s)) to ∙ ap (λ (n : ℕ). shape (x + o) n) behind);
     }
 
@@ -123,7 +123,7 @@ copy_row s to from v tail in_range from_range al is low h =
       window = length (row ++ tail);
       aligned = al;
       stands = stands_immediate s 0b1001000100 0 from to tail (Addi to from (pos 0)) (omega arith) (omega arith) from_range (omega (arith, in_range)) refl h;
-      above = tt;
+      kept = tt;
       is_after = sym (ap (λ (z : Bool). shape z (moved (base Aarch64 from s) (pos 0)) (next 4 s)) (not_31 to in_range) ∙ ap (λ (w : ℕ). shape false w (next 4 s)) value ∙ ap (λ (n : ℕ). shape false v n) behind);
     }
 
@@ -140,7 +140,7 @@ sp_row s from n v tail from_range short al is low h =
       window = length (row ++ tail);
       aligned = al;
       stands = stands_immediate s 0b1001000100 n from 31 tail (Addi 31 from (pos n)) (omega arith) short from_range (omega arith) refl h;
-      above = tt;
+      kept = tt;
       is_after = sym (ap (λ (w : ℕ). shape w (next 4 s)) value ∙ ap (λ (k : ℕ). shape v k) behind);
     }
 
@@ -157,7 +157,7 @@ fall_row s to tail al is small h =
       window = length (row ++ tail);
       aligned = al;
       stands = stands_immediate s 0b1101000100 176 31 31 tail (Addi 31 31 (pos 0 -ℤ pos 176)) (omega arith) (omega arith) (omega arith) (omega arith) refl h;
-      above = tt;
+      kept = tt;
       is_after = sym (ap (λ (w : ℕ). shape w (next 4 s)) sp ∙ ap (λ (k : ℕ). shape to k) behind);
     }
 
@@ -176,7 +176,7 @@ call_row s tail al h =
       window = length (row ++ tail);
       aligned = al;
       stands = stands_word s 0xD63F0200 tail (Blr 16) (lit< tt) (stub (blr {n = 16} (lit< tt) refl)) h;
-      above = tt;
+      kept = tt;
       is_after = sym (ap (λ (n : ℕ). record s { general = set_at 30 n s.general; pc = s.general 16 }) behind);
     }
 
@@ -188,7 +188,7 @@ return_row s tail al h = record {
   window = length (aarch64_row 0 (jump returns) ++ tail);
   aligned = al;
   stands = stands_word s 0xD65F03C0 tail (Br 30) (lit< tt) (stub (ret {n = 30} (lit< tt) refl)) h;
-  above = tt;
+  kept = tt;
   is_after = refl;
 }
 

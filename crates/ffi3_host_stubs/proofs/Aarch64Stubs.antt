@@ -1,12 +1,12 @@
 -- The four stubs of AArch64, wherever they and the exchange region stand.
-use Rattle.std.proofs.Common.{◌≡◌, ◌≢◌, ◌⊎◌, inl, inr, ⊎_elim, ℕ, ◌+◌, ◌-◌, ◌*◌, ◌%◌, ◌<◌, ◌≤◌, Bool, true, false, if◌then◌else◌, List, [], ◌∷◌, ◌++◌, length, refl, sym, ap, ◌∙◌, subst, arith, lit<, pos, negsuc}
+use Rattle.std.proofs.Common.{◌≡◌, ◌≢◌, ◌⊎◌, inl, inr, ⊎_elim, ℕ, ◌+◌, ◌-◌, ◌*◌, ◌%◌, ◌<◌, ◌≤◌, Bool, true, false, if◌then◌else◌, List, [], ◌∷◌, ◌++◌, length, refl, sym, ap, ◌∙◌, subst, arith, lit<, lit≤, pos, negsuc}
 use Rattle.std.specs.Prelude.{◌==◌}
 use Rattle.ffi3_memory.specs.Memory.{number_of, low_bytes}
 use Rattle.ffi3_type_rules.specs.declared.Isa.TheVariants.{Aarch64}
 use Rattle.ffi3_place_rules.specs.declared.Loc.{Loc}
 use Rattle.ffi3_place_rules.specs.declared.Loc.TheVariants.{G}
 use Rattle.ffi3_place_rules.specs.Isa.{call_loads, stub_area, callee_saved_words, entry_stores, result_loads}
-use Rattle.ffi3_machine.specs.Stubs.{Entry, Exit, Call, Return, aarch64_row, load, store, sum, jump, calls, returns, exchange_loads, exchange_stores, area_loads, area_stores}
+use Rattle.ffi3_machine.specs.Stubs.{Entry, Exit, Call, Return, exchanged_at, aarch64_row, load, store, sum, jump, calls, returns, exchange_loads, exchange_stores, area_loads, area_stores}
 use Rattle.ffi3_stubs.specs.Calls.{same_loc, is_in}
 use Rattle.ffi3_stubs.proofs.Places.{unequal}
 use Rattle.ffi3_stubs.proofs.WordSegments.{fits, all_fit}
@@ -301,6 +301,19 @@ entry_word s x room above =
     let word : bytes_at (entry_saved s).memory (x + 528) 8 ≡ bytes_at s.memory (x + 528) 8 = bytes_alike (entry_saved s).memory s.memory (x + 528) 8 (λ a low high. around s a room (inr (omega (arith, low, above)))) in
     unread 16 x 528 (entry_stores Aarch64) t (omega arith) refl ∙ ap (number_of 8) (bytes_other (x + 536) (s.sp - 176) (entry_saved s).memory (x + 528) 8 (inl (omega arith)) ∙ word)
 
+-- numbers of the entry, over plain variables
+lowered_within : (p sp x : ℕ) → sp ≡ p + 176 → sp ≤ x → x + 552 ≤ half → (p + 0 + 8 * 21 ≤ half) × (p ≤ half) × (sp ≤ half)
+lowered_within p sp x e above far = (omega (arith, e, above, far), omega (arith, e, above, far), omega (arith, above, far))
+
+reads_within : (p sp x : ℕ) → sp ≡ p + 176 → sp ≤ x → x + 552 ≤ half → (p ≤ x + 528) × (x + 528 ≤ half) × (x + 536 ≤ half) × (x ≤ half)
+reads_within p sp x e above far = (omega (arith, e, above), omega (arith, far), omega (arith, far), omega (arith, far))
+
+nothing_more : (v : ℕ) → v + 0 ≡ v
+nothing_more v = omega arith
+
+in_the_set : (from : ℕ) → from < 31 → from < 32
+in_the_set from h = omega (arith, h)
+
 entry_runs : (s : Processor) (from : ℕ) → from < 31 → from ≢ 31 → s.pc % 4 ≡ 0 → s.general from + 552 ≤ half → s.sp ≤ s.general from → 176 ≤ s.sp → word_at (s.general from + 528) s ≤ half → HasCode s s.pc (host_bytes Aarch64 from 0 Entry) → TakesBy Aarch64 45 s (after_entry (s.general from) s)
 unfolding host_bytes word_list fits all_fit
 entry_runs s from in_range not_sp al far above room low h =
@@ -323,29 +336,48 @@ entry_runs s from in_range not_sp al far above room low h =
     let v : ℕ = word_at (x + 528) s6 in
     let p : ℕ = s.sp - 176 in
     let fallen : s.sp ≡ p + 176 = omega (arith, room) in
-    let one = fall_row s p t1 al fallen (omega (arith, far, above)) h in
+    let bounds = lowered_within p s.sp x fallen above far in
+    let reads = reads_within p s.sp x fallen above far in
+    let one = fall_row s p t1 al fallen bounds.2 h in
     let h1 : HasCode s1 s1.pc t1 = onward s s1 (aarch64_row 0 (sum 31 31 (negsuc 175))) t1 4 refl refl refl h in
     let al1 : s1.pc % 4 ≡ 0 = next_aligned s.pc s1.pc refl al in
-    let short : 0 + 8 * 21 ≤ 2048 = omega arith in
-    let within : p + 0 + 8 * 21 ≤ half = omega (arith, far, above, fallen) in
-    let saves : Went Aarch64 s1 s2 21 t2 = area_stored Aarch64 31 18 16 18 x (aarch64_laws 16 (lit< tt)) (stub_area Aarch64) s1 0 t2 refl al1 refl short within h1 in
-    let three = copy_row s2 16 from x t3 (lit< tt) (omega (arith, in_range)) saves.aligned (source s2 from in_range not_sp) (omega (arith, far)) saves.stands in
+    let short : 0 + 8 * 21 ≤ 2048 = lit≤ tt in
+    let saves : Went Aarch64 s1 s2 21 t2 = area_stored Aarch64 31 18 16 18 (aarch64_laws 16 (lit< tt)) (stub_area Aarch64) s1 0 t2 refl al1 refl short bounds.0 h1 in
+    let three = copy_row s2 16 from x t3 (lit< tt) (in_the_set from in_range) saves.aligned (source s2 from in_range not_sp) reads.3 saves.stands in
     let h3 : HasCode s3 s3.pc t3 = onward s2 s3 (copy_bytes Aarch64 16 from) t3 4 refl refl refl saves.stands in
     let al3 : s3.pc % 4 ≡ 0 = next_aligned s2.pc s3.pc refl saves.aligned in
-    let four = copy_row s3 9 31 p t4 (lit< tt) (lit< tt) al3 refl (omega (arith, far, above, fallen)) h3 in
+    let four = copy_row s3 9 31 p t4 (lit< tt) (lit< tt) al3 refl bounds.1 h3 in
     let h4 : HasCode s4 s4.pc t4 = onward s3 s4 (aarch64_row 0 (sum 9 31 (pos 0))) t4 4 refl refl refl h3 in
     let al4 : s4.pc % 4 ≡ 0 = next_aligned s3.pc s4.pc refl al3 in
-    let five = store_general_row s4 x 9 16 536 t5 (lit< tt) (lit< tt) refl (lit< tt) al4 refl (omega (arith, far)) h4 in
+    let five = store_general_row s4 x 9 16 536 t5 (lit< tt) (lit< tt) refl (lit< tt) al4 refl reads.2 h4 in
     let h5 : HasCode s5 s5.pc t5 = onward s4 s5 (aarch64_row 0 (store (G 9) 16 536)) t5 4 refl refl refl h4 in
     let al5 : s5.pc % 4 ≡ 0 = next_aligned s4.pc s5.pc refl al4 in
     let came : Came Aarch64 16 x s5 s6 18 t6 = exchange_stored Aarch64 31 18 16 18 x (aarch64_laws 16 (lit< tt)) (entry_stores Aarch64) s5 t6 refl al5 refl far h5 in
-    let seven = load_general_row s6 x 16 16 528 t7 (lit< tt) (lit< tt) refl (lit< tt) came.aligned came.base (omega (arith, far)) (omega (arith, above)) came.stands in
+    let seven = load_general_row s6 x 16 16 528 t7 (lit< tt) (lit< tt) refl (lit< tt) came.aligned came.base reads.1 reads.0 came.stands in
     let h7 : HasCode s7 s7.pc t7 = onward s6 s7 (aarch64_row 0 (load (G 16) 16 528)) t7 4 refl refl refl came.stands in
     let al7 : s7.pc % 4 ≡ 0 = next_aligned s6.pc s7.pc refl came.aligned in
-    let plus : v + 0 ≡ v = omega arith in
+    let plus : v + 0 ≡ v = nothing_more v in
     let small : v ≤ half = subst (λ (a : ℕ). a ≤ half) (sym (entry_word s x room above)) low in
     let eight = sp_row s7 16 0 v [] (lit< tt) (lit< tt) al7 plus small h7 in
     and_then Aarch64 1 44 45 s s1 e refl (one_step Aarch64 s s1 one) (and_then Aarch64 21 23 44 s1 s2 e refl saves.steps (and_then Aarch64 1 22 23 s2 s3 e refl (one_step Aarch64 s2 s3 three) (and_then Aarch64 1 21 22 s3 s4 e refl (one_step Aarch64 s3 s4 four) (and_then Aarch64 1 20 21 s4 s5 e refl (one_step Aarch64 s4 s5 five) (and_then Aarch64 18 2 20 s5 s6 e refl came.steps (and_then Aarch64 1 1 2 s6 s7 e refl (one_step Aarch64 s6 s7 seven) (one_step Aarch64 s7 e eight)))))))
+
+saved_pc : (ls : List Loc) (at : ℕ) (s : Processor) → (to_area Aarch64 at ls s).pc ≡ s.pc + 4 * length ls
+saved_pc [] at s = omega arith
+saved_pc (l ∷ ls) at s = saved_pc ls (at + 8) (stored 4 (s.sp + at) (held l s) s) ∙ omega arith
+
+passed_pc : (ls : List Loc) (x : ℕ) (s : Processor) → (to_exchange Aarch64 16 x ls s).pc ≡ s.pc + 4 * length ls
+passed_pc [] x s = omega arith
+passed_pc (l ∷ ls) x s = passed_pc ls x (stored 4 (x + exchanged_at l) (held l s) s) ∙ omega arith
+
+all_in_all : (a b c : ℕ) → b ≡ a + 4 + 84 → c ≡ b + 4 + 4 + 4 + 72 → c + 4 + 4 ≡ a + 180
+all_in_all a b c e f = omega (arith, e, f)
+
+-- the save area is below the region
+area_apart : (s : Processor) (x : ℕ) → s.sp ≤ x → 176 ≤ s.sp → (a : ℕ) → s.sp - 176 ≤ a → a < s.sp - 176 + 168 → (entry_passed x s).memory a ≡ (entry_saved s).memory a
+unfolding place misses are_spread
+area_apart s x above room a low high =
+    let below : a < x = omega (arith, high, above, room) in
+    exchange_outside Aarch64 16 x (entry_stores Aarch64) (entry_noted x s) a (inl below) refl ∙ byte_other (x + 536) (s.sp - 176) a (entry_saved s).memory (inl (omega (arith, below)))
 
 has_entered : (s : Processor) (from x : ℕ) → s.sp ≤ x → 176 ≤ s.sp → HasEntered Aarch64 x (s.pc + length (host_bytes Aarch64 from 0 Entry)) s (after_entry x s)
 unfolding host_bytes place misses are_spread
@@ -356,20 +388,18 @@ has_entered s from x above room =
     let e : Processor = after_entry x s in
     let v : ℕ = s.sp - 176 in
     let first : w.sp + 0 ≡ v = omega arith in
-    let behind : e.pc ≡ s.pc + length (host_bytes Aarch64 from 0 Entry) = omega arith in
     let told : (l : Loc) → same_loc l (G 9) ≡ false → same_loc l (G 16) ≡ false → held l t ≡ held l s = λ l a b. set_other 9 v l (entry_based x s) t refl refl a ∙ set_other 16 x l s (entry_based x s) refl refl b in
-    let area : (a : ℕ) → v ≤ a → a < v + 8 * length (stub_area Aarch64) → e.memory a ≡ (entry_saved s).memory a = λ a low high. exchange_outside Aarch64 16 x (entry_stores Aarch64) t a (inl (omega (arith, high, above, room))) refl ∙ byte_other (x + 536) v a (entry_saved s).memory (inl (omega (arith, high, above, room))) in
     let b : Processor = entry_based x s in
     let q : Processor = entry_told x s in
     record {
-      saved = area_still v (stub_area Aarch64) s (entry_saved s) e area (went_to_area Aarch64 0 v (stub_area Aarch64) w first);
+      saved = area_still v (stub_area Aarch64) s (entry_saved s) e (area_apart s x above room) (went_to_area Aarch64 0 v (stub_area Aarch64) w first);
       stored = went_from 16 x (entry_stores Aarch64) s b e refl (λ l out. set_other 16 x l s b refl refl out) (went_from 9 x (entry_stores Aarch64) b t e refl (λ l out. set_other 9 v l b t refl refl out) (went_to_exchange Aarch64 16 x (entry_stores Aarch64) t refl));
       area = exchange_beyond Aarch64 16 x (entry_stores Aarch64) t 536 (omega arith) refl ∙ word_put (x + 536) v (entry_saved s).memory;
       others = λ l out.
           let p = none_of_two l 16 9 [] out in
           set_other 16 (word_at (x + 528) (entry_passed x s)) l t r refl refl p.0 ∙ told l p.1 p.0;
       sp = entry_word s x room above;
-      pc = behind;
+      pc = all_in_all s.pc (entry_saved s).pc (entry_passed x s).pc (saved_pc (stub_area Aarch64) 0 w) (passed_pc (entry_stores Aarch64) x t);
       memory = λ a low region word_out. exchange_outside Aarch64 16 x (entry_stores Aarch64) t a region refl ∙ byte_other (x + 536) v a (entry_saved s).memory (⊎_elim (λ h. inl h) (λ h. inr (omega (arith, h))) word_out) ∙ around s a room low;
       code = refl;
     }

@@ -8,3 +8,8 @@ pub mod Amd64Slot
 pub mod WordSegments
 pub mod Aarch64Rows
 pub mod Aarch64Stubs
+pub mod Aarch64Slot
+pub mod RiscvRows
+pub mod RiscvStubs
+pub mod RiscvSlot
+pub mod Laws

@@ -6,8 +6,8 @@ use Rattle.ffi3_type_rules.specs.declared.Isa.{Isa}
 use Rattle.ffi3_type_rules.specs.declared.Isa.TheVariants.{Amd64, Aarch64, Riscv}
 use Rattle.ffi3_place_rules.specs.declared.Loc.{Loc}
 use Rattle.ffi3_place_rules.specs.declared.Loc.TheVariants.{G, F, S}
-use Rattle.ffi3_place_rules.specs.Isa.{general_registers, stack_pointer, pushed_bytes, area_bytes, call_loads, entry_stores}
-use Rattle.ffi3_place_rules.specs.Isa.{callee_saved_words, stub_area, result_loads, call_scratch, entry_scratch, exit_scratch}
+use Rattle.ffi3_place_rules.specs.Isa.{general_registers, stack_pointer, is_zero_register, pushed_bytes, area_bytes}
+use Rattle.ffi3_place_rules.specs.Isa.{call_loads, entry_stores, callee_saved_words, stub_area, result_loads, call_scratch, entry_scratch, exit_scratch}
 use Rattle.ffi3_machine.specs.Step.{IsAligned}
 use Rattle.ffi3_machine.specs.Stubs.{StubName, Entry, Exit, Call, Return, exchanged_at}
 use Rattle.ffi3_stubs.specs.Calls.{is_in, steps_of, target_of}
@@ -60,10 +60,11 @@ IsOutside low high a = (a < low) ⊎ (high ≤ a)
 
 -- ---- where the stubs stand, and the exchange region
 
--- a general register that is not sp
+-- a general register that is neither sp nor 0 always
 pub record IsSource (isa : Isa) (from : ℕ) : Type 0 where
   pub in_range : from < general_registers isa
   pub not_sp : ¬ from ≡ stack_pointer isa
+  pub not_zero : is_zero_register isa from ≡ false
 
 -- The bytes stand at pc, and the exchange region at x, not below sp and in the lower half
 pub record IsAtStub (isa : Isa) (x : ℕ) (bytes : List ℕ) (s : Processor) : Type 0 where
@@ -166,6 +167,10 @@ pub record HasLeft (isa : Isa) (x area gap : ℕ) (before after : Processor) : T
   pub pc : after.pc ≡ left_to isa (area + (area_bytes isa + gap)) before after
   pub memory : after.memory ≡ before.memory
   pub code : after.code ≡ before.code
+
+-- how far Exit's gap may be in its sum
+abbrev pub most_gap : ℕ
+most_gap = 1024
 
 -- Wherever the bytes stand, what is preserved comes from the save area, whose address stands at 536 of the exchange region, not above it, and results from that region, whose address register `from` holds
 abbrev pub Leaves : Isa → ℕ → ℕ → List ℕ → Type 0

@@ -1,5 +1,5 @@
 -- A processor with memory at every address, and what one instruction does to it. (Intel 64 and IA-32 Architectures Software Developer's Manual, volume 2; Arm Architecture Reference Manual for A-profile, C6.2; RISC-V unprivileged ISA, 2.4 to 2.6, RV64I and "D")
-use Rattle.std.specs.Prelude.{◌≡◌, ℕ, zero, suc, ⊤, ◌+◌, ◌-◌, ◌*◌, ◌<◌, ◌≤◌, Bool, ◌&&◌, ◌==◌, if◌then◌else◌, nat_le, nat_lt}
+use Rattle.std.specs.Prelude.{◌≡◌, ℕ, zero, suc, ⊤, ◌+◌, ◌-◌, ◌*◌, ◌<◌, ◌≤◌, ◌⊎◌, Bool, ◌&&◌, ◌==◌, if◌then◌else◌, nat_le, nat_lt}
 use Rattle.std.specs.Prelude.{pos, negsuc, List, [], ◌∷◌, length}
 use Rattle.std.specs.Int.{byte_at}
 use Rattle.ffi3_memory.specs.Memory.{number_of}
@@ -14,12 +14,13 @@ use Rattle.ffi3_isa.specs.Aarch64.{IsAarch64}
 use Rattle.ffi3_isa.specs.Riscv.{IsRiscv}
 use Rattle.ffi3_machine.specs.Step.{moved, even, reads_zero, reads_sp, IsAligned}
 
--- Register k of each file, the stack pointer and pc. At address a stands the byte `code a` where instructions are taken, and `memory a` where they load and store. Code is mapped so that nothing writes it: no store changes what is taken
+-- Register k of each file, the stack pointer and pc; the stack's lowest address. At address a stands the byte `code a` where instructions are taken, and `memory a` where they load and store. Code is mapped so that nothing writes it: no store changes what is taken
 pub record Processor : Type 0 where
   pub general : ℕ → ℕ
   pub floating : ℕ → ℕ
   pub sp : ℕ
   pub pc : ℕ
+  pub limit : ℕ
   pub code : ℕ → ℕ
   pub memory : ℕ → ℕ
 
@@ -144,21 +145,28 @@ red_zone Amd64 = 128
 red_zone Aarch64 = 0
 red_zone Riscv = 0
 
--- what the instruction loads is not below sp, but in the red zone
-abbrev pub LoadsAbove : Isa → Instr → ℕ → Processor → Type 0
-LoadsAbove isa (Ld rd rs d) size s = s.sp ≤ moved (base isa rs s) d + red_zone isa
-LoadsAbove isa (Fld rd rs d) size s = s.sp ≤ moved (base isa rs s) d + red_zone isa
-LoadsAbove isa (CallMem rs d) size s = s.sp ≤ moved (base isa rs s) d + red_zone isa
-LoadsAbove isa _ size s = ⊤
+-- The eight bytes at an address are not of those that a signal handler may write at any time: the stack's below sp, but the red zone
+abbrev pub IsKept : Isa → ℕ → Processor → Type 0
+IsKept isa addr s = (addr + 8 ≤ s.limit) ⊎ (s.sp ≤ addr + red_zone isa)
 
--- The instruction that stands at pc takes the processor from one state to the other, and needs nothing that may be written below sp
+-- what the instruction loads is kept
+abbrev pub LoadsKept : Isa → Instr → ℕ → Processor → Type 0
+LoadsKept isa (JmpMem d) size s = IsKept isa (moved (next size s) d) s
+LoadsKept isa (LdrLit t d) size s = IsKept isa (moved s.pc d) s
+LoadsKept isa (Ld rd rs d) size s = IsKept isa (moved (base isa rs s) d) s
+LoadsKept isa (Fld rd rs d) size s = IsKept isa (moved (base isa rs s) d) s
+LoadsKept isa (CallMem rs d) size s = IsKept isa (moved (base isa rs s) d) s
+LoadsKept isa Ret size s = IsKept isa s.sp s
+LoadsKept isa _ size s = ⊤
+
+-- The instruction that stands at pc takes the processor from one state to the other, and loads nothing that a signal handler may have written
 pub record Steps (isa : Isa) (before after : Processor) : Type 0 where
   pub instr : Instr
   pub size : ℕ
   pub window : ℕ
   pub aligned : IsAligned isa before.pc
   pub stands : IsCode isa (bytes_at before.code before.pc window) instr size
-  pub above : LoadsAbove isa instr size before
+  pub kept : LoadsKept isa instr size before
   pub is_after : after ≡ done isa instr size before
 
 -- so many instructions, one after another

@@ -1,5 +1,5 @@
 -- The code of a closure's slot whose data stand a distance behind it. (Intel 64 and IA-32 Architectures Software Developer's Manual, volume 2; Arm Architecture Reference Manual for A-profile, C6.2; RISC-V unprivileged ISA, 2)
-use Rattle.std.specs.Prelude.{◌≡◌, ℕ, ◌+◌, ◌-◌, ◌*◌, ◌/◌, ◌%◌, ◌^◌, ◌≤◌, if◌then◌else◌, nat_le, List, [], ◌∷◌, ◌++◌, length}
+use Rattle.std.specs.Prelude.{◌≡◌, ℕ, ◌+◌, ◌-◌, ◌*◌, ◌/◌, ◌%◌, ◌^◌, ◌<◌, ◌≤◌, ◌⊎◌, if◌then◌else◌, nat_le, List, [], ◌∷◌, ◌++◌, length}
 use Rattle.ffi3_type_rules.specs.declared.Isa.{Isa}
 use Rattle.ffi3_type_rules.specs.declared.Isa.TheVariants.{Amd64, Aarch64, Riscv}
 use Rattle.ffi3_place_rules.specs.Isa.{closure_register, trampoline_registers}
@@ -40,6 +40,12 @@ slot_code Riscv d =
     ++ riscv_i 0 7 0b000 0 0b1100111
     ++ riscv_i 0 0 0b000 0 0b0010011
 
+-- how far the instructions reach: 32 bits with a sign; 21 bits, in fours; the upper 20 of 32 bits
+abbrev pub CanReach : Isa → ℕ → Type 0
+CanReach Amd64 d = ((d ≡ 0) ⊎ (11 ≤ d)) × (d < 2147483000)
+CanReach Aarch64 d = (d % 4 ≡ 0) × (d + 16 < 1048576)
+CanReach Riscv d = (d % 4096 ≡ 0) × (d < 2147483648)
+
 pub record HasReached (isa : Isa) (d : ℕ) (before after : Processor) : Type 0 where
   pub closure : after.general (closure_register isa) ≡ before.pc + d
   pub pc : after.pc ≡ target_of isa (word_at (before.pc + d + entry_at isa) before)
@@ -48,8 +54,8 @@ pub record HasReached (isa : Isa) (d : ℕ) (before after : Processor) : Type 0 
   pub memory : after.memory ≡ before.memory
   pub code : after.code ≡ before.code
 
--- Wherever the bytes stand: three instructions lead where their data say, with the address of the data in the closure's register
+-- Wherever the bytes stand, with their data outside the stack or not below sp: three instructions lead where the data say, with the address of the data in the closure's register
 abbrev pub Reaches : Isa → ℕ → List ℕ → Type 0
 Reaches isa d bytes =
     (s : Processor) → IsAligned isa s.pc → HasCode s s.pc bytes → s.pc + d + 64 ≤ half
-    → word_at (s.pc + d + entry_at isa) s ≤ half → (t : Processor) × TakesSteps isa 3 s t × HasReached isa d s t
+    → (s.pc + d + 64 ≤ s.limit) ⊎ (s.sp ≤ s.pc + d) → word_at (s.pc + d + entry_at isa) s ≤ half → (t : Processor) × TakesSteps isa 3 s t × HasReached isa d s t
