@@ -130,9 +130,9 @@ static void fill_moves(struct plan *plan, struct reader *it)
 
 /* Where a closure finds an argument: where it stands, if that is one place. In registers nothing is aligned to 16. What
  * stands in more is gathered by the callee's moves. */
-static struct source source_of(struct plan *plan, struct reader *it, uint32_t *gathers)
+static struct source source_of(struct plan *plan, struct reader *it)
 {
-    struct move *moves = &plan->gathers[*gathers];
+    struct move *moves = &plan->gathers[plan->gathers_count];
     uint32_t count = 0, first = (uint32_t)it->next->from;
     if (it->next->kind == FFI3_MOVE_BEHIND) {
         it->next++;
@@ -146,25 +146,28 @@ static struct source source_of(struct plan *plan, struct reader *it, uint32_t *g
     }
     if (count == 1 && (moves->from >= FRAME_AT || it->type->alignment <= 8))
         return (struct source){AT_PLACE, moves->from, 0, 0};
-    struct source source = {GATHERED, plan->scratch, *gathers, count};
-    *gathers += count;
+    struct source source = {GATHERED, plan->scratch, plan->gathers_count, count};
+    plan->gathers_count += count;
     plan->scratch += (uint32_t)(it->type->size + 15) / 16 * 16;
     return source;
 }
 
-static void fill_arguments(struct plan *plan, const struct told *told, const ffi_cif *cif)
+/* Answers whether each argument has its moves. */
+static bool has_filled_arguments(struct plan *plan, const struct told *told, const ffi_cif *cif)
 {
     struct reader in = reader_of(&told->lists[FFI3_MOVES_TO_STORE]);
     struct reader out = reader_of(&told->lists[FFI3_MOVES_TO_COLLECT]);
-    uint32_t gathers = 0;
-    for (uint16_t number = 0; has_more(&in); number++) {
+    for (uint16_t number = 0; number < cif->nargs; number++) {
+        plan->sources[number] = (struct source){AT_PLACE, 0, 0, 0};
         if (cif->arg_types[number]->type == FFI_TYPE_VOID)
             continue;
+        if (!has_more(&in) || !has_more(&out))
+            return false;
         in.number = number;
         in.type = out.type = cif->arg_types[number];
         fill_moves(plan, &in);
         out.start = in.start;
-        plan->sources[number] = source_of(plan, &out, &gathers);
+        plan->sources[number] = source_of(plan, &out);
         in.part++;
         out.part++;
     }
@@ -172,6 +175,7 @@ static void fill_arguments(struct plan *plan, const struct told *told, const ffi
         plan->number_at = (uint32_t)in.next->to;
         plan->number = in.next->from;
     }
+    return true;
 }
 
 /* ---- Results */
@@ -234,33 +238,57 @@ void told_mirror(struct told *told)
     }
 }
 
+/* The plan, whose moves and sources stand in `room`, in memory of its own that has no more than it wants. */
+static struct plan *kept(const struct plan *made, const struct key *key)
+{
+    size_t moves = made->moves_count, loads = made->loads_count, gives = made->gives_count;
+    size_t gathers = made->gathers_count, nargs = made->nargs, nodes = made->word ? 0 : key->length;
+    struct plan *plan = malloc(sizeof *plan + (moves + loads + gives + gathers) * sizeof(struct move) +
+                               nargs * sizeof(struct source) + nodes * sizeof *plan->nodes);
+    if (!plan)
+        return NULL;
+    *plan = *made;
+    plan->moves = (struct move *)(plan + 1);
+    plan->loads = plan->moves + moves;
+    plan->gives = plan->loads + loads;
+    plan->gathers = plan->gives + gives;
+    plan->sources = (struct source *)(plan->gathers + gathers);
+    memcpy(plan->moves, made->moves, moves * sizeof(struct move));
+    memcpy(plan->loads, made->loads, loads * sizeof(struct move));
+    memcpy(plan->gives, made->gives, gives * sizeof(struct move));
+    memcpy(plan->gathers, made->gathers, gathers * sizeof(struct move));
+    memcpy(plan->sources, made->sources, nargs * sizeof(struct source));
+    plan->nodes = memcpy(plan->sources + nargs, key->nodes, nodes * sizeof *plan->nodes);
+    plan->nodes_count = nodes;
+    return plan;
+}
+
 struct plan *plan_from(const struct key *key, uint64_t word, const struct told *told, const ffi_cif *cif)
 {
     size_t stores = told->lists[FFI3_MOVES_TO_STORE].count, collects = told->lists[FFI3_MOVES_TO_COLLECT].count;
     size_t loads = told->lists[FFI3_MOVES_TO_LOAD].count + MOST_BESIDE;
     size_t gives = told->lists[FFI3_MOVES_TO_GIVE].count + MOST_BESIDE;
-    size_t nargs = cif->nargs, nodes = word ? 0 : key->length;
-    struct plan *plan = calloc(1, sizeof *plan + (stores + loads + gives + collects) * sizeof(struct move) +
-                                      nargs * sizeof(struct source) + nodes * sizeof *plan->nodes);
-    if (!plan)
-        return NULL;
-    plan->moves = (struct move *)(plan + 1);
-    plan->loads = plan->moves + stores;
-    plan->gives = plan->loads + loads;
-    plan->gathers = plan->gives + gives;
-    plan->sources = (struct source *)(plan->gathers + collects);
-    struct ffi3_node *kept = (struct ffi3_node *)(plan->sources + nargs);
-    memcpy(kept, key->nodes, nodes * sizeof *kept);
-    plan->nodes = kept;
-    plan->nodes_count = nodes;
-    plan->word = word;
-    plan->abi = cif->abi;
-    plan->nargs = cif->nargs;
-    plan->stack = (uint32_t)told->stack;
-    plan->frame = (uint32_t)told->sizes.frame;
-    plan->number_at = (uint32_t)offsetof(struct exchange, unused);
-    fill_arguments(plan, told, cif);
-    fill_result(plan, told, cif->rtype);
-    host_complete(key, plan);
+    size_t room = stores + loads + gives + collects;
+    struct move own_moves[64], *moves = own_moves;
+    struct source own_sources[16], *sources = own_sources;
+    if (room > sizeof own_moves / sizeof *own_moves)
+        moves = malloc(room * sizeof *moves);
+    if (cif->nargs > sizeof own_sources / sizeof *own_sources)
+        sources = malloc(cif->nargs * sizeof *sources);
+    struct plan *plan = NULL, made = {
+        .word = word, .abi = cif->abi, .nargs = cif->nargs,
+        .stack = (uint32_t)told->stack, .frame = (uint32_t)told->sizes.frame,
+        .number_at = offsetof(struct exchange, unused),
+        .moves = moves, .loads = moves + stores, .gives = moves + stores + loads,
+        .gathers = moves + stores + loads + gives, .sources = sources};
+    if (moves && sources && has_filled_arguments(&made, told, cif)) {
+        fill_result(&made, told, cif->rtype);
+        host_complete(key, &made);
+        plan = kept(&made, key);
+    }
+    if (moves != own_moves)
+        free(moves);
+    if (sources != own_sources)
+        free(sources);
     return plan;
 }

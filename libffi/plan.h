@@ -71,6 +71,7 @@ struct plan {
     uint32_t moves_count;
     uint32_t loads_count;
     uint32_t gives_count;
+    uint32_t gathers_count;
     struct move *moves;   /* the caller's, of the arguments */
     struct move *loads;   /* the caller's, of the result */
     struct move *gives;   /* the callee's, of the result */
