@@ -1,4 +1,5 @@
 /* What the proved library is asked: the moves of a signature. */
+#include "heap.h"
 #include "host.h"
 #include "plan.h"
 #include <stdlib.h>
@@ -90,9 +91,12 @@ bool has_asked_moves(const struct key *key, struct told *told)
     memset(told, 0, offsetof(struct told, own_moves));
     size_t length = told_nodes(key, nodes, &fixed);
     uint32_t target = host_target((ffi_abi)key->nodes[0].count);
+    struct room room;
+    room_open(&room);
     bool has = ffi3_prepare(target, nodes, length, fixed, &interface, &fault) == FFI3_OK &&
                has_told_all(&interface, told);
     ffi3_release(&interface);
+    room_close(&room);
     if (nodes != own_nodes)
         free(nodes);
     if (!has) {

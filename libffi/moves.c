@@ -56,30 +56,34 @@ static uint32_t length_of(const struct ffi3_move *told, uint64_t offset, const f
     return (uint32_t)(is_scalar(type) || told->length < left ? told->length : left);
 }
 
-/* Adds a move to the `count` of a value, and answers how many they are then. What goes on where the last one ended, in
- * both memories, or ends where it began, goes with it; what writes the same bytes comes in its place. */
-static uint32_t add(struct move *moves, uint32_t count, struct move move)
+/* Whether a move goes with the one before it: it goes on where that ended, in both memories, or ends where that began, or
+ * writes the same bytes, and so comes in its place. */
+static bool has_joined(struct move *last, const struct move *move)
 {
-    struct move *last = &moves[count - 1];
-    if (move.length == 0)
-        return count;
-    if (count && last->to == move.to) {
-        *last = move;
-        return count;
+    if (last->to == move->to) {
+        *last = *move;
+        return true;
     }
-    bool goes_on = count && last->from + last->length == move.from && last->to + last->length == move.to;
-    bool is_before = count && move.from + move.length == last->from && move.to + move.length == last->to;
-    if ((!goes_on || last->length % 8) && (!is_before || move.length % 8)) {
-        moves[count] = move;
-        return count + 1;
-    }
+    bool goes_on = last->from + last->length == move->from && last->to + last->length == move->to;
+    bool is_before = move->from + move->length == last->from && move->to + move->length == last->to;
+    if ((!goes_on || last->length % 8) && (!is_before || move->length % 8))
+        return false;
     if (is_before) {
-        last->from = move.from;
-        last->to = move.to;
+        last->from = move->from;
+        last->to = move->to;
     }
-    last->length += move.length;
+    last->length += move->length;
     last->kind = as_they_are(last->length);
-    return count;
+    return true;
+}
+
+/* Adds a move to the `count` of a value, and answers how many they are then. */
+static inline uint32_t add(struct move *moves, uint32_t count, const struct move *move)
+{
+    if (move->length == 0 || (count && has_joined(&moves[count - 1], move)))
+        return count;
+    moves[count] = *move;
+    return count + 1;
 }
 
 /* ---- Arguments
@@ -123,7 +127,7 @@ static void fill_moves(struct plan *plan, struct reader *it)
         move.from = (uint32_t)(it->next->from - it->start);
         move.length = length_of(it->next, move.from, it->type);
         move.kind = kind_in(it->next, move.length);
-        count = add(moves, count, move);
+        count = add(moves, count, &move);
     }
     plan->moves_count += count;
 }
@@ -142,7 +146,7 @@ static struct source source_of(struct plan *plan, struct reader *it)
         struct move move = {.from = (uint32_t)it->next->from, .to = (uint32_t)(it->next->to - it->start)};
         move.length = length_of(it->next, move.to, it->type);
         move.kind = as_they_are(move.length);
-        count = add(moves, count, move);
+        count = add(moves, count, &move);
     }
     if (count == 1 && (moves->from >= FRAME_AT || it->type->alignment <= 8))
         return (struct source){AT_PLACE, moves->from, 0, 0};
@@ -210,10 +214,14 @@ static void fill_result(struct plan *plan, const struct told *told, const ffi_ty
             plan->back = (uint32_t)told->sizes.returned;
         return;
     }
-    for (size_t k = 0; k < loads->count; k++)
-        plan->loads_count = add(plan->loads, plan->loads_count, load_of(&loads->first[k], type));
-    for (size_t k = 0; k < gives->count; k++)
-        plan->gives_count = add(plan->gives, plan->gives_count, give_of(&gives->first[k], type));
+    for (size_t k = 0; k < loads->count; k++) {
+        struct move move = load_of(&loads->first[k], type);
+        plan->loads_count = add(plan->loads, plan->loads_count, &move);
+    }
+    for (size_t k = 0; k < gives->count; k++) {
+        struct move move = give_of(&gives->first[k], type);
+        plan->gives_count = add(plan->gives, plan->gives_count, &move);
+    }
 }
 
 /* ---- The whole */
