@@ -7,7 +7,7 @@
 #define DEEPEST 16         /* structs in structs: the library's own limit */
 #define MOST_NODES 1000000 /* of a signature */
 
-static const uint8_t SCALARS[FFI_TYPE_LAST + 1] = {
+const uint8_t scalar_kinds[FFI_TYPE_LAST + 1] = {
     [FFI_TYPE_VOID] = FFI3_VOID,     [FFI_TYPE_INT] = FFI3_SINT32,    [FFI_TYPE_FLOAT] = FFI3_FLOAT,
     [FFI_TYPE_DOUBLE] = FFI3_DOUBLE, [FFI_TYPE_LONGDOUBLE] = FFI3_STRUCT, [FFI_TYPE_UINT8] = FFI3_UINT8,
     [FFI_TYPE_SINT8] = FFI3_SINT8,   [FFI_TYPE_UINT16] = FFI3_UINT16, [FFI_TYPE_SINT16] = FFI3_SINT16,
@@ -16,7 +16,7 @@ static const uint8_t SCALARS[FFI_TYPE_LAST + 1] = {
     [FFI_TYPE_COMPLEX] = FFI3_STRUCT,
 };
 
-static const uint8_t SIZES[FFI_TYPE_LAST + 1] = {
+const uint8_t scalar_sizes[FFI_TYPE_LAST + 1] = {
     [FFI_TYPE_INT] = 4,    [FFI_TYPE_FLOAT] = 4,  [FFI_TYPE_DOUBLE] = 8, [FFI_TYPE_LONGDOUBLE] = 16,
     [FFI_TYPE_UINT8] = 1,  [FFI_TYPE_SINT8] = 1,  [FFI_TYPE_UINT16] = 2, [FFI_TYPE_SINT16] = 2,
     [FFI_TYPE_UINT32] = 4, [FFI_TYPE_SINT32] = 4, [FFI_TYPE_UINT64] = 8, [FFI_TYPE_SINT64] = 8,
@@ -25,11 +25,9 @@ static const uint8_t SIZES[FFI_TYPE_LAST + 1] = {
 
 bool is_sized_otherwise(const ffi_type *type)
 {
-    size_t size = type->type <= FFI_TYPE_LAST ? SIZES[type->type] : 0;
+    size_t size = scalar_size(type->type);
     return size && (type->size != size || type->alignment != size);
 }
-
-uint32_t scalar_kind(unsigned short type) { return type <= FFI_TYPE_LAST ? SCALARS[type] : FFI3_STRUCT; }
 
 /* ---- Nodes */
 

@@ -62,8 +62,15 @@ static inline bool is_aggregate(const ffi_type *type)
     return type->type == FFI_TYPE_STRUCT || type->type == FFI_TYPE_COMPLEX;
 }
 
-/* The library's kind of a scalar, or FFI3_STRUCT where it has none for it. */
-uint32_t scalar_kind(unsigned short type);
+/* By libffi's code of a scalar: the library's kind, or FFI3_STRUCT where it has none for it; and how many bytes. */
+extern const uint8_t scalar_kinds[FFI_TYPE_LAST + 1], scalar_sizes[FFI_TYPE_LAST + 1];
+
+static inline uint32_t scalar_kind(unsigned short type)
+{
+    return type <= FFI_TYPE_LAST ? scalar_kinds[type] : FFI3_STRUCT;
+}
+
+static inline size_t scalar_size(unsigned short type) { return type <= FFI_TYPE_LAST ? scalar_sizes[type] : 0; }
 
 /* Whether a scalar has another size or alignment than its type has. A plan is shared by all that have its key, which
  * has no sizes of scalars, so none may count. */
