@@ -1,5 +1,5 @@
 -- A result that a callee gives, in registers or in the buffer whose address was passed.
-use Rattle.std.specs.Prelude.{Option, Some, None, true}
+use Rattle.std.specs.Prelude.{Option, Some, None, true, ◌^◌}
 use Rattle.std.proofs.Common.{◌≡◌, ◌⊎◌, inl, inr, ℕ, ◌+◌, ◌-◌, ◌<◌, ◌≤◌, List, [], ◌∷◌, ◌++◌, take, drop, get_or, length, refl, ap, sym, ◌∙◌, subst, arith, length-drop}
 use Rattle.std.specs.List.{AllByRecursion}
 use Rattle.std.proofs.lemmas.Bool.{cases_lt}
@@ -28,7 +28,7 @@ use Rattle.ffi3_pieces.specs.Stored.{IsPlace}
 use Rattle.ffi3_pieces.proofs.Lawful.{across_none, each_first, each_map, each_rest, machine_places}
 use Rattle.ffi3_explain_rules.specs.Arguments.{is_in_image}
 use Rattle.ffi3_transfer.specs.Stored.{KeepsAbove, SameAt, Stays, PieceStands}
-use Rattle.ffi3_transfer.specs.Calls.{IsBeside, IsGiven, IsGivenBy, ResultKeeps, at_return, given_locs}
+use Rattle.ffi3_transfer.specs.Calls.{IsBeside, IsGiven, IsGivenBy, ResultKeeps, at_return, given_locs, giving_bytes}
 use Rattle.ffi3_transfer.proofs.Composing.{same_word_at}
 use Rattle.ffi3_transfer.proofs.Owning.{pieces_stand, pieces_filled}
 
@@ -149,12 +149,12 @@ module _ (std : Standard) (s : Signature) (sound : IsSound std s) (right : Signa
   same_at (F r) = refl
   same_at (S n) = λ k few. refl
 
-  pub nothing_given : (plan_of std s).res ≡ Nothing → IsGiven std s bytes old old
-  nothing_given is = record {
+  pub nothing_given : giving_bytes std s ≤ length old.stack → old.sp + length old.stack < 2 ^ 64 → (plan_of std s).res ≡ Nothing → IsGiven std s bytes old old
+  nothing_given room low is = record {
     given = subst (λ r. IsGivenBy std s.result_type r bytes old old) (sym is) tt;
-    holds = λ room hidden. record {
+    holds = λ long hidden. record {
       own = record {
-        reaches = omega (arith, room, length-drop std.link old.stack);
+        reaches = omega (arith, long, length-drop std.link old.stack);
         fitting = value_fits s.result_type bytes (result_is_laid_out s right) sized;
         stands = subst (λ r. OwnsResult (at_return std old) s.result_type r (value_in s.result_type bytes)) (sym is) tt;
       };
@@ -166,6 +166,9 @@ module _ (std : Standard) (s : Signature) (sound : IsSound std s) (right : Signa
     kept = subst (ResultKeeps old old) (sym is) tt;
     preserved = preserved_all std agrees (plan_of std s).res old old (λ l place none. same_at l) sound.result_allowed refl;
     beside = λ i clear. refl;
+    sized = sized;
+    room = room;
+    low = low;
   }
 
   -- ---- in registers
@@ -175,8 +178,8 @@ module _ (std : Standard) (s : Signature) (sound : IsSound std s) (right : Signa
     result_registers =
         subst (λ r. AllByRecursion (IsPlace 0) (result_locs r)) is (machine_places (isa_of std.target) 0 (result_locs (plan_of std s).res) sound.result_in_registers)
 
-    pub direct_given : (base : ℕ) → AllByRecursion (PieceStands base new s.result_type bytes) pieces → AllByRecursion (KeepsAbove base old new) pieces → Stays base (piece_locs pieces) old new → IsGiven std s bytes old new
-    direct_given base stand keep stays =
+    pub direct_given : giving_bytes std s ≤ length old.stack → old.sp + length old.stack < 2 ^ 64 → (base : ℕ) → AllByRecursion (PieceStands base new s.result_type bytes) pieces → AllByRecursion (KeepsAbove base old new) pieces → Stays base (piece_locs pieces) old new → IsGiven std s bytes old new
+    direct_given room low base stand keep stays =
         let moved = pieces_moved std base s.result_type bytes new pieces result_registers stand in
         let owns = pieces_stand 0 (at_return std new) s.result_type bytes pieces moved in
         let fills = pieces_filled 0 (at_return std new) s.result_type bytes pieces moved in
@@ -184,9 +187,9 @@ module _ (std : Standard) (s : Signature) (sound : IsSound std s) (right : Signa
         let others : (l : Loc) → IsPlace 0 l → IsNoneOf (given_locs std (plan_of std s).res) l → SameAt 0 l old new = λ l place none. register_same base l old new place (stays.others l (subst (λ r. IsNoneOf (given_locs std r) l) is none)) in
         record {
           given = subst (λ r. IsGivenBy std s.result_type r bytes old new) (sym is) (owns, fills);
-          holds = λ room hidden. record {
+          holds = λ long hidden. record {
             own = record {
-              reaches = omega (arith, room, length-drop std.link new.stack, stays.size);
+              reaches = omega (arith, long, length-drop std.link new.stack, stays.size);
               fitting = value_fits s.result_type bytes (result_is_laid_out s right) sized;
               stands = subst (λ r. OwnsResult (at_return std new) s.result_type r (value_in s.result_type bytes)) (sym is) owns;
             };
@@ -198,16 +201,19 @@ module _ (std : Standard) (s : Signature) (sound : IsSound std s) (right : Signa
           preserved = preserved_all std agrees (plan_of std s).res old new others sound.result_allowed stays.sp;
           kept = subst (ResultKeeps old new) (sym is) (keeps_moved base old new pieces result_registers keep);
           beside = λ i clear. ap (λ xs. get_or xs i 0) same;
+          sized = sized;
+          room = room;
+          low = low;
         }
 
   -- ---- in the buffer
 
   module _ (at : Loc) (buffer : ℕ) (is : (plan_of std s).res ≡ Hidden at buffer) where
-    pub hidden_given : (base from address : ℕ) (mid : List ℕ) (returned : Option Loc)
+    pub hidden_given : giving_bytes std s ≤ length old.stack → old.sp + length old.stack < 2 ^ 64 → (base from address : ℕ) (mid : List ℕ) (returned : Option Loc)
         → AllByRecursion (IsPlace 0) (to_list std.returned_address) → returned ≡ std.returned_address → address ≡ word_at old std.link at → is_in_image old address (size_of s.result_type) ≡ true → from ≡ address - old.sp → old.sp ≤ address
         → part mid from (length bytes) ≡ bytes → length mid ≡ length old.stack → ((i : ℕ) → (i < from) ⊎ (from + length bytes ≤ i) → get_or mid i 0 ≡ get_or old.stack i 0)
         → RegisterHolds new returned address → Stays base (to_list returned) (record old { stack = mid }) new → new.stack ≡ mid → IsGiven std s bytes old new
-    hidden_given base from address mid returned settable returned_is address_is inside from_is above there size beside told stays stack =
+    hidden_given room low base from address mid returned settable returned_is address_is inside from_is above there size beside told stays stack =
         let told_there = subst (λ o. RegisterHolds new o address) returned_is told in
         let moved = told_moved std std.returned_address address new settable told_there in
         let others : (l : Loc) → IsPlace 0 l → IsNoneOf (given_locs std (plan_of std s).res) l → SameAt 0 l old new = λ l place none. register_back l place (register_same base l (record old { stack = mid }) new place (stays.others l (subst (λ o. IsNoneOf (to_list o) l) (sym returned_is) (subst (λ r. IsNoneOf (given_locs std r) l) is none)))) in
@@ -215,14 +221,14 @@ module _ (std : Standard) (s : Signature) (sound : IsSound std s) (right : Signa
         record {
           given = subst (λ r. IsGivenBy std s.result_type r bytes old new) (sym is)
               (subst (λ a. (is_in_image old a (size_of s.result_type) ≡ true) × (part new.stack (a - old.sp) (size_of s.result_type) ≡ bytes) × RegisterHolds (at_return std new) std.returned_address a) address_is (inside, has, moved));
-          holds = λ room hidden.
+          holds = λ long hidden.
               let owned : word_at old std.link at ≡ old.sp + std.link + buffer = subst (OwnsHidden old std.link) is hidden in
               let offset : address - old.sp ≡ std.link + (0 + buffer) = omega (arith, owned, address_is) in
               let stands : value_in s.result_type (take (size_of s.result_type) (drop (0 + buffer) (drop std.link new.stack))) ≡ value_in s.result_type bytes = ap (λ xs. value_in s.result_type (take (size_of s.result_type) xs)) (drop-drop (0 + buffer) std.link new.stack) ∙ ap (λ n. value_in s.result_type (part new.stack n (size_of s.result_type))) (sym offset) ∙ ap (value_in s.result_type) has in
               let where_is : address ≡ new.sp + std.link + buffer = omega (arith, owned, address_is, stays.sp) in
               record {
                 own = record {
-                  reaches = omega (arith, room, length-drop std.link new.stack, ap length stack, size);
+                  reaches = omega (arith, long, length-drop std.link new.stack, ap length stack, size);
                   fitting = value_fits s.result_type bytes (result_is_laid_out s right) sized;
                   stands = subst (λ r. OwnsResult (at_return std new) s.result_type r (value_in s.result_type bytes)) (sym is) stands;
                 };
@@ -234,6 +240,9 @@ module _ (std : Standard) (s : Signature) (sound : IsSound std s) (right : Signa
           preserved = preserved_all std agrees (plan_of std s).res old new others sound.result_allowed stays.sp;
           kept = subst (ResultKeeps old new) (sym is) tt;
           beside = λ i clear. ap (λ xs. get_or xs i 0) stack ∙ beside i (apart i (subst (λ r. IsBeside std s.result_type r old i) is clear));
+          sized = sized;
+          room = room;
+          low = low;
         }
       where
         register_back : (l : Loc) → IsPlace 0 l → SameAt 0 l (record old { stack = mid }) new → SameAt 0 l old new

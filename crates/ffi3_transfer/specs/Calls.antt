@@ -39,6 +39,9 @@ pub record IsCallStored (std : Standard) (s : Signature) (bytes : List ℕ) (old
   pub holds : Holds std s (values_packed s.arguments bytes) new
   pub stays : Stays std.link (stored_locs std s) old new
   pub kept : PlacesKeep std.link old new s.arguments (plan_of std s).places
+  -- nor was a refusal due: that the stack is long enough is in `holds`
+  pub sized : length bytes ≡ packed_size s.arguments
+  pub low : old.sp + length old.stack < 2 ^ 64
 
 -- OR WHY NOT: the first of these that is so
 abbrev pub IsNotStored : Standard → Signature → List ℕ → Image → Unstored → Type 0
@@ -60,6 +63,8 @@ result_bytes m t (Hidden at buffer) = part m.stack buffer (size_of t)
 pub record IsLoaded (std : Standard) (s : Signature) (m : Image) (bytes : List ℕ) : Type 0 where
   pub is : bytes ≡ result_bytes m s.result_type (plan_of std s).res
   pub value : (v : ValueTree) → OwnResult std s v m → value_in s.result_type bytes ≡ v
+  -- nor was a refusal due: the frame is there, also where the result is in registers
+  pub room : frame_of std s ≤ length m.stack
 
 -- OR WHY NOT: the first of these that is so
 abbrev pub IsNotLoaded : Standard → Signature → Image → List ℕ → Unstored → Type 0
@@ -104,6 +109,10 @@ IsGivenBy std t (Hidden at buffer) bytes old new =
     × (part new.stack (word_at old std.link at - old.sp) (size_of t) ≡ bytes)
     × RegisterHolds (at_return std new) std.returned_address (word_at old std.link at)
 
+-- the bytes of the stack that tell where the buffer is, and the return address
+abbrev pub giving_bytes : Standard → Signature → ℕ
+giving_bytes std s = std.link + stack_end (hidden_locs (plan_of std s).res)
+
 -- THE CALLEE HAS GIVEN ITS RESULT. `old` is the entry's image, `new` the same memory after, with sp as before.
 pub record IsGiven (std : Standard) (s : Signature) (bytes : List ℕ) (old new : Image) : Type 0 where
   pub given : IsGivenBy std s.result_type (plan_of std s).res bytes old new
@@ -118,10 +127,10 @@ pub record IsGiven (std : Standard) (s : Signature) (bytes : List ℕ) (old new 
   pub preserved : Kept std old (at_return std new)
   pub beside : (i : ℕ) → IsBeside std s.result_type (plan_of std s).res old i
       → get_or new.stack i 0 ≡ get_or old.stack i 0
-
--- the bytes of the stack that tell where the buffer is, and the return address
-abbrev pub giving_bytes : Standard → Signature → ℕ
-giving_bytes std s = std.link + stack_end (hidden_locs (plan_of std s).res)
+  -- nor was a refusal due, also where the result is in registers, or there is none
+  pub sized : length bytes ≡ size_of s.result_type
+  pub room : giving_bytes std s ≤ length old.stack
+  pub low : old.sp + length old.stack < 2 ^ 64
 
 abbrev pub PointsPast : Standard → Tree → Res → Image → ℕ → Type 0
 PointsPast std t Nothing m address = ⊥

@@ -16,6 +16,9 @@ pub record IsCollected (std : Standard) (s : Signature) (m : Image) (bytes : Lis
   -- so they are the values that the image owns
   pub owned : (vs : List ValueTree) → Own std s vs m → values_packed s.arguments bytes ≡ vs
   pub padding : HaveZeroPadding s.arguments bytes
+  -- nor was a refusal due
+  pub sized : length bytes ≡ packed_size s.arguments
+  pub room : least_stack std s ≤ length m.stack
 
 -- OR WHY NOT: the first of these that is so
 abbrev pub IsNotCollected : Standard → Signature → Image → List ℕ → Uncollected → Type 0
