@@ -113,6 +113,7 @@ reaches d apart near s aligned h far outside to = (
     others = λ l out. set_other 10 (s.pc + d) l s (reached d s) refl refl (neither (same_loc l (G 10)) false out).0;
     sp = refl;
     memory = refl;
+    limit = refl;
     code = refl;
   },
 )
