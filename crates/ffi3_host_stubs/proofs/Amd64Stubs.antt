@@ -1,5 +1,5 @@
 -- The four stubs of AMD64, wherever they and the exchange region stand.
-use Rattle.std.proofs.Common.{◌≡◌, ◌≢◌, ◌⊎◌, inl, inr, ⊎_elim, ℕ, ◌+◌, ◌-◌, ◌*◌, ◌<◌, ◌≤◌, false, List, [], ◌++◌, length, refl, ap, ◌∙◌, arith, pos, negsuc}
+use Rattle.std.proofs.Common.{◌≡◌, ◌≢◌, inl, inr, ⊎_elim, ℕ, ◌+◌, ◌-◌, ◌*◌, ◌<◌, ◌≤◌, false, List, [], ◌++◌, length, refl, ap, ◌∙◌, arith, pos, negsuc}
 use Rattle.ffi3_memory.specs.Memory.{number_of, low_bytes}
 use Rattle.ffi3_type_rules.specs.declared.Isa.TheVariants.{Amd64}
 use Rattle.ffi3_place_rules.specs.declared.Loc.{Loc}
