@@ -177,11 +177,11 @@ pub record HasLeft (isa : Isa) (x area gap : ℕ) (before after : Processor) : T
   pub limit : after.limit ≡ before.limit
   pub code : after.code ≡ before.code
 
--- how far Exit's gap may be in its sum
+-- the longest gap of Exit, in bytes, of those that its sum can say on each instruction set
 abbrev pub most_gap : ℕ
 most_gap = 1024
 
--- the return address of RISC-V, which is the first word of the save area, lies in the lower half, since its lowest bit is cleared by a sum
+-- on RISC-V the first word of the save area, which is the return address, is one of a program
 abbrev pub IsReturnLow : Isa → ℕ → Processor → Type 0
 IsReturnLow Amd64 area s = ⊤
 IsReturnLow Aarch64 area s = ⊤

@@ -1,6 +1,6 @@
 //! The stubs as a processor runs them, wherever they stand, with the exchange region wherever a register says; and a
-//! closure's slot whose data stand a distance behind its code. Nothing here is run by the model's machine: the bytes are
-//! those that `libffi/` runs, and the contract of each says what they do.
+//! closure's slot whose data stand a distance behind its code. Nothing here is run by the model's machine: the bytes
+//! are those that `libffi/` runs, and the contract of each says what they do.
 #![tactic(auto)]
 
 ghost use Rattle.std.specs.Prelude.{◌≡◌, ◌≤◌, ℕ};
@@ -281,9 +281,9 @@ pub fn riscv_own_slot() -> [u8; 16]
     ]
 }
 
-/// Does nothing. Its contract says of each instruction set: what the stubs do, by the exchange region whose address is in
-/// any register but sp; what a slot does whose data stand any distance behind its code; and that without a gap Exit's
-/// rows, and without a distance a slot's code, are those of the model.
+/// Does nothing. Its contract says of each instruction set: what the stubs do, by the exchange region whose address is
+/// in any register but sp; what a slot does whose data stand any distance behind its code; and that without a gap
+/// Exit's rows, and without a distance a slot's code, are those of the model.
 pub fn host_stub_laws()
     ensures calls { (isa : Isa) (from : ℕ) → IsSource isa from → Calls isa from (host_bytes isa from 0 Call) }
     ensures returns { (isa : Isa) (from : ℕ) → IsSource isa from → Returns isa from (host_bytes isa from 0 Return) }
