@@ -164,6 +164,7 @@ slots_code:
 	.balign	4
 slot_code:
 	SLOT_ROWS
+	.skip	4
 	.size	slot_code, .-slot_code
 
 	.section .note.GNU-stack, "", %progbits

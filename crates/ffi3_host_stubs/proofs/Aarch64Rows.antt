@@ -1,5 +1,5 @@
 -- What each row of AArch64's tables does.
-use Rattle.std.proofs.Common.{inr, ◌≡◌, ◌≢◌, ℕ, ◌+◌, ◌-◌, ◌*◌, ◌/◌, ◌%◌, ◌^◌, ◌<◌, ◌≤◌, Bool, true, false, if◌then◌else◌, List, ◌++◌, length, refl, sym, ap, ◌∙◌, arith, lit<, Some, pos, negsuc}
+use Rattle.std.proofs.Common.{inr, ◌≡◌, ℕ, ◌+◌, ◌*◌, ◌/◌, ◌%◌, ◌^◌, ◌<◌, ◌≤◌, Bool, true, false, if◌then◌else◌, List, ◌++◌, length, refl, sym, ap, ◌∙◌, arith, lit<, Some, pos, negsuc}
 use Rattle.std.specs.Prelude.{◌==◌, ◌-ℤ◌, ◌&&◌, not, nat_lt}
 use Rattle.ffi3_isa.specs.declared.Instr.{Instr}
 use Rattle.ffi3_isa.specs.declared.Instr.TheVariants.{Ld, Sd, Fld, Fsd, Addi, Br, Blr}
@@ -34,12 +34,15 @@ loads_there sp addr to e h = omega (arith, e, h)
 pub not_31 : (k : ℕ) → k < 31 → (k == 31) ≡ false
 not_31 k h = unequal k 31 (λ e. omega (arith, e, h))
 
+pub no_sp : (b n : ℕ) → b < 31 → b ≡ 31 → n % 16 ≡ 0
+no_sp b n low e = absurd (omega (arith, low, e))
+
 base_is : (s : Processor) (b : ℕ) → b < 31 → base Aarch64 b s ≡ s.general b
 base_is s b h = ap (λ (x : Bool). if x then s.sp else s.general b) (not_31 b h)
 
 -- ldr x(t), [x(b), o]
-pub load_general_row : (s : Processor) (x t b o : ℕ) (tail : List ℕ) → t < 31 → b < 32 → o % 8 ≡ 0 → o < 32768 → s.pc % 4 ≡ 0 → base Aarch64 b s ≡ x → x + o ≤ half → s.sp ≤ x + o → HasCode s s.pc (aarch64_row 0 (load (G t) b o) ++ tail) → Steps Aarch64 s (received 4 (G t) (word_at (x + o) s) s)
-load_general_row s x t b o tail in_range b_range eight short al at far above h =
+pub load_general_row : (s : Processor) (x t b o : ℕ) (tail : List ℕ) → t < 31 → b < 32 → o % 8 ≡ 0 → o < 32768 → s.pc % 4 ≡ 0 → (b ≡ 31 → s.sp % 16 ≡ 0) → base Aarch64 b s ≡ x → x + o ≤ half → s.sp ≤ x + o → HasCode s s.pc (aarch64_row 0 (load (G t) b o) ++ tail) → Steps Aarch64 s (received 4 (G t) (word_at (x + o) s) s)
+load_general_row s x t b o tail in_range b_range eight short al sixteen at far above h =
     let row : List ℕ = aarch64_row 0 (load (G t) b o) in
     let behind : next 4 s ≡ s.pc + 4 = along s 4 (ends s row tail 4 refl h) in
     let addr : ℕ = moved (base Aarch64 b s) (pos (8 * (o / 8))) in
@@ -51,13 +54,14 @@ load_general_row s x t b o tail in_range b_range eight short al at far above h =
       window = length (row ++ tail);
       aligned = al;
       stands = stands_immediate s 0b1111100101 (o / 8) b t tail (Ld t b (pos (8 * (o / 8)))) (omega arith) (omega (arith, short)) b_range (omega (arith, in_range)) refl h;
+      based = sixteen;
       kept = inr (loads_there s.sp addr (x + o) to above);
       is_after = sym (ap (λ (z : Bool). shape z (word_at addr s) (next 4 s)) (not_31 t in_range) ∙ ap (λ (a : ℕ). shape false (word_at a s) (next 4 s)) to ∙ ap (λ (n : ℕ). shape false (word_at (x + o) s) n) behind);
     }
 
 -- ldr d(t), [x(b), o]
-pub load_floating_row : (s : Processor) (x t b o : ℕ) (tail : List ℕ) → t < 32 → b < 32 → o % 8 ≡ 0 → o < 32768 → s.pc % 4 ≡ 0 → base Aarch64 b s ≡ x → x + o ≤ half → s.sp ≤ x + o → HasCode s s.pc (aarch64_row 0 (load (F t) b o) ++ tail) → Steps Aarch64 s (received 4 (F t) (word_at (x + o) s) s)
-load_floating_row s x t b o tail in_range b_range eight short al at far above h =
+pub load_floating_row : (s : Processor) (x t b o : ℕ) (tail : List ℕ) → t < 32 → b < 32 → o % 8 ≡ 0 → o < 32768 → s.pc % 4 ≡ 0 → (b ≡ 31 → s.sp % 16 ≡ 0) → base Aarch64 b s ≡ x → x + o ≤ half → s.sp ≤ x + o → HasCode s s.pc (aarch64_row 0 (load (F t) b o) ++ tail) → Steps Aarch64 s (received 4 (F t) (word_at (x + o) s) s)
+load_floating_row s x t b o tail in_range b_range eight short al sixteen at far above h =
     let row : List ℕ = aarch64_row 0 (load (F t) b o) in
     let behind : next 4 s ≡ s.pc + 4 = along s 4 (ends s row tail 4 refl h) in
     let addr : ℕ = moved (base Aarch64 b s) (pos (8 * (o / 8))) in
@@ -69,13 +73,14 @@ load_floating_row s x t b o tail in_range b_range eight short al at far above h 
       window = length (row ++ tail);
       aligned = al;
       stands = stands_immediate s 0b1111110101 (o / 8) b t tail (Fld t b (pos (8 * (o / 8)))) (omega arith) (omega (arith, short)) b_range in_range refl h;
+      based = sixteen;
       kept = inr (loads_there s.sp addr (x + o) to above);
       is_after = sym (ap (λ (a : ℕ). shape (word_at a s) (next 4 s)) to ∙ ap (λ (n : ℕ). shape (word_at (x + o) s) n) behind);
     }
 
 -- str x(t), [x(b), o]
-pub store_general_row : (s : Processor) (x t b o : ℕ) (tail : List ℕ) → t < 31 → b < 32 → o % 8 ≡ 0 → o < 32768 → s.pc % 4 ≡ 0 → base Aarch64 b s ≡ x → x + o ≤ half → HasCode s s.pc (aarch64_row 0 (store (G t) b o) ++ tail) → Steps Aarch64 s (stored 4 (x + o) (s.general t) s)
-store_general_row s x t b o tail in_range b_range eight short al at far h =
+pub store_general_row : (s : Processor) (x t b o : ℕ) (tail : List ℕ) → t < 31 → b < 32 → o % 8 ≡ 0 → o < 32768 → s.pc % 4 ≡ 0 → (b ≡ 31 → s.sp % 16 ≡ 0) → base Aarch64 b s ≡ x → x + o ≤ half → HasCode s s.pc (aarch64_row 0 (store (G t) b o) ++ tail) → Steps Aarch64 s (stored 4 (x + o) (s.general t) s)
+store_general_row s x t b o tail in_range b_range eight short al sixteen at far h =
     let row : List ℕ = aarch64_row 0 (store (G t) b o) in
     let behind : next 4 s ≡ s.pc + 4 = along s 4 (ends s row tail 4 refl h) in
     let addr : ℕ = moved (base Aarch64 b s) (pos (8 * (o / 8))) in
@@ -87,13 +92,14 @@ store_general_row s x t b o tail in_range b_range eight short al at far h =
       window = length (row ++ tail);
       aligned = al;
       stands = stands_immediate s 0b1111100100 (o / 8) b t tail (Sd t b (pos (8 * (o / 8)))) (omega arith) (omega (arith, short)) b_range (omega (arith, in_range)) refl h;
+      based = sixteen;
       kept = tt;
       is_after = sym (ap (λ (z : Bool). shape z addr (next 4 s)) (not_31 t in_range) ∙ ap (λ (a : ℕ). shape false a (next 4 s)) to ∙ ap (λ (n : ℕ). shape false (x + o) n) behind);
     }
 
 -- str d(t), [x(b), o]
-pub store_floating_row : (s : Processor) (x t b o : ℕ) (tail : List ℕ) → t < 32 → b < 32 → o % 8 ≡ 0 → o < 32768 → s.pc % 4 ≡ 0 → base Aarch64 b s ≡ x → x + o ≤ half → HasCode s s.pc (aarch64_row 0 (store (F t) b o) ++ tail) → Steps Aarch64 s (stored 4 (x + o) (s.floating t) s)
-store_floating_row s x t b o tail in_range b_range eight short al at far h =
+pub store_floating_row : (s : Processor) (x t b o : ℕ) (tail : List ℕ) → t < 32 → b < 32 → o % 8 ≡ 0 → o < 32768 → s.pc % 4 ≡ 0 → (b ≡ 31 → s.sp % 16 ≡ 0) → base Aarch64 b s ≡ x → x + o ≤ half → HasCode s s.pc (aarch64_row 0 (store (F t) b o) ++ tail) → Steps Aarch64 s (stored 4 (x + o) (s.floating t) s)
+store_floating_row s x t b o tail in_range b_range eight short al sixteen at far h =
     let row : List ℕ = aarch64_row 0 (store (F t) b o) in
     let behind : next 4 s ≡ s.pc + 4 = along s 4 (ends s row tail 4 refl h) in
     let addr : ℕ = moved (base Aarch64 b s) (pos (8 * (o / 8))) in
@@ -105,6 +111,7 @@ store_floating_row s x t b o tail in_range b_range eight short al at far h =
       window = length (row ++ tail);
       aligned = al;
       stands = stands_immediate s 0b1111110100 (o / 8) b t tail (Fsd t b (pos (8 * (o / 8)))) (omega arith) (omega (arith, short)) b_range in_range refl h;
+      based = sixteen;
       kept = tt;
       is_after = sym (ap (λ (a : ℕ). shape a (next 4 s)) to ∙ ap (λ (n : ℕ). shape (x + o) n) behind);
     }
@@ -123,6 +130,7 @@ copy_row s to from v tail in_range from_range al is low h =
       window = length (row ++ tail);
       aligned = al;
       stands = stands_immediate s 0b1001000100 0 from to tail (Addi to from (pos 0)) (omega arith) (omega arith) from_range (omega (arith, in_range)) refl h;
+      based = tt;
       kept = tt;
       is_after = sym (ap (λ (z : Bool). shape z (moved (base Aarch64 from s) (pos 0)) (next 4 s)) (not_31 to in_range) ∙ ap (λ (w : ℕ). shape false w (next 4 s)) value ∙ ap (λ (n : ℕ). shape false v n) behind);
     }
@@ -140,6 +148,7 @@ sp_row s from n v tail from_range short al is low h =
       window = length (row ++ tail);
       aligned = al;
       stands = stands_immediate s 0b1001000100 n from 31 tail (Addi 31 from (pos n)) (omega arith) short from_range (omega arith) refl h;
+      based = tt;
       kept = tt;
       is_after = sym (ap (λ (w : ℕ). shape w (next 4 s)) value ∙ ap (λ (k : ℕ). shape v k) behind);
     }
@@ -157,6 +166,7 @@ fall_row s to tail al is small h =
       window = length (row ++ tail);
       aligned = al;
       stands = stands_immediate s 0b1101000100 176 31 31 tail (Addi 31 31 (pos 0 -ℤ pos 176)) (omega arith) (omega arith) (omega arith) (omega arith) refl h;
+      based = tt;
       kept = tt;
       is_after = sym (ap (λ (w : ℕ). shape w (next 4 s)) sp ∙ ap (λ (k : ℕ). shape to k) behind);
     }
@@ -176,6 +186,7 @@ call_row s tail al h =
       window = length (row ++ tail);
       aligned = al;
       stands = stands_word s 0xD63F0200 tail (Blr 16) (lit< tt) (stub (blr {n = 16} (lit< tt) refl)) h;
+      based = tt;
       kept = tt;
       is_after = sym (ap (λ (n : ℕ). record s { general = set_at 30 n s.general; pc = s.general 16 }) behind);
     }
@@ -188,6 +199,7 @@ return_row s tail al h = record {
   window = length (aarch64_row 0 (jump returns) ++ tail);
   aligned = al;
   stands = stands_word s 0xD65F03C0 tail (Br 30) (lit< tt) (stub (ret {n = 30} (lit< tt) refl)) h;
+  based = tt;
   kept = tt;
   is_after = refl;
 }
@@ -219,34 +231,34 @@ store_length b (S k) r o ok = absurd (no_stack b k ok)
 from_x : (b : ℕ) → b < 31 → (s : Processor) (x : ℕ) (l : Loc) (tail : List ℕ) → fits 31 18 b 18 l ≡ true → s.pc % 4 ≡ 0 → s.general b ≡ x → x + 552 ≤ half → s.sp ≤ x → HasCode s s.pc (row_bytes Aarch64 0 (load l b (exchanged_at l)) ++ tail) → Steps Aarch64 s (received 4 l (word_at (x + exchanged_at l) s) s)
 from_x b low s x (G k) tail ok al at far above h =
     let small : k < 31 = fits_general b k ok in
-    load_general_row s x k b (8 * k) tail small (omega (arith, low)) (omega arith) (omega (arith, small)) al (base_is s b low ∙ at) (omega (arith, far, small)) (omega (arith, above)) h
+    load_general_row s x k b (8 * k) tail small (omega (arith, low)) (omega arith) (omega (arith, small)) al (no_sp b s.sp low) (base_is s b low ∙ at) (omega (arith, far, small)) (omega (arith, above)) h
 from_x b low s x (F k) tail ok al at far above h =
     let small : k < 32 = fits_floating b k ok in
-    load_floating_row s x k b (256 + 8 * k) tail small (omega (arith, low)) (omega arith) (omega (arith, small)) al (base_is s b low ∙ at) (omega (arith, far, small)) (omega (arith, above)) h
+    load_floating_row s x k b (256 + 8 * k) tail small (omega (arith, low)) (omega arith) (omega (arith, small)) al (no_sp b s.sp low) (base_is s b low ∙ at) (omega (arith, far, small)) (omega (arith, above)) h
 from_x b low s x (S k) tail ok al at far above h = absurd (no_stack b k ok)
 
 to_x : (b : ℕ) → b < 31 → (s : Processor) (x : ℕ) (l : Loc) (tail : List ℕ) → fits 31 18 b 18 l ≡ true → s.pc % 4 ≡ 0 → s.general b ≡ x → x + 552 ≤ half → HasCode s s.pc (row_bytes Aarch64 0 (store l b (exchanged_at l)) ++ tail) → Steps Aarch64 s (stored 4 (x + exchanged_at l) (held l s) s)
 to_x b low s x (G k) tail ok al at far h =
     let small : k < 31 = fits_general b k ok in
-    store_general_row s x k b (8 * k) tail small (omega (arith, low)) (omega arith) (omega (arith, small)) al (base_is s b low ∙ at) (omega (arith, far, small)) h
+    store_general_row s x k b (8 * k) tail small (omega (arith, low)) (omega arith) (omega (arith, small)) al (no_sp b s.sp low) (base_is s b low ∙ at) (omega (arith, far, small)) h
 to_x b low s x (F k) tail ok al at far h =
     let small : k < 32 = fits_floating b k ok in
-    store_floating_row s x k b (256 + 8 * k) tail small (omega (arith, low)) (omega arith) (omega (arith, small)) al (base_is s b low ∙ at) (omega (arith, far, small)) h
+    store_floating_row s x k b (256 + 8 * k) tail small (omega (arith, low)) (omega arith) (omega (arith, small)) al (no_sp b s.sp low) (base_is s b low ∙ at) (omega (arith, far, small)) h
 to_x b low s x (S k) tail ok al at far h = absurd (no_stack b k ok)
 
-from_stack : (b : ℕ) (s : Processor) (l : Loc) (at : ℕ) (tail : List ℕ) → fits 31 18 b 18 l ≡ true → s.pc % 4 ≡ 0 → at % 8 ≡ 0 → at < 2048 → s.sp + at ≤ half → HasCode s s.pc (row_bytes Aarch64 0 (load l 31 at) ++ tail) → Steps Aarch64 s (received 4 l (word_at (s.sp + at) s) s)
-from_stack b s (G k) at tail ok al eight short far h =
-    load_general_row s s.sp k 31 at tail (fits_general b k ok) (omega arith) eight (omega (arith, short)) al refl far (omega arith) h
-from_stack b s (F k) at tail ok al eight short far h =
-    load_floating_row s s.sp k 31 at tail (fits_floating b k ok) (omega arith) eight (omega (arith, short)) al refl far (omega arith) h
-from_stack b s (S k) at tail ok al eight short far h = absurd (no_stack b k ok)
+from_stack : (b : ℕ) (s : Processor) (l : Loc) (at : ℕ) (tail : List ℕ) → fits 31 18 b 18 l ≡ true → s.pc % 4 ≡ 0 → s.sp % 16 ≡ 0 → at % 8 ≡ 0 → at < 2048 → s.sp + at ≤ half → HasCode s s.pc (row_bytes Aarch64 0 (load l 31 at) ++ tail) → Steps Aarch64 s (received 4 l (word_at (s.sp + at) s) s)
+from_stack b s (G k) at tail ok al sixteen eight short far h =
+    load_general_row s s.sp k 31 at tail (fits_general b k ok) (omega arith) eight (omega (arith, short)) al (λ e. sixteen) refl far (omega arith) h
+from_stack b s (F k) at tail ok al sixteen eight short far h =
+    load_floating_row s s.sp k 31 at tail (fits_floating b k ok) (omega arith) eight (omega (arith, short)) al (λ e. sixteen) refl far (omega arith) h
+from_stack b s (S k) at tail ok al sixteen eight short far h = absurd (no_stack b k ok)
 
-to_stack : (b : ℕ) (s : Processor) (l : Loc) (at : ℕ) (tail : List ℕ) → fits 31 18 b 18 l ≡ true → s.pc % 4 ≡ 0 → at % 8 ≡ 0 → at < 2048 → s.sp + at ≤ half → HasCode s s.pc (row_bytes Aarch64 0 (store l 31 at) ++ tail) → Steps Aarch64 s (stored 4 (s.sp + at) (held l s) s)
-to_stack b s (G k) at tail ok al eight short far h =
-    store_general_row s s.sp k 31 at tail (fits_general b k ok) (omega arith) eight (omega (arith, short)) al refl far h
-to_stack b s (F k) at tail ok al eight short far h =
-    store_floating_row s s.sp k 31 at tail (fits_floating b k ok) (omega arith) eight (omega (arith, short)) al refl far h
-to_stack b s (S k) at tail ok al eight short far h = absurd (no_stack b k ok)
+to_stack : (b : ℕ) (s : Processor) (l : Loc) (at : ℕ) (tail : List ℕ) → fits 31 18 b 18 l ≡ true → s.pc % 4 ≡ 0 → s.sp % 16 ≡ 0 → at % 8 ≡ 0 → at < 2048 → s.sp + at ≤ half → HasCode s s.pc (row_bytes Aarch64 0 (store l 31 at) ++ tail) → Steps Aarch64 s (stored 4 (s.sp + at) (held l s) s)
+to_stack b s (G k) at tail ok al sixteen eight short far h =
+    store_general_row s s.sp k 31 at tail (fits_general b k ok) (omega arith) eight (omega (arith, short)) al (λ e. sixteen) refl far h
+to_stack b s (F k) at tail ok al sixteen eight short far h =
+    store_floating_row s s.sp k 31 at tail (fits_floating b k ok) (omega arith) eight (omega (arith, short)) al (λ e. sixteen) refl far h
+to_stack b s (S k) at tail ok al sixteen eight short far h = absurd (no_stack b k ok)
 
 pub aarch64_laws : (b : ℕ) → b < 31 → Laws Aarch64 31 18 b 18
 aarch64_laws b low = record {

@@ -1,5 +1,5 @@
 -- The slot of AArch64, wherever it stands and its data.
-use Rattle.std.proofs.Common.{⊎_elim, subst, ◌≡◌, ◌⊎◌, inl, inr, ℕ, ◌+◌, ◌-◌, ◌*◌, ◌/◌, ◌%◌, ◌^◌, ◌<◌, ◌≤◌, Bool, true, false, if◌then◌else◌, List, [], ◌∷◌, ◌++◌, length, refl, sym, ap, ◌∙◌, arith, lit<, ℤ, pos}
+use Rattle.std.proofs.Common.{⊎_elim, subst, ◌≡◌, ◌⊎◌, inl, inr, ℕ, ◌+◌, ◌-◌, ◌*◌, ◌/◌, ◌%◌, ◌^◌, ◌<◌, ◌≤◌, Bool, true, false, if◌then◌else◌, List, [], ◌∷◌, ◌++◌, length, refl, sym, ap, ◌∙◌, arith, lit<, ℤ}
 use Rattle.std.proofs.lemmas.Bool.Decides.{nat_tests}
 use Rattle.std.specs.Prelude.{nat_le, nat_lt}
 use Rattle.ffi3_isa.specs.declared.Instr.TheVariants.{LdrLit, Adr, Br}
@@ -11,7 +11,7 @@ use Rattle.ffi3_machine.specs.Step.{moved}
 use Rattle.ffi3_machine.specs.Stubs.{word}
 use Rattle.ffi3_stubs.specs.Calls.{same_loc, is_in}
 use Rattle.ffi3_host_stubs.specs.Processor.{Processor, half, word_at, set_at, next, IsKept, Steps, HasCode}
-use Rattle.ffi3_host_stubs.specs.Slots.{less_by, slot_code, HasReached, Reaches}
+use Rattle.ffi3_host_stubs.specs.Slots.{less_by, slot_code, Reaches}
 use Rattle.ffi3_host_stubs.proofs.Standing.{plain, wraps, along, ends, onward, TakesBy, one_step, and_then, in_turn}
 use Rattle.ffi3_host_stubs.proofs.Effects.{received}
 use Rattle.ffi3_host_stubs.proofs.Memory.{neither, set_other}
@@ -45,6 +45,7 @@ load_row s o to tail al short is kept h =
       window = length (word (loaded o) ++ tail);
       aligned = al;
       stands = stands_word s (loaded o) tail (LdrLit 16 (sign_extend 21 (o * 4))) (omega (arith, short)) (trampoline (ldr_literal {imm19 = o} {t = 16} (omega (arith, short)) (omega arith) refl)) h;
+      based = tt;
       kept = subst (λ (a : ℕ). IsKept Aarch64 a s) (sym is) kept;
       is_after = sym (ap (λ (a : ℕ). shape a (next 4 s)) is ∙ ap (λ (n : ℕ). shape to n) behind);
     }
@@ -62,6 +63,7 @@ data_row s o to tail al short is h =
       window = length (word (based o) ++ tail);
       aligned = al;
       stands = stands_word s (based o) tail (Adr 17 (sign_extend 21 (o * 4 + 0))) (omega (arith, short)) (trampoline (adr {immlo = 0} {immhi = o} {rd = 17} (omega arith) (omega (arith, short)) (omega arith) fields)) h;
+      based = tt;
       kept = tt;
       is_after = sym (ap (λ (a : ℕ). shape a (next 4 s)) is ∙ ap (λ (n : ℕ). shape to n) behind);
     }
@@ -74,6 +76,7 @@ jump_row s tail al h = record {
   window = length (word 0xD61F0200 ++ tail);
   aligned = al;
   stands = stands_word s 0xD61F0200 tail (Br 16) (lit< tt) (trampoline (br {n = 16} (lit< tt) refl)) h;
+  based = tt;
   kept = tt;
   is_after = refl;
 }
@@ -148,6 +151,7 @@ reaches d four near s aligned h far outside to =
             set_other 17 (s.pc + d) l m (reached d s) refl refl p.0 ∙ set_other 16 v l s m refl refl q.0;
         sp = refl;
         memory = refl;
+        limit = refl;
         code = refl;
       },
     )

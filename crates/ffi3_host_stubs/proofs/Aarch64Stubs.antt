@@ -1,24 +1,25 @@
 -- The four stubs of AArch64, wherever they and the exchange region stand.
-use Rattle.std.proofs.Common.{◌≡◌, ◌≢◌, ◌⊎◌, inl, inr, ⊎_elim, ℕ, ◌+◌, ◌-◌, ◌*◌, ◌%◌, ◌<◌, ◌≤◌, Bool, true, false, if◌then◌else◌, List, [], ◌∷◌, ◌++◌, length, refl, sym, ap, ◌∙◌, subst, arith, lit<, lit≤, pos, negsuc}
-use Rattle.std.specs.Prelude.{◌==◌}
-use Rattle.ffi3_memory.specs.Memory.{number_of, low_bytes}
+use Rattle.std.proofs.Common.{◌≡◌, ◌≢◌, inl, inr, ⊎_elim, ℕ, ◌+◌, ◌-◌, ◌*◌, ◌%◌, ◌<◌, ◌≤◌, Bool, true, false, if◌then◌else◌, List, [], ◌∷◌, ◌++◌, length, refl, sym, ap, ◌∙◌, subst, arith, lit<, lit≤, pos, negsuc}
+use Rattle.ffi3_memory.specs.Memory.{number_of}
 use Rattle.ffi3_type_rules.specs.declared.Isa.TheVariants.{Aarch64}
 use Rattle.ffi3_place_rules.specs.declared.Loc.{Loc}
 use Rattle.ffi3_place_rules.specs.declared.Loc.TheVariants.{G}
 use Rattle.ffi3_place_rules.specs.Isa.{call_loads, stub_area, callee_saved_words, entry_stores, result_loads}
 use Rattle.ffi3_machine.specs.Stubs.{Entry, Exit, Call, Return, exchanged_at, aarch64_row, load, store, sum, jump, calls, returns, exchange_loads, exchange_stores, area_loads, area_stores}
 use Rattle.ffi3_stubs.specs.Calls.{same_loc, is_in}
-use Rattle.ffi3_stubs.proofs.Places.{unequal}
 use Rattle.ffi3_stubs.proofs.WordSegments.{fits, all_fit}
 use Rattle.ffi3_stubs.proofs.Reading.{are_apart, are_disjoint, place, misses, are_spread, in_neither}
-use Rattle.ffi3_host_stubs.specs.Processor.{Processor, half, bytes_at, word_at, put_word, set_at, base, Steps, HasCode}
+use Rattle.ffi3_host_stubs.specs.Processor.{Processor, half, bytes_at, word_at, base, Steps, HasCode}
 use Rattle.ffi3_host_stubs.specs.Stubs.{copy_bytes, host_bytes}
-use Rattle.ffi3_host_stubs.specs.Calls.{held, IsOutside, IsAtStub, HasCalled, Calls, HasReturned, Returns, HasEntered, Enters, HasLeft, Leaves}
+use Rattle.ffi3_host_stubs.specs.Calls.{held, IsOutside, HasCalled, Calls, HasReturned, Returns, HasEntered, Enters, HasLeft, Leaves}
 use Rattle.ffi3_host_stubs.proofs.Standing.{onward, TakesBy, one_step, and_then, in_turn}
 use Rattle.ffi3_host_stubs.proofs.Effects.{received, with_sp_by, stored, from_exchange, to_exchange, from_area, to_area}
-use Rattle.ffi3_host_stubs.proofs.Memory.{neither, byte_other, word_put, bytes_other, bytes_alike, set_other, exchange_others, area_others, came_from_exchange, came_from_area, exchange_outside, exchange_beyond, went_to_exchange, area_outside, went_to_area, went_from, went_still, area_still, came_still, came_again}
+use Rattle.ffi3_host_stubs.proofs.Memory.{neither, byte_other, word_put, bytes_other, bytes_alike, set_other, exchange_others, area_others, came_from_exchange, came_from_area, exchange_outside, places_outside, exchange_beyond, went_to_exchange, area_outside, went_to_area, went_from, area_still, came_still, came_again}
 use Rattle.ffi3_host_stubs.proofs.WordSegments.{word_list, Came, Went, next_aligned, exchange_loaded, exchange_stored, area_loaded, area_stored}
-use Rattle.ffi3_host_stubs.proofs.Aarch64Rows.{not_31, load_general_row, store_general_row, copy_row, sp_row, fall_row, linked, call_row, return_row, aarch64_laws}
+use Rattle.ffi3_host_stubs.proofs.Aarch64Rows.{not_31, no_sp, load_general_row, store_general_row, copy_row, sp_row, fall_row, linked, call_row, return_row, aarch64_laws}
+
+in_half : (x v : ℕ) → x + 552 ≤ half → v ≤ x → v ≤ half
+in_half x v far under = omega (arith, far, under)
 
 source : (s : Processor) (from : ℕ) → from < 31 → from ≢ 31 → base Aarch64 from s ≡ s.general from
 source s from low not_sp = ap (λ (b : Bool). if b then s.sp else s.general from) (not_31 from low)
@@ -58,7 +59,7 @@ call_runs s from in_range not_sp al far above under h =
     let one = copy_row s 17 from x t1 (lit< tt) (omega (arith, in_range)) al (source s from in_range not_sp) (omega (arith, far)) h in
     let h1 : HasCode s1 s1.pc t1 = onward s s1 (copy_bytes Aarch64 17 from) t1 4 refl refl refl h in
     let al1 : s1.pc % 4 ≡ 0 = next_aligned s.pc s1.pc refl al in
-    let two = load_general_row s1 x 16 17 520 t2 (lit< tt) (lit< tt) refl (lit< tt) al1 refl (omega (arith, far)) (omega (arith, above)) h1 in
+    let two = load_general_row s1 x 16 17 520 t2 (lit< tt) (lit< tt) refl (lit< tt) al1 (no_sp 17 s1.sp (lit< tt)) refl (omega (arith, far)) (omega (arith, above)) h1 in
     let h2 : HasCode s2 s2.pc t2 = onward s1 s2 (aarch64_row 0 (load (G 16) 17 520)) t2 4 refl refl refl h1 in
     let al2 : s2.pc % 4 ≡ 0 = next_aligned s1.pc s2.pc refl al1 in
     let same : word_at (x + 520) s + 0 ≡ word_at (x + 520) s = omega arith in
@@ -66,7 +67,7 @@ call_runs s from in_range not_sp al far above under h =
     let h3 : HasCode s3 s3.pc t3 = onward s2 s3 (aarch64_row 0 (sum 31 16 (pos 0))) t3 4 refl refl refl h2 in
     let al3 : s3.pc % 4 ≡ 0 = next_aligned s2.pc s3.pc refl al2 in
     let came : Came Aarch64 17 x s3 s4 17 t4 = exchange_loaded Aarch64 31 18 17 18 x (aarch64_laws 17 (lit< tt)) (call_loads Aarch64) s3 t4 refl al3 refl far under h3 in
-    let five = load_general_row s4 x 16 17 512 t5 (lit< tt) (lit< tt) refl (lit< tt) came.aligned came.base (omega (arith, far)) (omega (arith, under)) came.stands in
+    let five = load_general_row s4 x 16 17 512 t5 (lit< tt) (lit< tt) refl (lit< tt) came.aligned (no_sp 17 s4.sp (lit< tt)) came.base (omega (arith, far)) (omega (arith, under)) came.stands in
     let h5 : HasCode s5 s5.pc t5 = onward s4 s5 (aarch64_row 0 (load (G 16) 17 512)) t5 4 refl refl refl came.stands in
     let al5 : s5.pc % 4 ≡ 0 = next_aligned s4.pc s5.pc refl came.aligned in
     let six : Steps Aarch64 s5 e = call_row s5 [] al5 h5 in
@@ -107,11 +108,12 @@ has_called s from x =
       pc = refl;
       link = behind;
       memory = λ a out. refl;
+      limit = refl;
       code = refl;
     }
 
 pub calls_by : (from : ℕ) → from < 31 → from ≢ 31 → Calls Aarch64 from (host_bytes Aarch64 from 0 Call)
-calls_by from in_range not_sp s is room under callee =
+calls_by from in_range not_sp s is room over under callee =
     let x : ℕ = s.general from in
     (after_call x s, in_turn Aarch64 22 s (after_call x s) (call_runs s from in_range not_sp is.aligned is.high is.above under is.code), has_called s from x)
 
@@ -146,7 +148,7 @@ return_runs s from in_range not_sp al far above low h =
     let h1 : HasCode s1 s1.pc t1 = onward s s1 (copy_bytes Aarch64 16 from) t1 4 refl refl refl h in
     let al1 : s1.pc % 4 ≡ 0 = next_aligned s.pc s1.pc refl al in
     let came : Came Aarch64 16 x s1 s2 6 t2 = exchange_stored Aarch64 31 18 16 18 x (aarch64_laws 16 (lit< tt)) (result_loads Aarch64) s1 t2 refl al1 refl far h1 in
-    let three = load_general_row s2 x 17 16 544 t3 (lit< tt) (lit< tt) refl (lit< tt) came.aligned came.base (omega (arith, far)) (omega (arith, above)) came.stands in
+    let three = load_general_row s2 x 17 16 544 t3 (lit< tt) (lit< tt) refl (lit< tt) came.aligned (no_sp 16 s2.sp (lit< tt)) came.base (omega (arith, far)) (omega (arith, above)) came.stands in
     let h3 : HasCode s3 s3.pc t3 = onward s2 s3 (aarch64_row 0 (load (G 17) 16 544)) t3 4 refl refl refl came.stands in
     let al3 : s3.pc % 4 ≡ 0 = next_aligned s2.pc s3.pc refl came.aligned in
     let same : v ≡ word_at (x + 544) s = unread 16 x 544 (result_loads Aarch64) s1 (omega arith) refl in
@@ -170,14 +172,15 @@ has_returned s from x =
           set_other 17 (word_at (x + 544) (return_taken x s)) l t r refl refl p.1 ∙ same l p.0;
       sp = unread 16 x 544 (result_loads Aarch64) t (omega arith) refl;
       pc = behind;
-      memory = λ a out. exchange_outside Aarch64 16 x (result_loads Aarch64) t a out refl;
+      memory = λ a out. places_outside Aarch64 16 x (result_loads Aarch64) t a out;
+      limit = refl;
       code = refl;
     }
 
 pub returns_back : (from : ℕ) → from < 31 → from ≢ 31 → Returns Aarch64 from (host_bytes Aarch64 from 0 Return)
 returns_back from in_range not_sp s is small =
     let x : ℕ = s.general from in
-    (after_return x s, in_turn Aarch64 9 s (after_return x s) (return_runs s from in_range not_sp is.aligned is.high is.above small is.code), has_returned s from x)
+    (after_return x s, in_turn Aarch64 9 s (after_return x s) (return_runs s from in_range not_sp is.aligned is.high is.above (in_half x (word_at (x + 544) s) is.high small) is.code), has_returned s from x)
 
 -- ---- Exit
 
@@ -199,9 +202,9 @@ exit_raised x gap s = with_sp_by 4 ((exit_given x s).sp + (176 + gap)) (exit_giv
 abbrev after_exit : ℕ → ℕ → Processor → Processor
 after_exit x gap s = record (exit_raised x gap s) { pc = (exit_raised x gap s).general 30 }
 
-exit_runs : (s : Processor) (from gap : ℕ) → from < 31 → from ≢ 31 → gap ≤ 1024 → s.pc % 4 ≡ 0 → s.general from + 552 ≤ half → s.sp ≤ s.general from → word_at (s.general from + 536) s ≤ s.general from → word_at (s.general from + 536) s + (176 + gap) + 0 ≤ half → HasCode s s.pc (host_bytes Aarch64 from gap Exit) → TakesBy Aarch64 31 s (after_exit (s.general from) gap s)
+exit_runs : (s : Processor) (from gap : ℕ) → from < 31 → from ≢ 31 → gap ≤ 1024 → s.pc % 4 ≡ 0 → word_at (s.general from + 536) s % 16 ≡ 0 → s.general from + 552 ≤ half → s.sp ≤ s.general from → word_at (s.general from + 536) s ≤ s.general from → word_at (s.general from + 536) s + (176 + gap) + 0 ≤ half → HasCode s s.pc (host_bytes Aarch64 from gap Exit) → TakesBy Aarch64 31 s (after_exit (s.general from) gap s)
 unfolding host_bytes word_list fits all_fit
-exit_runs s from gap in_range not_sp room al far above under top h =
+exit_runs s from gap in_range not_sp room al sixteen far above under top h =
     let x : ℕ = s.general from in
     let a : ℕ = word_at (x + 536) s in
     let short : 0 + 8 * 20 ≤ 2048 = omega arith in
@@ -222,14 +225,14 @@ exit_runs s from gap in_range not_sp room al far above under top h =
     let one = copy_row s 16 from x t1 (lit< tt) (omega (arith, in_range)) al (source s from in_range not_sp) (omega (arith, far)) h in
     let h1 : HasCode s1 s1.pc t1 = onward s s1 (copy_bytes Aarch64 16 from) t1 4 refl refl refl h in
     let al1 : s1.pc % 4 ≡ 0 = next_aligned s.pc s1.pc refl al in
-    let two = load_general_row s1 x 17 16 536 t2 (lit< tt) (lit< tt) refl (lit< tt) al1 refl (omega (arith, far)) (omega (arith, above)) h1 in
+    let two = load_general_row s1 x 17 16 536 t2 (lit< tt) (lit< tt) refl (lit< tt) al1 (no_sp 16 s1.sp (lit< tt)) refl (omega (arith, far)) (omega (arith, above)) h1 in
     let h2 : HasCode s2 s2.pc t2 = onward s1 s2 (aarch64_row 0 (load (G 17) 16 536)) t2 4 refl refl refl h1 in
     let al2 : s2.pc % 4 ≡ 0 = next_aligned s1.pc s2.pc refl al1 in
     let plus : a + 0 ≡ a = omega arith in
     let three = sp_row s2 17 0 a t3 (lit< tt) (lit< tt) al2 plus (omega (arith, top)) h2 in
     let h3 : HasCode s3 s3.pc t3 = onward s2 s3 (aarch64_row 0 (sum 31 17 (pos 0))) t3 4 refl refl refl h2 in
     let al3 : s3.pc % 4 ≡ 0 = next_aligned s2.pc s3.pc refl al2 in
-    let back : Came Aarch64 16 x s3 s4 20 t4 = area_loaded Aarch64 31 18 16 18 x (aarch64_laws 16 (lit< tt)) (callee_saved_words Aarch64) s3 0 t4 refl al3 refl short within refl h3 in
+    let back : Came Aarch64 16 x s3 s4 20 t4 = area_loaded Aarch64 31 18 16 18 x (aarch64_laws 16 (lit< tt)) (callee_saved_words Aarch64) s3 0 t4 refl al3 sixteen refl short within refl h3 in
     let given : Came Aarch64 16 x s4 s5 6 t5 = exchange_loaded Aarch64 31 18 16 18 x (aarch64_laws 16 (lit< tt)) (result_loads Aarch64) s4 t5 refl back.aligned back.base far under back.stands in
     let six = sp_row s5 31 (176 + gap) (s5.sp + (176 + gap)) t6 (lit< tt) (omega (arith, room)) given.aligned refl (omega (arith, top)) given.stands in
     let h6 : HasCode s6 s6.pc t6 = onward s5 s6 (aarch64_row 0 (sum 31 31 (pos (176 + gap)))) t6 4 refl refl refl given.stands in
@@ -256,13 +259,14 @@ has_left s x gap =
       sp = omega arith;
       pc = refl;
       memory = refl;
+      limit = refl;
       code = refl;
     }
 
 pub leaves : (from gap : ℕ) → from < 31 → from ≢ 31 → gap ≤ 1024 → Leaves Aarch64 from gap (host_bytes Aarch64 from gap Exit)
-leaves from gap in_range not_sp room s is under back top =
+leaves from gap in_range not_sp room s is sixteen over under back top =
     let x : ℕ = s.general from in
-    (after_exit x gap s, in_turn Aarch64 31 s (after_exit x gap s) (exit_runs s from gap in_range not_sp room is.aligned is.high is.above under top is.code), has_left s x gap)
+    (after_exit x gap s, in_turn Aarch64 31 s (after_exit x gap s) (exit_runs s from gap in_range not_sp room is.aligned sixteen is.high is.above under top is.code), has_left s x gap)
 
 -- ---- Entry
 
@@ -311,12 +315,18 @@ reads_within p sp x e above far = (omega (arith, e, above), omega (arith, far), 
 nothing_more : (v : ℕ) → v + 0 ≡ v
 nothing_more v = omega arith
 
+lower_sixteen : (sp p : ℕ) → sp ≡ p + 176 → sp % 16 ≡ 0 → p % 16 ≡ 0
+lower_sixteen sp p e h = omega (arith, e, h)
+
+to_in_half : (sp x v : ℕ) → sp ≤ x → x + 552 ≤ half → v ≤ sp - 176 → v ≤ half
+to_in_half sp x v above far to = omega (arith, above, far, to)
+
 in_the_set : (from : ℕ) → from < 31 → from < 32
 in_the_set from h = omega (arith, h)
 
-entry_runs : (s : Processor) (from : ℕ) → from < 31 → from ≢ 31 → s.pc % 4 ≡ 0 → s.general from + 552 ≤ half → s.sp ≤ s.general from → 176 ≤ s.sp → word_at (s.general from + 528) s ≤ half → HasCode s s.pc (host_bytes Aarch64 from 0 Entry) → TakesBy Aarch64 45 s (after_entry (s.general from) s)
+entry_runs : (s : Processor) (from : ℕ) → from < 31 → from ≢ 31 → s.pc % 4 ≡ 0 → s.sp % 16 ≡ 0 → s.general from + 552 ≤ half → s.sp ≤ s.general from → 176 ≤ s.sp → word_at (s.general from + 528) s ≤ half → HasCode s s.pc (host_bytes Aarch64 from 0 Entry) → TakesBy Aarch64 45 s (after_entry (s.general from) s)
 unfolding host_bytes word_list fits all_fit
-entry_runs s from in_range not_sp al far above room low h =
+entry_runs s from in_range not_sp al sixteen far above room low h =
     let x : ℕ = s.general from in
     let t7 : List ℕ = aarch64_row 0 (sum 31 16 (pos 0)) ++ [] in
     let t6 : List ℕ = aarch64_row 0 (load (G 16) 16 528) ++ t7 in
@@ -342,18 +352,18 @@ entry_runs s from in_range not_sp al far above room low h =
     let h1 : HasCode s1 s1.pc t1 = onward s s1 (aarch64_row 0 (sum 31 31 (negsuc 175))) t1 4 refl refl refl h in
     let al1 : s1.pc % 4 ≡ 0 = next_aligned s.pc s1.pc refl al in
     let short : 0 + 8 * 21 ≤ 2048 = lit≤ tt in
-    let saves : Went Aarch64 s1 s2 21 t2 = area_stored Aarch64 31 18 16 18 (aarch64_laws 16 (lit< tt)) (stub_area Aarch64) s1 0 t2 refl al1 refl short bounds.0 h1 in
+    let saves : Went Aarch64 s1 s2 21 t2 = area_stored Aarch64 31 18 16 18 (aarch64_laws 16 (lit< tt)) (stub_area Aarch64) s1 0 t2 refl al1 (lower_sixteen s.sp p fallen sixteen) refl short bounds.0 h1 in
     let three = copy_row s2 16 from x t3 (lit< tt) (in_the_set from in_range) saves.aligned (source s2 from in_range not_sp) reads.3 saves.stands in
     let h3 : HasCode s3 s3.pc t3 = onward s2 s3 (copy_bytes Aarch64 16 from) t3 4 refl refl refl saves.stands in
     let al3 : s3.pc % 4 ≡ 0 = next_aligned s2.pc s3.pc refl saves.aligned in
     let four = copy_row s3 9 31 p t4 (lit< tt) (lit< tt) al3 refl bounds.1 h3 in
     let h4 : HasCode s4 s4.pc t4 = onward s3 s4 (aarch64_row 0 (sum 9 31 (pos 0))) t4 4 refl refl refl h3 in
     let al4 : s4.pc % 4 ≡ 0 = next_aligned s3.pc s4.pc refl al3 in
-    let five = store_general_row s4 x 9 16 536 t5 (lit< tt) (lit< tt) refl (lit< tt) al4 refl reads.2 h4 in
+    let five = store_general_row s4 x 9 16 536 t5 (lit< tt) (lit< tt) refl (lit< tt) al4 (no_sp 16 s4.sp (lit< tt)) refl reads.2 h4 in
     let h5 : HasCode s5 s5.pc t5 = onward s4 s5 (aarch64_row 0 (store (G 9) 16 536)) t5 4 refl refl refl h4 in
     let al5 : s5.pc % 4 ≡ 0 = next_aligned s4.pc s5.pc refl al4 in
     let came : Came Aarch64 16 x s5 s6 18 t6 = exchange_stored Aarch64 31 18 16 18 x (aarch64_laws 16 (lit< tt)) (entry_stores Aarch64) s5 t6 refl al5 refl far h5 in
-    let seven = load_general_row s6 x 16 16 528 t7 (lit< tt) (lit< tt) refl (lit< tt) came.aligned came.base reads.1 reads.0 came.stands in
+    let seven = load_general_row s6 x 16 16 528 t7 (lit< tt) (lit< tt) refl (lit< tt) came.aligned (no_sp 16 s6.sp (lit< tt)) came.base reads.1 reads.0 came.stands in
     let h7 : HasCode s7 s7.pc t7 = onward s6 s7 (aarch64_row 0 (load (G 16) 16 528)) t7 4 refl refl refl came.stands in
     let al7 : s7.pc % 4 ≡ 0 = next_aligned s6.pc s7.pc refl came.aligned in
     let plus : v + 0 ≡ v = nothing_more v in
@@ -400,11 +410,12 @@ has_entered s from x above room =
           set_other 16 (word_at (x + 528) (entry_passed x s)) l t r refl refl p.0 ∙ told l p.1 p.0;
       sp = entry_word s x room above;
       pc = all_in_all s.pc (entry_saved s).pc (entry_passed x s).pc (saved_pc (stub_area Aarch64) 0 w) (passed_pc (entry_stores Aarch64) x t);
-      memory = λ a low region word_out. exchange_outside Aarch64 16 x (entry_stores Aarch64) t a region refl ∙ byte_other (x + 536) v a (entry_saved s).memory (⊎_elim (λ h. inl h) (λ h. inr (omega (arith, h))) word_out) ∙ around s a room low;
+      memory = λ a low region word_out. places_outside Aarch64 16 x (entry_stores Aarch64) t a region ∙ byte_other (x + 536) v a (entry_saved s).memory (⊎_elim (λ h. inl h) (λ h. inr (omega (arith, h))) word_out) ∙ around s a room low;
+      limit = refl;
       code = refl;
     }
 
 pub enters : (from : ℕ) → from < 31 → from ≢ 31 → Enters Aarch64 from (host_bytes Aarch64 from 0 Entry)
-enters from in_range not_sp s is room to =
+enters from in_range not_sp s is sixteen room to =
     let x : ℕ = s.general from in
-    (after_entry x s, in_turn Aarch64 45 s (after_entry x s) (entry_runs s from in_range not_sp is.aligned is.high is.above room to is.code), has_entered s from x is.above room)
+    (after_entry x s, in_turn Aarch64 45 s (after_entry x s) (entry_runs s from in_range not_sp is.aligned sixteen is.high is.above room (to_in_half s.sp x (word_at (x + 528) s) is.above is.high to) is.code), has_entered s from x is.above room)

@@ -1,5 +1,5 @@
 -- What each row of AMD64's tables does.
-use Rattle.std.proofs.Common.{inr, ◌≡◌, ◌≢◌, ℕ, ◌+◌, ◌-◌, ◌*◌, ◌/◌, ◌%◌, ◌<◌, ◌≤◌, Bool, true, false, if◌then◌else◌, List, ◌++◌, length, refl, sym, ap, ◌∙◌, subst, arith, ℤ, pos, negsuc}
+use Rattle.std.proofs.Common.{inr, ◌≡◌, ◌≢◌, ℕ, ◌+◌, ◌-◌, ◌*◌, ◌/◌, ◌%◌, ◌<◌, ◌≤◌, Bool, true, false, if◌then◌else◌, List, ◌++◌, length, refl, sym, ap, ◌∙◌, arith, ℤ, pos, negsuc}
 use Rattle.std.proofs.lemmas.Bool.Decides.{nat_tests}
 use Rattle.std.proofs.lemmas.Nat.{from_le_bytes-to_le_bytes_4}
 use Rattle.std.specs.Prelude.{nat_lt, ◌==◌}
@@ -11,7 +11,7 @@ use Rattle.ffi3_type_rules.specs.declared.Isa.TheVariants.{Amd64}
 use Rattle.ffi3_place_rules.specs.declared.Loc.TheVariants.{G, F}
 use Rattle.ffi3_machine.specs.Stubs.{load, store, sum, jump, calls_at, returns, amd64_row}
 use Rattle.ffi3_machine.specs.Step.{moved}
-use Rattle.ffi3_host_stubs.specs.Processor.{Processor, half, word_at, set_at, put_word, next, done, listed, move_of, Steps, HasCode}
+use Rattle.ffi3_host_stubs.specs.Processor.{Processor, half, word_at, set_at, put_word, next, listed, move_of, Steps, HasCode}
 use Rattle.ffi3_host_stubs.specs.Stubs.{copy_bytes}
 use Rattle.ffi3_host_stubs.proofs.Effects.{received, with_sp_by, stored}
 use Rattle.ffi3_host_stubs.proofs.Standing.{plain, wraps, unmoved, along, ends}
@@ -57,6 +57,7 @@ copy_row s from tail in_range listed_k low h =
       window = length (copy_bytes Amd64 11 from ++ tail);
       aligned = tt;
       stands = move_of (record { r = from / 8; reg = from % 8; b = 1; rm = 3; rest = tail; r_in_range = omega arith; reg_in_range = omega arith; b_in_range = omega arith; rm_in_range = omega arith; is_bytes = h.are; means = ap (λ (k : ℕ). Addi 11 k (pos 0)) parts; is_size = refl });
+      based = tt;
       kept = tt;
       is_after = sym (ap (λ (b : Bool). shape b (next 3 s)) is_other ∙ ap (λ (n : ℕ). shape false n) behind ∙ ap (λ (v : ℕ). record s { general = set_at 11 v s.general; pc = s.pc + 3 }) value);
     }
@@ -76,6 +77,7 @@ load_general_row s x k o tail in_range listed_k near at far above h =
       window = length (row ++ tail);
       aligned = tt;
       stands = listed (mov_at_r11 (record { prefix = rex 1 (k / 8) 0 1; op = 0x8B; mod_reg_rm = mod_rm 2 (k % 8) 3; register = k; a = byte_at 0 o; b = byte_at 1 o; c = byte_at 2 o; d = byte_at 3 o; rest = tail; is_bytes = h.are; names = record { r = k / 8; reg = k % 8; r_in_range = omega arith; reg_in_range = omega arith; is_prefix = refl; is_mod_rm = refl; is_register = omega arith }; means = refl; is_size = refl }));
+      based = λ e. tt;
       kept = inr (loads_there s.sp (moved (s.general 11) (disp o)) (x + o) to (omega (arith, above)));
       is_after = sym (ap (λ (b : Bool). shape b (word_at (moved (s.general 11) (disp o)) s) (next 7 s)) is_other ∙ ap (λ (a : ℕ). shape false (word_at a s) (next 7 s)) to ∙ ap (λ (n : ℕ). shape false (word_at (x + o) s) n) behind);
     }
@@ -94,6 +96,7 @@ load_sp_row s x o tail near at far above h =
       window = length (row ++ tail);
       aligned = tt;
       stands = listed (mov_at_r11 (record { prefix = rex 1 0 0 1; op = 0x8B; mod_reg_rm = mod_rm 2 4 3; register = 4; a = byte_at 0 o; b = byte_at 1 o; c = byte_at 2 o; d = byte_at 3 o; rest = tail; is_bytes = h.are; names = record { r = 0; reg = 4; r_in_range = omega arith; reg_in_range = omega arith; is_prefix = refl; is_mod_rm = refl; is_register = refl }; means = refl; is_size = refl }));
+      based = λ e. tt;
       kept = inr (loads_there s.sp (moved (s.general 11) (disp o)) (x + o) to (omega (arith, above)));
       is_after = sym (ap (λ (a : ℕ). shape (word_at a s) (next 7 s)) to ∙ ap (λ (n : ℕ). shape (word_at (x + o) s) n) behind);
     }
@@ -112,6 +115,7 @@ load_floating_row s x k o tail in_range near at far above h =
       window = length (row ++ tail);
       aligned = tt;
       stands = listed (movsd_at_r11 (record { op = 0x10; register = k; a = byte_at 0 o; b = byte_at 1 o; c = byte_at 2 o; d = byte_at 3 o; rest = tail; is_bytes = h.are; in_range = in_range; means = refl; is_size = refl }));
+      based = λ e. tt;
       kept = inr (loads_there s.sp (moved (s.general 11) (disp o)) (x + o) to (omega (arith, above)));
       is_after = sym (ap (λ (a : ℕ). shape (word_at a s) (next 9 s)) to ∙ ap (λ (n : ℕ). shape (word_at (x + o) s) n) behind);
     }
@@ -131,6 +135,7 @@ load_area_row s k o tail in_range listed_k near far h =
       window = length (row ++ tail);
       aligned = tt;
       stands = listed (mov_at_sp (record { prefix = rex 1 (k / 8) 0 0; op = 0x8B; mod_reg_rm = mod_rm 2 (k % 8) 4; register = k; a = byte_at 0 o; b = byte_at 1 o; c = byte_at 2 o; d = byte_at 3 o; rest = tail; is_bytes = h.are; names = record { r = k / 8; reg = k % 8; r_in_range = omega arith; reg_in_range = omega arith; is_prefix = refl; is_mod_rm = refl; is_register = omega arith; is_listed = listed_k }; means = refl; is_size = refl }));
+      based = λ e. tt;
       kept = inr (loads_there s.sp (moved s.sp (disp o)) (s.sp + o) to (omega arith));
       is_after = sym (ap (λ (b : Bool). shape b (word_at (moved s.sp (disp o)) s) (next 8 s)) is_other ∙ ap (λ (a : ℕ). shape false (word_at a s) (next 8 s)) to ∙ ap (λ (n : ℕ). shape false (word_at (s.sp + o) s) n) behind);
     }
@@ -150,6 +155,7 @@ store_general_row s x k o tail in_range listed_k near at far h =
       window = length (row ++ tail);
       aligned = tt;
       stands = listed (mov_at_r11 (record { prefix = rex 1 (k / 8) 0 1; op = 0x89; mod_reg_rm = mod_rm 2 (k % 8) 3; register = k; a = byte_at 0 o; b = byte_at 1 o; c = byte_at 2 o; d = byte_at 3 o; rest = tail; is_bytes = h.are; names = record { r = k / 8; reg = k % 8; r_in_range = omega arith; reg_in_range = omega arith; is_prefix = refl; is_mod_rm = refl; is_register = omega arith }; means = refl; is_size = refl }));
+      based = λ e. tt;
       kept = tt;
       is_after = sym (ap (λ (b : Bool). shape b (moved (s.general 11) (disp o)) (next 7 s)) is_other ∙ ap (λ (a : ℕ). shape false a (next 7 s)) to ∙ ap (λ (n : ℕ). shape false (x + o) n) behind);
     }
@@ -168,6 +174,7 @@ store_sp_row s x o tail near at far h =
       window = length (row ++ tail);
       aligned = tt;
       stands = listed (mov_at_r11 (record { prefix = rex 1 0 0 1; op = 0x89; mod_reg_rm = mod_rm 2 4 3; register = 4; a = byte_at 0 o; b = byte_at 1 o; c = byte_at 2 o; d = byte_at 3 o; rest = tail; is_bytes = h.are; names = record { r = 0; reg = 4; r_in_range = omega arith; reg_in_range = omega arith; is_prefix = refl; is_mod_rm = refl; is_register = refl }; means = refl; is_size = refl }));
+      based = λ e. tt;
       kept = tt;
       is_after = sym (ap (λ (a : ℕ). shape a (next 7 s)) to ∙ ap (λ (n : ℕ). shape (x + o) n) behind);
     }
@@ -186,6 +193,7 @@ store_floating_row s x k o tail in_range near at far h =
       window = length (row ++ tail);
       aligned = tt;
       stands = listed (movsd_at_r11 (record { op = 0x11; register = k; a = byte_at 0 o; b = byte_at 1 o; c = byte_at 2 o; d = byte_at 3 o; rest = tail; is_bytes = h.are; in_range = in_range; means = refl; is_size = refl }));
+      based = λ e. tt;
       kept = tt;
       is_after = sym (ap (λ (a : ℕ). shape a (next 9 s)) to ∙ ap (λ (n : ℕ). shape (x + o) n) behind);
     }
@@ -205,6 +213,7 @@ store_area_row s k o tail in_range listed_k near far h =
       window = length (row ++ tail);
       aligned = tt;
       stands = listed (mov_at_sp (record { prefix = rex 1 (k / 8) 0 0; op = 0x89; mod_reg_rm = mod_rm 2 (k % 8) 4; register = k; a = byte_at 0 o; b = byte_at 1 o; c = byte_at 2 o; d = byte_at 3 o; rest = tail; is_bytes = h.are; names = record { r = k / 8; reg = k % 8; r_in_range = omega arith; reg_in_range = omega arith; is_prefix = refl; is_mod_rm = refl; is_register = omega arith; is_listed = listed_k }; means = refl; is_size = refl }));
+      based = λ e. tt;
       kept = tt;
       is_after = sym (ap (λ (b : Bool). shape b (moved s.sp (disp o)) (next 8 s)) is_other ∙ ap (λ (a : ℕ). shape false a (next 8 s)) to ∙ ap (λ (n : ℕ). shape false (s.sp + o) n) behind);
     }
@@ -223,6 +232,7 @@ rise_row s n tail near far h =
       window = length (row ++ tail);
       aligned = tt;
       stands = listed (fixed (lea_sp h.are));
+      based = tt;
       kept = tt;
       is_after = sym (ap (λ (v : ℕ). shape v (next 8 s)) to ∙ ap (λ (k : ℕ). shape (s.sp + n) k) behind);
     }
@@ -240,6 +250,7 @@ fall_row s to tail is small h =
       window = length (row ++ tail);
       aligned = tt;
       stands = listed (fixed (lea_sp h.are));
+      based = tt;
       kept = tt;
       is_after = sym (ap (λ (v : ℕ). shape v (next 8 s)) sp ∙ ap (λ (k : ℕ). shape to k) behind);
     }
@@ -263,6 +274,7 @@ call_row s x o tail near at far above room h =
       window = length (row ++ tail);
       aligned = tt;
       stands = listed (fixed (call h.are));
+      based = tt;
       kept = inr (loads_there s.sp (moved (s.general 11) (disp o)) (x + o) to (omega (arith, above)));
       is_after = sym (ap (λ (p : ℕ). shape p (next 7 s) (word_at (moved (s.general 11) (disp o)) s)) sp ∙ ap (λ (n : ℕ). shape (s.sp - 8) n (word_at (moved (s.general 11) (disp o)) s)) behind ∙ ap (λ (a : ℕ). shape (s.sp - 8) (s.pc + 7) (word_at a s)) to);
     }
@@ -281,6 +293,7 @@ return_row s tail far h =
       window = length (amd64_row 0 (jump returns) ++ tail);
       aligned = tt;
       stands = listed (fixed (ret h.are));
+      based = tt;
       kept = inr (omega arith);
       is_after = sym (ap (λ (p : ℕ). record s { sp = p; pc = word_at s.sp s }) sp);
     }

@@ -1,8 +1,7 @@
 -- The slot of AMD64, wherever it stands and its data.
-use Rattle.std.proofs.Common.{⊎_elim, subst, ◌≡◌, ◌≢◌, ◌⊎◌, inl, inr, ℕ, ◌+◌, ◌-◌, ◌^◌, ◌<◌, ◌≤◌, Bool, true, false, if◌then◌else◌, List, [], ◌∷◌, ◌++◌, length, refl, sym, ap, ◌∙◌, arith}
+use Rattle.std.proofs.Common.{⊎_elim, subst, ◌≡◌, ◌⊎◌, inl, inr, ℕ, ◌+◌, ◌-◌, ◌^◌, ◌<◌, ◌≤◌, Bool, true, false, if◌then◌else◌, List, [], ◌∷◌, ◌++◌, length, refl, sym, ap, ◌∙◌, arith}
 use Rattle.std.proofs.lemmas.Bool.Decides.{nat_tests}
 use Rattle.std.specs.Prelude.{nat_le}
-use Rattle.std.specs.Int.{byte_at}
 use Rattle.ffi3_isa.specs.declared.Instr.TheVariants.{Endbr, Lea, JmpMem}
 use Rattle.ffi3_isa.specs.Amd64.{trampoline, endbr64, lea, jmp, disp32, rex, mod_rm}
 use Rattle.ffi3_type_rules.specs.declared.Isa.TheVariants.{Amd64}
@@ -11,8 +10,8 @@ use Rattle.ffi3_machine.specs.Step.{moved}
 use Rattle.ffi3_machine.specs.Stubs.{word}
 use Rattle.ffi3_stubs.specs.Calls.{same_loc}
 use Rattle.ffi3_host_stubs.specs.Processor.{Processor, half, word_at, set_at, next, listed, IsKept, Steps, HasCode}
-use Rattle.ffi3_host_stubs.specs.Slots.{less_by, slot_code, HasReached, Reaches}
-use Rattle.ffi3_host_stubs.proofs.Standing.{plain, wraps, along, ends, onward, TakesBy, one_step, and_then, in_turn}
+use Rattle.ffi3_host_stubs.specs.Slots.{less_by, slot_code, Reaches}
+use Rattle.ffi3_host_stubs.proofs.Standing.{wraps, along, ends, onward, TakesBy, one_step, and_then, in_turn}
 use Rattle.ffi3_host_stubs.proofs.Effects.{received}
 use Rattle.ffi3_host_stubs.proofs.Memory.{neither, set_other}
 use Rattle.ffi3_host_stubs.proofs.Amd64Rows.{disp, up}
@@ -36,6 +35,7 @@ mark_row s tail h =
       window = length (marked ++ tail);
       aligned = tt;
       stands = listed (trampoline (endbr64 h.are));
+      based = tt;
       kept = tt;
       is_after = sym (ap (λ (n : ℕ). record s { pc = n }) behind);
     }
@@ -51,6 +51,7 @@ data_row s o to tail is h =
       window = length (loaded o ++ tail);
       aligned = tt;
       stands = listed (trampoline (lea h.are (record { r = 1; reg = 2; r_in_range = omega arith; reg_in_range = omega arith; is_prefix = refl; is_mod_rm = refl; is_register = refl; is_listed = λ e. omega (arith, e) })));
+      based = tt;
       kept = tt;
       is_after = sym (ap (λ (n : ℕ). record s { general = set_at 10 (moved n (disp o)) s.general; pc = n }) behind ∙ ap (λ (v : ℕ). record s { general = set_at 10 v s.general; pc = s.pc + 7 }) is);
     }
@@ -66,6 +67,7 @@ jump_row s o to tail is kept h =
       window = length (jumped o ++ tail);
       aligned = tt;
       stands = listed (trampoline (jmp h.are));
+      based = tt;
       kept = subst (λ (a : ℕ). IsKept Amd64 a s) (sym is ∙ ap (λ (n : ℕ). moved n (disp o)) (sym behind)) kept;
       is_after = sym (ap (λ (n : ℕ). record s { pc = word_at (moved n (disp o)) s }) behind ∙ ap (λ (a : ℕ). record s { pc = word_at a s }) is);
     }
@@ -111,6 +113,7 @@ reaches d apart near s aligned h far outside to = (
     others = λ l out. set_other 10 (s.pc + d) l s (reached d s) refl refl (neither (same_loc l (G 10)) false out).0;
     sp = refl;
     memory = refl;
+    limit = refl;
     code = refl;
   },
 )

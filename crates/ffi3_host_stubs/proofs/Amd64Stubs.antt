@@ -1,5 +1,5 @@
 -- The four stubs of AMD64, wherever they and the exchange region stand.
-use Rattle.std.proofs.Common.{◌≡◌, ◌≢◌, ◌⊎◌, inl, inr, ⊎_elim, ℕ, ◌+◌, ◌-◌, ◌*◌, ◌<◌, ◌≤◌, false, List, [], ◌++◌, length, refl, sym, ap, ◌∙◌, arith, pos, negsuc}
+use Rattle.std.proofs.Common.{◌≡◌, ◌≢◌, inl, inr, ⊎_elim, ℕ, ◌+◌, ◌-◌, ◌*◌, ◌<◌, ◌≤◌, false, List, [], ◌++◌, length, refl, ap, ◌∙◌, arith, pos, negsuc}
 use Rattle.ffi3_memory.specs.Memory.{number_of, low_bytes}
 use Rattle.ffi3_type_rules.specs.declared.Isa.TheVariants.{Amd64}
 use Rattle.ffi3_place_rules.specs.declared.Loc.{Loc}
@@ -9,12 +9,12 @@ use Rattle.ffi3_machine.specs.Stubs.{Entry, Exit, Call, Return, amd64_row, load,
 use Rattle.ffi3_stubs.specs.Calls.{same_loc, is_in}
 use Rattle.ffi3_stubs.proofs.Amd64Segments.{is_plain, are_moved, are_saved}
 use Rattle.ffi3_stubs.proofs.Reading.{are_apart, are_disjoint, place, misses, are_spread, in_neither}
-use Rattle.ffi3_host_stubs.specs.Processor.{Processor, half, bytes_at, word_at, put_word, HasCode}
+use Rattle.ffi3_host_stubs.specs.Processor.{Processor, half, bytes_at, word_at, HasCode}
 use Rattle.ffi3_host_stubs.specs.Stubs.{copy_bytes, host_bytes}
-use Rattle.ffi3_host_stubs.specs.Calls.{held, IsOutside, IsAtStub, HasCalled, Calls, HasReturned, Returns, HasEntered, Enters, HasLeft, Leaves}
+use Rattle.ffi3_host_stubs.specs.Calls.{held, IsOutside, HasCalled, Calls, HasReturned, Returns, HasEntered, Enters, HasLeft, Leaves}
 use Rattle.ffi3_host_stubs.proofs.Standing.{onward, TakesBy, one_step, and_then, in_turn}
 use Rattle.ffi3_host_stubs.proofs.Effects.{received, with_sp_by, stored, from_exchange, to_exchange, from_area, to_area}
-use Rattle.ffi3_host_stubs.proofs.Memory.{neither, byte_other, word_put, bytes_other, bytes_alike, set_other, exchange_others, area_others, came_from_exchange, came_from_area, exchange_outside, exchange_beyond, went_to_exchange, area_outside, went_to_area, went_from, went_still, area_still, came_still}
+use Rattle.ffi3_host_stubs.proofs.Memory.{neither, byte_other, word_put, bytes_other, bytes_alike, set_other, exchange_others, area_others, came_from_exchange, came_from_area, exchange_outside, places_outside, exchange_beyond, went_to_exchange, area_outside, went_to_area, went_from, area_still, came_still}
 use Rattle.ffi3_host_stubs.proofs.Amd64Rows.{copy_row, load_sp_row, store_sp_row, pushed, call_row, popped, return_row, rise_row, fall_row}
 use Rattle.ffi3_host_stubs.proofs.Amd64Segments.{row_list, Came, exchange_loaded, exchange_stored, area_loaded, area_stored}
 
@@ -63,11 +63,12 @@ has_called s from x room =
       pc = refl;
       link = word_put (p - 8) (m.pc + 7) s.memory ∙ ap (low_bytes 8) behind;
       memory = λ a out. byte_other (p - 8) (m.pc + 7) a s.memory (⊎_elim (λ h. inl h) (λ h. inr (omega (arith, h, room))) out);
+      limit = refl;
       code = refl;
     }
 
 pub calls_by : (from : ℕ) → from < 16 → from ≢ 4 → Calls Amd64 from (host_bytes Amd64 from 0 Call)
-calls_by from in_range not_sp s is room under callee =
+calls_by from in_range not_sp s is room over under callee =
     let x : ℕ = s.general from in
     (after_call x s, in_turn Amd64 18 s (after_call x s) (call_runs s from in_range not_sp is.high is.above room under is.code), has_called s from x room)
 
@@ -106,7 +107,8 @@ has_returned s from x =
       others = λ l out. same l (neither (same_loc l (G 11)) false out).0;
       sp = ap (number_of 8) (exchange_beyond Amd64 11 x (result_loads Amd64) t 544 (omega arith) refl);
       pc = behind;
-      memory = λ a out. exchange_outside Amd64 11 x (result_loads Amd64) t a out refl;
+      memory = λ a out. places_outside Amd64 11 x (result_loads Amd64) t a out;
+      limit = refl;
       code = refl;
     }
 
@@ -177,11 +179,12 @@ has_left s x gap =
       sp = refl;
       pc = refl;
       memory = refl;
+      limit = refl;
       code = refl;
     }
 
 pub leaves : (from gap : ℕ) → from < 16 → from ≢ 4 → gap ≤ 1024 → Leaves Amd64 from gap (host_bytes Amd64 from gap Exit)
-leaves from gap in_range not_sp room s is under back top =
+leaves from gap in_range not_sp room s is sixteen over under back top =
     let x : ℕ = s.general from in
     (after_exit x gap s, in_turn Amd64 14 s (after_exit x gap s) (exit_runs s from gap in_range not_sp room is.high is.above under top is.code), has_left s x gap)
 
@@ -251,11 +254,12 @@ has_entered s from x above room =
       others = λ l out. same l (neither (same_loc l (G 11)) false out).0;
       sp = ap (number_of 8) (exchange_beyond Amd64 11 x (entry_stores Amd64) t 528 (omega arith) refl ∙ bytes_other (x + 536) v (entry_saved s).memory (x + 528) 8 (inl (omega arith)) ∙ word);
       pc = behind;
-      memory = λ a low region word_out. exchange_outside Amd64 11 x (entry_stores Amd64) t a region refl ∙ byte_other (x + 536) v a (entry_saved s).memory (⊎_elim (λ h. inl h) (λ h. inr (omega (arith, h))) word_out) ∙ around a low;
+      memory = λ a low region word_out. places_outside Amd64 11 x (entry_stores Amd64) t a region ∙ byte_other (x + 536) v a (entry_saved s).memory (⊎_elim (λ h. inl h) (λ h. inr (omega (arith, h))) word_out) ∙ around a low;
+      limit = refl;
       code = refl;
     }
 
 pub enters : (from : ℕ) → from < 16 → from ≢ 4 → Enters Amd64 from (host_bytes Amd64 from 0 Entry)
-enters from in_range not_sp s is room to =
+enters from in_range not_sp s is sixteen room to =
     let x : ℕ = s.general from in
     (after_entry x s, in_turn Amd64 26 s (after_entry x s) (entry_runs s from in_range not_sp is.high is.above room is.code), has_entered s from x is.above room)

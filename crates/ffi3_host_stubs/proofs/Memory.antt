@@ -1,7 +1,7 @@
 -- Bytes of memory that are stored, and those around them; registers that rows set, and those that they leave.
-use Rattle.std.proofs.Common.{◌≡◌, ◌≢◌, ℕ, zero, suc, ◌+◌, ◌-◌, ◌*◌, ◌<◌, ◌≤◌, ◌⊎◌, inl, inr, ⊎_elim, Bool, true, false, if◌then◌else◌, List, [], ◌∷◌, ◌++◌, length, refl, sym, ap, ◌∙◌, arith}
+use Rattle.std.proofs.Common.{◌≡◌, ◌≢◌, ℕ, zero, suc, ◌+◌, ◌-◌, ◌*◌, ◌<◌, ◌≤◌, ◌⊎◌, inl, inr, ⊎_elim, Bool, true, false, if◌then◌else◌, List, [], ◌∷◌, length, refl, sym, ap, ◌∙◌, arith}
 use Rattle.std.proofs.lemmas.Bool.Decides.{nat_tests}
-use Rattle.std.specs.Prelude.{◌&&◌, ◌||◌, ◌==◌, not, nat_lt, nat_le}
+use Rattle.std.specs.Prelude.{◌&&◌, ◌||◌, ◌==◌, not, nat_lt}
 use Rattle.std.specs.Int.{byte_at}
 use Rattle.ffi3_memory.specs.Memory.{low_bytes}
 use Rattle.ffi3_type_rules.specs.declared.Isa.{Isa}
@@ -12,7 +12,7 @@ use Rattle.ffi3_machine.specs.Stubs.{load, size_of, exchanged_at}
 use Rattle.ffi3_stubs.specs.Calls.{same_loc, is_in}
 use Rattle.ffi3_stubs.proofs.Reading.{are_apart, are_disjoint, place, misses, are_spread}
 use Rattle.ffi3_host_stubs.specs.Processor.{Processor, bytes_at, word_at, is_within, put_word, set_at}
-use Rattle.ffi3_host_stubs.specs.Calls.{held, CameFromExchange, WentToExchange, CameFromArea, WentToArea, IsOutside}
+use Rattle.ffi3_host_stubs.specs.Calls.{held, CameFromExchange, WentToExchange, CameFromArea, WentToArea, IsOutside, IsInNoPlace}
 use Rattle.ffi3_host_stubs.proofs.Effects.{received, stored, from_exchange, to_exchange, from_area, to_area}
 
 -- ---- tests
@@ -173,6 +173,13 @@ exchange_outside isa base x (F k ∷ ls) s a out ok =
     let far : IsOutside (x + (256 + 8 * k)) (x + (256 + 8 * k) + 8) a = ⊎_elim (λ h. inl (omega (arith, h))) (λ h. inr (omega (arith, h, small))) out in
     exchange_outside isa base x ls m a out more.1 ∙ byte_other (x + (256 + 8 * k)) (s.floating k) a s.memory far
 exchange_outside isa base x (S k ∷ ls) s a out ok = absurd cc
+
+-- bytes in none of their places stay
+pub places_outside : (isa : Isa) (base x : ℕ) (ls : List Loc) (s : Processor) (a : ℕ) → IsInNoPlace x ls a → (to_exchange isa base x ls s).memory a ≡ s.memory a
+places_outside isa base x [] s a out = refl
+places_outside isa base x (l ∷ ls) s a out =
+    let m : Processor = stored (size_of isa (load l base 0)) (x + exchanged_at l) (held l s) s in
+    places_outside isa base x ls m a out.1 ∙ byte_other (x + exchanged_at l) (held l s) a s.memory out.0
 
 -- a run of bytes outside them stays
 pub bytes_alike : (f g : ℕ → ℕ) (addr n : ℕ) → ((a : ℕ) → addr ≤ a → a < addr + n → f a ≡ g a) → bytes_at f addr n ≡ bytes_at g addr n

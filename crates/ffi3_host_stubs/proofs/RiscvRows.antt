@@ -1,5 +1,5 @@
 -- What each row of RISC-V's tables does.
-use Rattle.std.proofs.Common.{inr, subst, ◌≡◌, ◌≢◌, ℕ, ◌+◌, ◌-◌, ◌*◌, ◌/◌, ◌%◌, ◌^◌, ◌<◌, ◌≤◌, Bool, true, false, if◌then◌else◌, List, ◌++◌, length, refl, sym, ap, ◌∙◌, arith, lit<, ℤ, pos, negsuc}
+use Rattle.std.proofs.Common.{inr, subst, ◌≡◌, ◌≢◌, ℕ, ◌+◌, ◌*◌, ◌/◌, ◌%◌, ◌^◌, ◌<◌, ◌≤◌, Bool, true, false, if◌then◌else◌, List, ◌++◌, length, refl, sym, ap, ◌∙◌, arith, lit<, ℤ, pos, negsuc}
 use Rattle.std.proofs.lemmas.Bool.Decides.{nat_tests}
 use Rattle.std.specs.Prelude.{◌==◌, ◌&&◌, not, nat_lt}
 use Rattle.ffi3_isa.specs.declared.Instr.{Instr}
@@ -13,10 +13,10 @@ use Rattle.ffi3_machine.specs.Stubs.{load, store, sum, jump, calls, returns, exc
 use Rattle.ffi3_machine.specs.Step.{moved, even}
 use Rattle.ffi3_stubs.proofs.Places.{word_first, unequal}
 use Rattle.ffi3_stubs.proofs.WordSegments.{fits}
-use Rattle.ffi3_host_stubs.specs.Processor.{Processor, half, bytes_at, word_at, set_at, put_word, base, next, IsKept, Steps, HasCode}
+use Rattle.ffi3_host_stubs.specs.Processor.{Processor, half, bytes_at, word_at, set_at, put_word, base, next, IsStackAligned, IsKept, Steps, HasCode}
 use Rattle.ffi3_host_stubs.specs.Calls.{held}
 use Rattle.ffi3_host_stubs.proofs.Effects.{received, with_sp_by, stored}
-use Rattle.ffi3_host_stubs.proofs.Standing.{plain, wraps, unmoved, along, ends}
+use Rattle.ffi3_host_stubs.proofs.Standing.{plain, wraps, along, ends}
 use Rattle.ffi3_host_stubs.proofs.Memory.{both, less, unlike}
 use Rattle.ffi3_host_stubs.proofs.WordSegments.{Laws}
 
@@ -59,6 +59,7 @@ load_general_row s x k b o tail in_range nz ns b_range short al at far above h =
       window = length (row ++ tail);
       aligned = al;
       stands = stands_word s (o * 2 ^ 20 + b * 2 ^ 15 + 0b011 * 2 ^ 12 + k * 2 ^ 7 + 0b0000011) tail (Ld k b (sign_extend 12 o)) (omega (arith, in_range, b_range, short)) (ld (record { imm_in_range = omega (arith, short); rs1_in_range = b_range; rd_in_range = in_range; is_word = refl })) h;
+      based = λ e. tt;
       kept = subst (λ (a : ℕ). IsKept Riscv a s) (sym to) above;
       is_after = sym (ap (λ (z : Bool). set_form k s z (k == 2) (word_at addr s) (next 4 s)) (unequal k 0 nz) ∙ ap (λ (p : Bool). set_form k s false p (word_at addr s) (next 4 s)) (unequal k 2 ns) ∙ ap (λ (a : ℕ). set_form k s false false (word_at a s) (next 4 s)) to ∙ ap (λ (n : ℕ). set_form k s false false (word_at (x + o) s) n) behind);
     }
@@ -77,6 +78,7 @@ load_sp_row s x b o tail b_range short al at far above h =
       window = length (row ++ tail);
       aligned = al;
       stands = stands_word s (o * 2 ^ 20 + b * 2 ^ 15 + 0b011 * 2 ^ 12 + 2 * 2 ^ 7 + 0b0000011) tail (Ld 2 b (sign_extend 12 o)) (omega (arith, b_range, short)) (ld (record { imm_in_range = omega (arith, short); rs1_in_range = b_range; rd_in_range = omega arith; is_word = refl })) h;
+      based = λ e. tt;
       kept = inr (loads_there s.sp addr (x + o) to above);
       is_after = sym (ap (λ (a : ℕ). shape (word_at a s) (next 4 s)) to ∙ ap (λ (n : ℕ). shape (word_at (x + o) s) n) behind);
     }
@@ -95,6 +97,7 @@ load_floating_row s x k b o tail in_range b_range short al at far above h =
       window = length (row ++ tail);
       aligned = al;
       stands = stands_word s (o * 2 ^ 20 + b * 2 ^ 15 + 0b011 * 2 ^ 12 + k * 2 ^ 7 + 0b0000111) tail (Fld k b (sign_extend 12 o)) (omega (arith, in_range, b_range, short)) (fld (record { imm_in_range = omega (arith, short); rs1_in_range = b_range; rd_in_range = in_range; is_word = refl })) h;
+      based = λ e. tt;
       kept = inr (loads_there s.sp addr (x + o) to above);
       is_after = sym (ap (λ (a : ℕ). shape (word_at a s) (next 4 s)) to ∙ ap (λ (n : ℕ). shape (word_at (x + o) s) n) behind);
     }
@@ -119,6 +122,7 @@ store_general_row s x k b o tail in_range nz ns b_range short al at far h =
       window = length (row ++ tail);
       aligned = al;
       stands = stands_word s (o / 32 * 2 ^ 25 + k * 2 ^ 20 + b * 2 ^ 15 + 0b011 * 2 ^ 12 + o % 32 * 2 ^ 7 + 0b0100011) tail (Sd k b (sign_extend 12 (o / 32 * 32 + o % 32))) (omega (arith, in_range, b_range, short)) (sd {high = o / 32} {low = o % 32} (record { high_in_range = omega (arith, short); low_in_range = omega arith; rs2_in_range = in_range; rs1_in_range = b_range; is_word = refl })) h;
+      based = λ e. tt;
       kept = tt;
       is_after = sym (ap (λ (z : Bool). shape z (k == 2) addr (next 4 s)) (unequal k 0 nz) ∙ ap (λ (p : Bool). shape false p addr (next 4 s)) (unequal k 2 ns) ∙ ap (λ (a : ℕ). shape false false a (next 4 s)) to ∙ ap (λ (n : ℕ). shape false false (x + o) n) behind);
     }
@@ -137,6 +141,7 @@ store_sp_row s x b o tail b_range short al at far h =
       window = length (row ++ tail);
       aligned = al;
       stands = stands_word s (o / 32 * 2 ^ 25 + 2 * 2 ^ 20 + b * 2 ^ 15 + 0b011 * 2 ^ 12 + o % 32 * 2 ^ 7 + 0b0100011) tail (Sd 2 b (sign_extend 12 (o / 32 * 32 + o % 32))) (omega (arith, b_range, short)) (sd {high = o / 32} {low = o % 32} (record { high_in_range = omega (arith, short); low_in_range = omega arith; rs2_in_range = omega arith; rs1_in_range = b_range; is_word = refl })) h;
+      based = λ e. tt;
       kept = tt;
       is_after = sym (ap (λ (a : ℕ). shape a (next 4 s)) to ∙ ap (λ (n : ℕ). shape (x + o) n) behind);
     }
@@ -155,6 +160,7 @@ store_floating_row s x k b o tail in_range b_range short al at far h =
       window = length (row ++ tail);
       aligned = al;
       stands = stands_word s (o / 32 * 2 ^ 25 + k * 2 ^ 20 + b * 2 ^ 15 + 0b011 * 2 ^ 12 + o % 32 * 2 ^ 7 + 0b0100111) tail (Fsd k b (sign_extend 12 (o / 32 * 32 + o % 32))) (omega (arith, in_range, b_range, short)) (fsd {high = o / 32} {low = o % 32} (record { high_in_range = omega (arith, short); low_in_range = omega arith; rs2_in_range = in_range; rs1_in_range = b_range; is_word = refl })) h;
+      based = λ e. tt;
       kept = tt;
       is_after = sym (ap (λ (a : ℕ). shape a (next 4 s)) to ∙ ap (λ (n : ℕ). shape (x + o) n) behind);
     }
@@ -173,6 +179,7 @@ copy_row s to from v tail in_range nz ns from_range al is low h =
       window = length (row ++ tail);
       aligned = al;
       stands = stands_word s (0 * 2 ^ 20 + from * 2 ^ 15 + 0b000 * 2 ^ 12 + to * 2 ^ 7 + 0b0010011) tail (Addi to from (sign_extend 12 0)) (omega (arith, in_range, from_range)) (addi {imm = 0} (record { imm_in_range = omega arith; rs1_in_range = from_range; rd_in_range = in_range; is_word = refl })) h;
+      based = tt;
       kept = tt;
       is_after = sym (ap (λ (z : Bool). set_form to s z (to == 2) (moved (base Riscv from s) (sign_extend 12 0)) (next 4 s)) (unequal to 0 nz) ∙ ap (λ (p : Bool). set_form to s false p (moved (base Riscv from s) (sign_extend 12 0)) (next 4 s)) (unequal to 2 ns) ∙ ap (λ (w : ℕ). set_form to s false false w (next 4 s)) value ∙ ap (λ (n : ℕ). set_form to s false false v n) behind);
     }
@@ -190,6 +197,7 @@ rise_row s n tail short al far h =
       window = length (row ++ tail);
       aligned = al;
       stands = stands_word s (n * 2 ^ 20 + 2 * 2 ^ 15 + 0b000 * 2 ^ 12 + 2 * 2 ^ 7 + 0b0010011) tail (Addi 2 2 (sign_extend 12 n)) (omega (arith, short)) (addi (record { imm_in_range = omega (arith, short); rs1_in_range = omega arith; rd_in_range = omega arith; is_word = refl })) h;
+      based = tt;
       kept = tt;
       is_after = sym (ap (λ (w : ℕ). shape w (next 4 s)) value ∙ ap (λ (k : ℕ). shape (s.sp + n) k) behind);
     }
@@ -207,6 +215,7 @@ fall_row s to tail al is small h =
       window = length (row ++ tail);
       aligned = al;
       stands = stands_word s (3888 * 2 ^ 20 + 2 * 2 ^ 15 + 0b000 * 2 ^ 12 + 2 * 2 ^ 7 + 0b0010011) tail (Addi 2 2 (sign_extend 12 3888)) (lit< tt) (addi {imm = 3888} (record { imm_in_range = lit< tt; rs1_in_range = lit< tt; rd_in_range = lit< tt; is_word = refl })) h;
+      based = tt;
       kept = tt;
       is_after = sym (ap (λ (w : ℕ). shape w (next 4 s)) sp ∙ ap (λ (k : ℕ). shape to k) behind);
     }
@@ -229,6 +238,7 @@ call_row s v tail is low al h =
       window = length (row ++ tail);
       aligned = al;
       stands = stands_word s 0x000380E7 tail (Jalr 1 7 (sign_extend 12 0)) (lit< tt) (jalr {imm = 0} (record { imm_in_range = lit< tt; rs1_in_range = lit< tt; rd_in_range = lit< tt; is_word = refl })) h;
+      based = tt;
       kept = tt;
       is_after = sym (ap (λ (n : ℕ). shape n (moved (s.general 7) (sign_extend 12 0))) behind ∙ ap (λ (a : ℕ). shape (s.pc + 4) a) to);
     }
@@ -244,6 +254,7 @@ return_row s v tail is low al h =
       window = length (riscv_row 0 (jump returns) ++ tail);
       aligned = al;
       stands = stands_word s 0x00008067 tail (Jalr 0 1 (sign_extend 12 0)) (lit< tt) (jalr {imm = 0} (record { imm_in_range = lit< tt; rs1_in_range = lit< tt; rd_in_range = lit< tt; is_word = refl })) h;
+      based = tt;
       kept = tt;
       is_after = sym (ap (λ (a : ℕ). record s { pc = even a }) to);
     }
@@ -301,21 +312,21 @@ to_x b low nz ns s x (F k) tail ok al at far h =
     store_floating_row s x k b (256 + 8 * k) tail small low (omega (arith, small)) al (base_is s b nz ns ∙ at) (omega (arith, far, small)) h
 to_x b low nz ns s x (S k) tail ok al at far h = absurd (no_stack b k ok)
 
-from_stack : (b : ℕ) (s : Processor) (l : Loc) (at : ℕ) (tail : List ℕ) → fits 32 0 b 2 l ≡ true → s.pc % 4 ≡ 0 → at % 8 ≡ 0 → at < 2048 → s.sp + at ≤ half → HasCode s s.pc (row_bytes Riscv 0 (load l 2 at) ++ tail) → Steps Riscv s (received 4 l (word_at (s.sp + at) s) s)
-from_stack b s (G k) at tail ok al eight short far h =
+from_stack : (b : ℕ) (s : Processor) (l : Loc) (at : ℕ) (tail : List ℕ) → fits 32 0 b 2 l ≡ true → s.pc % 4 ≡ 0 → IsStackAligned Riscv s.sp → at % 8 ≡ 0 → at < 2048 → s.sp + at ≤ half → HasCode s s.pc (row_bytes Riscv 0 (load l 2 at) ++ tail) → Steps Riscv s (received 4 l (word_at (s.sp + at) s) s)
+from_stack b s (G k) at tail ok al sixteen eight short far h =
     let p = plain_by b k ok in
     load_general_row s s.sp k 2 at tail p.in_range p.not_zero p.not_sp (omega arith) short al refl far (inr (omega arith)) h
-from_stack b s (F k) at tail ok al eight short far h =
+from_stack b s (F k) at tail ok al sixteen eight short far h =
     load_floating_row s s.sp k 2 at tail (fits_floating b k ok) (omega arith) short al refl far (omega arith) h
-from_stack b s (S k) at tail ok al eight short far h = absurd (no_stack b k ok)
+from_stack b s (S k) at tail ok al sixteen eight short far h = absurd (no_stack b k ok)
 
-to_stack : (b : ℕ) (s : Processor) (l : Loc) (at : ℕ) (tail : List ℕ) → fits 32 0 b 2 l ≡ true → s.pc % 4 ≡ 0 → at % 8 ≡ 0 → at < 2048 → s.sp + at ≤ half → HasCode s s.pc (row_bytes Riscv 0 (store l 2 at) ++ tail) → Steps Riscv s (stored 4 (s.sp + at) (held l s) s)
-to_stack b s (G k) at tail ok al eight short far h =
+to_stack : (b : ℕ) (s : Processor) (l : Loc) (at : ℕ) (tail : List ℕ) → fits 32 0 b 2 l ≡ true → s.pc % 4 ≡ 0 → IsStackAligned Riscv s.sp → at % 8 ≡ 0 → at < 2048 → s.sp + at ≤ half → HasCode s s.pc (row_bytes Riscv 0 (store l 2 at) ++ tail) → Steps Riscv s (stored 4 (s.sp + at) (held l s) s)
+to_stack b s (G k) at tail ok al sixteen eight short far h =
     let p = plain_by b k ok in
     store_general_row s s.sp k 2 at tail p.in_range p.not_zero p.not_sp (omega arith) short al refl far h
-to_stack b s (F k) at tail ok al eight short far h =
+to_stack b s (F k) at tail ok al sixteen eight short far h =
     store_floating_row s s.sp k 2 at tail (fits_floating b k ok) (omega arith) short al refl far h
-to_stack b s (S k) at tail ok al eight short far h = absurd (no_stack b k ok)
+to_stack b s (S k) at tail ok al sixteen eight short far h = absurd (no_stack b k ok)
 
 pub riscv_laws : (b : ℕ) → b < 32 → b ≢ 0 → b ≢ 2 → Laws Riscv 32 0 b 2
 riscv_laws b low nz ns = record {

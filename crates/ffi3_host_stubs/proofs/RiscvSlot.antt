@@ -1,5 +1,5 @@
 -- The slot of RISC-V, wherever it stands and its data.
-use Rattle.std.proofs.Common.{◌≡◌, ◌≢◌, ◌⊎◌, inl, inr, ⊎_elim, ℕ, ◌+◌, ◌*◌, ◌/◌, ◌%◌, ◌^◌, ◌<◌, ◌≤◌, Bool, true, false, if◌then◌else◌, List, [], ◌∷◌, ◌++◌, length, refl, sym, ap, ◌∙◌, arith, lit<, ℤ, pos}
+use Rattle.std.proofs.Common.{◌≡◌, ◌⊎◌, inl, inr, ⊎_elim, ℕ, ◌+◌, ◌*◌, ◌/◌, ◌%◌, ◌^◌, ◌<◌, ◌≤◌, Bool, true, false, if◌then◌else◌, List, [], ◌∷◌, ◌++◌, length, refl, sym, ap, ◌∙◌, arith, lit<, ℤ}
 use Rattle.std.proofs.lemmas.Bool.Decides.{nat_tests}
 use Rattle.std.specs.Prelude.{nat_lt}
 use Rattle.ffi3_isa.specs.declared.Instr.TheVariants.{Auipc, Jalr}
@@ -10,8 +10,8 @@ use Rattle.ffi3_place_rules.specs.declared.Loc.TheVariants.{G}
 use Rattle.ffi3_machine.specs.Step.{moved, even}
 use Rattle.ffi3_machine.specs.Stubs.{word, load, riscv_row, riscv_i}
 use Rattle.ffi3_stubs.specs.Calls.{same_loc, is_in}
-use Rattle.ffi3_host_stubs.specs.Processor.{Processor, half, word_at, set_at, next, IsKept, Steps, HasCode}
-use Rattle.ffi3_host_stubs.specs.Slots.{slot_code, HasReached, Reaches}
+use Rattle.ffi3_host_stubs.specs.Processor.{Processor, half, word_at, set_at, next, Steps, HasCode}
+use Rattle.ffi3_host_stubs.specs.Slots.{slot_code, Reaches}
 use Rattle.ffi3_host_stubs.proofs.Standing.{plain, along, ends, onward, TakesBy, one_step, and_then, in_turn}
 use Rattle.ffi3_host_stubs.proofs.Effects.{received}
 use Rattle.ffi3_host_stubs.proofs.Memory.{neither, set_other}
@@ -44,6 +44,7 @@ data_row s o to tail al short is low h =
       window = length (word (based o) ++ tail);
       aligned = al;
       stands = stands_word s (based o) tail (Auipc 6 (sign_extend 32 (o * 2 ^ 12))) (omega (arith, short)) (auipc {imm = o} (record { imm_in_range = omega (arith, short); rd_in_range = lit< tt; is_word = refl })) h;
+      based = tt;
       kept = tt;
       is_after = sym (ap (λ (a : ℕ). shape a (next 4 s)) there ∙ ap (λ (n : ℕ). shape to n) behind);
     }
@@ -59,6 +60,7 @@ jump_row s v tail is low al h =
       window = length (riscv_i 0 7 0b000 0 0b1100111 ++ tail);
       aligned = al;
       stands = stands_word s 0x00038067 tail (Jalr 0 7 (sign_extend 12 0)) (lit< tt) (jalr {imm = 0} (record { imm_in_range = lit< tt; rs1_in_range = lit< tt; rd_in_range = lit< tt; is_word = refl })) h;
+      based = tt;
       kept = tt;
       is_after = sym (ap (λ (a : ℕ). record s { pc = even a }) to);
     }
@@ -101,6 +103,7 @@ reaches d page near s aligned h far outside to =
             set_other 7 v l m (reached d s) refl refl q.0 ∙ set_other 6 (s.pc + d) l s m refl refl p.0;
         sp = refl;
         memory = refl;
+        limit = refl;
         code = refl;
       },
     )

@@ -1,6 +1,6 @@
 -- The four stubs of RISC-V, wherever they and the exchange region stand.
-use Rattle.std.proofs.Common.{◌≡◌, ◌≢◌, ◌⊎◌, inl, inr, ⊎_elim, ℕ, ◌+◌, ◌-◌, ◌*◌, ◌%◌, ◌<◌, ◌≤◌, false, List, [], ◌∷◌, ◌++◌, length, refl, sym, ap, ◌∙◌, subst, arith, lit<, lit≤, pos, negsuc}
-use Rattle.ffi3_memory.specs.Memory.{number_of, low_bytes}
+use Rattle.std.proofs.Common.{◌≡◌, ◌≢◌, inl, inr, ⊎_elim, ℕ, ◌+◌, ◌-◌, ◌*◌, ◌%◌, ◌<◌, ◌≤◌, false, List, [], ◌∷◌, ◌++◌, length, refl, sym, ap, ◌∙◌, subst, arith, lit<, lit≤, pos, negsuc}
+use Rattle.ffi3_memory.specs.Memory.{number_of}
 use Rattle.ffi3_type_rules.specs.declared.Isa.TheVariants.{Riscv}
 use Rattle.ffi3_place_rules.specs.declared.Loc.{Loc}
 use Rattle.ffi3_place_rules.specs.declared.Loc.TheVariants.{G}
@@ -12,10 +12,10 @@ use Rattle.ffi3_stubs.proofs.WordSegments.{fits, all_fit}
 use Rattle.ffi3_stubs.proofs.Reading.{are_apart, are_disjoint, place, misses, are_spread, in_neither}
 use Rattle.ffi3_host_stubs.specs.Processor.{Processor, half, bytes_at, word_at, HasCode}
 use Rattle.ffi3_host_stubs.specs.Stubs.{copy_bytes, host_bytes}
-use Rattle.ffi3_host_stubs.specs.Calls.{held, IsOutside, IsAtStub, HasCalled, Calls, HasReturned, Returns, HasEntered, Enters, HasLeft, Leaves}
+use Rattle.ffi3_host_stubs.specs.Calls.{held, IsOutside, HasCalled, Calls, HasReturned, Returns, HasEntered, Enters, HasLeft, Leaves}
 use Rattle.ffi3_host_stubs.proofs.Standing.{onward, TakesBy, one_step, and_then, in_turn}
 use Rattle.ffi3_host_stubs.proofs.Effects.{received, with_sp_by, stored, from_exchange, to_exchange, from_area, to_area}
-use Rattle.ffi3_host_stubs.proofs.Memory.{neither, byte_other, word_put, bytes_other, bytes_alike, set_other, exchange_others, area_others, came_from_exchange, came_from_area, exchange_outside, exchange_beyond, went_to_exchange, area_outside, went_to_area, went_from, area_still, came_still, came_again}
+use Rattle.ffi3_host_stubs.proofs.Memory.{neither, byte_other, word_put, bytes_other, bytes_alike, set_other, exchange_others, area_others, came_from_exchange, came_from_area, exchange_outside, places_outside, exchange_beyond, went_to_exchange, area_outside, went_to_area, went_from, area_still, came_still, came_again}
 use Rattle.ffi3_host_stubs.proofs.WordSegments.{Laws, word_list, Came, Went, next_aligned, exchange_loaded, exchange_stored, area_loaded, area_stored}
 use Rattle.ffi3_host_stubs.proofs.RiscvRows.{base_is, load_general_row, load_sp_row, store_sp_row, copy_row, rise_row, fall_row, linked, call_row, return_row, riscv_laws}
 
@@ -114,11 +114,12 @@ has_called s from x =
       pc = refl;
       link = behind;
       memory = λ a out. refl;
+      limit = refl;
       code = refl;
     }
 
 pub calls_by : (from : ℕ) → from < 32 → from ≢ 2 → from ≢ 0 → Calls Riscv from (host_bytes Riscv from 0 Call)
-calls_by from in_range not_sp not_zero s is room under callee =
+calls_by from in_range not_sp not_zero s is room over under callee =
     let x : ℕ = s.general from in
     (after_call x s, in_turn Riscv 20 s (after_call x s) (call_runs s from in_range not_sp not_zero is.aligned is.high is.above under callee is.code), has_called s from x)
 
@@ -158,7 +159,8 @@ has_returned s from x =
       others = λ l out. same l (neither (same_loc l (G 6)) false out).0;
       sp = ap (number_of 8) (exchange_beyond Riscv 6 x (result_loads Riscv) t 544 (omega arith) refl);
       pc = behind;
-      memory = λ a out. exchange_outside Riscv 6 x (result_loads Riscv) t a out refl;
+      memory = λ a out. places_outside Riscv 6 x (result_loads Riscv) t a out;
+      limit = refl;
       code = refl;
     }
 
@@ -215,7 +217,7 @@ exit_runs s from gap in_range not_sp not_zero room al far above under back_to to
     let two = load_sp_row s1 x 6 536 t2 (lit< tt) (lit< tt) al1 refl (omega (arith, far)) (omega (arith, above)) h1 in
     let h2 : HasCode s2 s2.pc t2 = onward s1 s2 (riscv_row 0 (load (G 2) 6 536)) t2 4 refl refl refl h1 in
     let al2 : s2.pc % 4 ≡ 0 = next_aligned s1.pc s2.pc refl al1 in
-    let back : Came Riscv 6 x s2 s3 25 t3 = area_loaded Riscv 32 0 6 2 x laws_6 (callee_saved_words Riscv) s2 0 t3 refl al2 refl short within refl h2 in
+    let back : Came Riscv 6 x s2 s3 25 t3 = area_loaded Riscv 32 0 6 2 x laws_6 (callee_saved_words Riscv) s2 0 t3 refl al2 tt refl short within refl h2 in
     let given : Came Riscv 6 x s3 s4 4 t4 = exchange_loaded Riscv 32 0 6 2 x laws_6 (result_loads Riscv) s3 t4 refl back.aligned back.base far under back.stands in
     let five = rise_row s4 (208 + gap) t5 (omega (arith, room)) given.aligned (omega (arith, top)) given.stands in
     let h5 : HasCode s5 s5.pc t5 = onward s4 s5 (riscv_row 0 (sum 2 2 (pos (208 + gap)))) t5 4 refl refl refl given.stands in
@@ -243,11 +245,12 @@ has_left s x gap =
       sp = omega arith;
       pc = refl;
       memory = refl;
+      limit = refl;
       code = refl;
     }
 
 pub leaves : (from gap : ℕ) → from < 32 → from ≢ 2 → from ≢ 0 → gap ≤ 1024 → Leaves Riscv from gap (host_bytes Riscv from gap Exit)
-leaves from gap in_range not_sp not_zero room s is under back top =
+leaves from gap in_range not_sp not_zero room s is sixteen over under back top =
     let x : ℕ = s.general from in
     (after_exit x gap s, in_turn Riscv 33 s (after_exit x gap s) (exit_runs s from gap in_range not_sp not_zero room is.aligned is.high is.above under back top is.code), has_left s x gap)
 
@@ -311,7 +314,7 @@ entry_runs s from in_range not_sp not_zero al far above room h =
     let h1 : HasCode s1 s1.pc t1 = onward s s1 (riscv_row 0 (sum 2 2 (negsuc 207))) t1 4 refl refl refl h in
     let al1 : s1.pc % 4 ≡ 0 = next_aligned s.pc s1.pc refl al in
     let short : 0 + 8 * 26 ≤ 2048 = lit≤ tt in
-    let saves : Went Riscv s1 s2 26 t2 = area_stored Riscv 32 0 7 2 laws_7 (stub_area Riscv) s1 0 t2 refl al1 refl short bounds.0 h1 in
+    let saves : Went Riscv s1 s2 26 t2 = area_stored Riscv 32 0 7 2 laws_7 (stub_area Riscv) s1 0 t2 refl al1 tt refl short bounds.0 h1 in
     let three = copy_row s2 7 from x t3 (lit< tt) seven_not_zero seven_not_sp in_range saves.aligned (base_is s2 from not_zero not_sp) reads.3 saves.stands in
     let h3 : HasCode s3 s3.pc t3 = onward s2 s3 (copy_bytes Riscv 7 from) t3 4 refl refl refl saves.stands in
     let al3 : s3.pc % 4 ≡ 0 = next_aligned s2.pc s3.pc refl saves.aligned in
@@ -356,11 +359,12 @@ has_entered s from x above room =
       others = λ l out. same l (neither (same_loc l (G 7)) false out).0;
       sp = entry_word s x room above;
       pc = all_in_all s.pc (entry_saved s).pc (entry_passed x s).pc (saved_pc (stub_area Riscv) 0 w) (passed_pc (entry_stores Riscv) x t);
-      memory = λ a low region word_out. exchange_outside Riscv 7 x (entry_stores Riscv) t a region refl ∙ byte_other (x + 536) v a (entry_saved s).memory (⊎_elim (λ h. inl h) (λ h. inr (omega (arith, h))) word_out) ∙ around s a room low;
+      memory = λ a low region word_out. places_outside Riscv 7 x (entry_stores Riscv) t a region ∙ byte_other (x + 536) v a (entry_saved s).memory (⊎_elim (λ h. inl h) (λ h. inr (omega (arith, h))) word_out) ∙ around s a room low;
+      limit = refl;
       code = refl;
     }
 
 pub enters : (from : ℕ) → from < 32 → from ≢ 2 → from ≢ 0 → Enters Riscv from (host_bytes Riscv from 0 Entry)
-enters from in_range not_sp not_zero s is room to =
+enters from in_range not_sp not_zero s is sixteen room to =
     let x : ℕ = s.general from in
     (after_entry x s, in_turn Riscv 47 s (after_entry x s) (entry_runs s from in_range not_sp not_zero is.aligned is.high is.above room is.code), has_entered s from x is.above room)

@@ -8,7 +8,7 @@ use Rattle.ffi3_place_rules.specs.declared.Loc.TheVariants.{G, F, S}
 use Rattle.ffi3_place_rules.specs.Isa.{stack_pointer}
 use Rattle.ffi3_machine.specs.Stubs.{Row, load, store, size_of, row_bytes, exchanged_at, exchange_loads, exchange_stores, area_loads, area_stores}
 use Rattle.ffi3_stubs.proofs.WordSegments.{fits, all_fit}
-use Rattle.ffi3_host_stubs.specs.Processor.{Processor, half, word_at, set_at, Steps, HasCode}
+use Rattle.ffi3_host_stubs.specs.Processor.{Processor, half, word_at, set_at, IsStackAligned, Steps, HasCode}
 use Rattle.ffi3_host_stubs.specs.Calls.{held}
 use Rattle.ffi3_host_stubs.proofs.Effects.{received, stored, from_exchange, to_exchange, from_area, to_area}
 use Rattle.ffi3_host_stubs.proofs.Standing.{onward, TakesBy, one_step, none_taken, and_then}
@@ -26,8 +26,8 @@ pub record Laws (isa : Isa) (n a b c : ℕ) : Type 0 where
   pub store_length : (l : Loc) (base o : ℕ) → fits n a b c l ≡ true → length (row_bytes isa 0 (store l base o)) ≡ 4
   pub load_exchange : (s : Processor) (x : ℕ) (l : Loc) (tail : List ℕ) → fits n a b c l ≡ true → s.pc % 4 ≡ 0 → s.general b ≡ x → x + 552 ≤ half → s.sp ≤ x → HasCode s s.pc (row_bytes isa 0 (load l b (exchanged_at l)) ++ tail) → Steps isa s (received 4 l (word_at (x + exchanged_at l) s) s)
   pub store_exchange : (s : Processor) (x : ℕ) (l : Loc) (tail : List ℕ) → fits n a b c l ≡ true → s.pc % 4 ≡ 0 → s.general b ≡ x → x + 552 ≤ half → HasCode s s.pc (row_bytes isa 0 (store l b (exchanged_at l)) ++ tail) → Steps isa s (stored 4 (x + exchanged_at l) (held l s) s)
-  pub load_area : (s : Processor) (l : Loc) (at : ℕ) (tail : List ℕ) → fits n a b c l ≡ true → s.pc % 4 ≡ 0 → at % 8 ≡ 0 → at < 2048 → s.sp + at ≤ half → HasCode s s.pc (row_bytes isa 0 (load l (stack_pointer isa) at) ++ tail) → Steps isa s (received 4 l (word_at (s.sp + at) s) s)
-  pub store_area : (s : Processor) (l : Loc) (at : ℕ) (tail : List ℕ) → fits n a b c l ≡ true → s.pc % 4 ≡ 0 → at % 8 ≡ 0 → at < 2048 → s.sp + at ≤ half → HasCode s s.pc (row_bytes isa 0 (store l (stack_pointer isa) at) ++ tail) → Steps isa s (stored 4 (s.sp + at) (held l s) s)
+  pub load_area : (s : Processor) (l : Loc) (at : ℕ) (tail : List ℕ) → fits n a b c l ≡ true → s.pc % 4 ≡ 0 → IsStackAligned isa s.sp → at % 8 ≡ 0 → at < 2048 → s.sp + at ≤ half → HasCode s s.pc (row_bytes isa 0 (load l (stack_pointer isa) at) ++ tail) → Steps isa s (received 4 l (word_at (s.sp + at) s) s)
+  pub store_area : (s : Processor) (l : Loc) (at : ℕ) (tail : List ℕ) → fits n a b c l ≡ true → s.pc % 4 ≡ 0 → IsStackAligned isa s.sp → at % 8 ≡ 0 → at < 2048 → s.sp + at ≤ half → HasCode s s.pc (row_bytes isa 0 (store l (stack_pointer isa) at) ++ tail) → Steps isa s (stored 4 (s.sp + at) (held l s) s)
 
 -- so many steps lead from one state to the other, where the rest stands and register b has the region's address
 pub record Came (isa : Isa) (b x : ℕ) (s t : Processor) (n : ℕ) (tail : List ℕ) : Type 0 where
@@ -132,35 +132,35 @@ exchange_stored isa n a b c x laws (l ∷ ls) s tail ok al base far h =
     let done : Came isa b x s (to_exchange isa b x ls m) (suc (length ls)) tail = joined isa b x s m _ (length ls) tail step (exchange_stored isa n a b c x laws ls m tail parts.1 (next_aligned s.pc m.pc refl al) base far h3) in
     subst (λ (i : ℕ). Came isa b x s (to_exchange isa b x ls (stored i (x + exchanged_at l) (held l s) s)) (suc (length ls)) tail) (sym (laws.size l b 0)) done
 
-pub area_loaded : (isa : Isa) (n a b c x : ℕ) (laws : Laws isa n a b c) (ls : List Loc) (s : Processor) (at : ℕ) (tail : List ℕ) → all_fit n a b c ls ≡ true → s.pc % 4 ≡ 0 → at % 8 ≡ 0 → at + 8 * length ls ≤ 2048 → s.sp + at + 8 * length ls ≤ half → s.general b ≡ x → HasCode s s.pc (word_list isa (area_loads (stack_pointer isa) at ls) ++ tail) → Came isa b x s (from_area isa at ls s) (length ls) tail
+pub area_loaded : (isa : Isa) (n a b c x : ℕ) (laws : Laws isa n a b c) (ls : List Loc) (s : Processor) (at : ℕ) (tail : List ℕ) → all_fit n a b c ls ≡ true → s.pc % 4 ≡ 0 → IsStackAligned isa s.sp → at % 8 ≡ 0 → at + 8 * length ls ≤ 2048 → s.sp + at + 8 * length ls ≤ half → s.general b ≡ x → HasCode s s.pc (word_list isa (area_loads (stack_pointer isa) at ls) ++ tail) → Came isa b x s (from_area isa at ls s) (length ls) tail
 unfolding all_fit word_list
-area_loaded isa n a b c x laws [] s at tail ok al eight short high base h = record { steps = none_taken isa s; stands = h; aligned = al; base = base }
-area_loaded isa n a b c x laws (l ∷ ls) s at tail ok al eight short high base h =
+area_loaded isa n a b c x laws [] s at tail ok al sixteen eight short high base h = record { steps = none_taken isa s; stands = h; aligned = al; base = base }
+area_loaded isa n a b c x laws (l ∷ ls) s at tail ok al sixteen eight short high base h =
     let parts = both (fits n a b c l) (all_fit n a b c ls) ok in
     let v : ℕ = word_at (s.sp + at) s in
     let m : Processor = received 4 l v s in
     let row : List ℕ = row_bytes isa 0 (load l (stack_pointer isa) at) in
     let rest : List ℕ = word_list isa (area_loads (stack_pointer isa) (at + 8) ls) ++ tail in
     let h2 : HasCode s s.pc (row ++ rest) = split s isa (load l (stack_pointer isa) at) (area_loads (stack_pointer isa) (at + 8) ls) tail h in
-    let step : Steps isa s m = laws.load_area s l at rest parts.0 al eight (omega (arith, short)) (omega (arith, high)) h2 in
+    let step : Steps isa s m = laws.load_area s l at rest parts.0 al sixteen eight (omega (arith, short)) (omega (arith, high)) h2 in
     let len : length row ≡ 4 = laws.load_length l (stack_pointer isa) at parts.0 in
     let pc : m.pc ≡ s.pc + 4 = received_pc n a b c v l s parts.0 in
     let h3 : HasCode m m.pc rest = onward s m row rest 4 len pc (received_code v l s) h2 in
     let sp : m.sp ≡ s.sp = received_sp v l s in
-    let done : Came isa b x s (from_area isa (at + 8) ls m) (suc (length ls)) tail = joined isa b x s m _ (length ls) tail step (area_loaded isa n a b c x laws ls m (at + 8) tail parts.1 (next_aligned s.pc m.pc pc al) (omega (arith, eight)) (omega (arith, short)) (omega (arith, high, sp)) (received_base n a b c v x l s parts.0 base) h3) in
+    let done : Came isa b x s (from_area isa (at + 8) ls m) (suc (length ls)) tail = joined isa b x s m _ (length ls) tail step (area_loaded isa n a b c x laws ls m (at + 8) tail parts.1 (next_aligned s.pc m.pc pc al) (subst (λ (p : ℕ). IsStackAligned isa p) (sym sp) sixteen) (omega (arith, eight)) (omega (arith, short)) (omega (arith, high, sp)) (received_base n a b c v x l s parts.0 base) h3) in
     subst (λ (i : ℕ). Came isa b x s (from_area isa (at + 8) ls (received i l v s)) (suc (length ls)) tail) (sym (laws.size l (stack_pointer isa) 0)) done
 
-pub area_stored : (isa : Isa) (n a b c : ℕ) (laws : Laws isa n a b c) (ls : List Loc) (s : Processor) (at : ℕ) (tail : List ℕ) → all_fit n a b c ls ≡ true → s.pc % 4 ≡ 0 → at % 8 ≡ 0 → at + 8 * length ls ≤ 2048 → s.sp + at + 8 * length ls ≤ half → HasCode s s.pc (word_list isa (area_stores (stack_pointer isa) at ls) ++ tail) → Went isa s (to_area isa at ls s) (length ls) tail
+pub area_stored : (isa : Isa) (n a b c : ℕ) (laws : Laws isa n a b c) (ls : List Loc) (s : Processor) (at : ℕ) (tail : List ℕ) → all_fit n a b c ls ≡ true → s.pc % 4 ≡ 0 → IsStackAligned isa s.sp → at % 8 ≡ 0 → at + 8 * length ls ≤ 2048 → s.sp + at + 8 * length ls ≤ half → HasCode s s.pc (word_list isa (area_stores (stack_pointer isa) at ls) ++ tail) → Went isa s (to_area isa at ls s) (length ls) tail
 unfolding all_fit word_list
-area_stored isa n a b c laws [] s at tail ok al eight short high h = record { steps = none_taken isa s; stands = h; aligned = al }
-area_stored isa n a b c laws (l ∷ ls) s at tail ok al eight short high h =
+area_stored isa n a b c laws [] s at tail ok al sixteen eight short high h = record { steps = none_taken isa s; stands = h; aligned = al }
+area_stored isa n a b c laws (l ∷ ls) s at tail ok al sixteen eight short high h =
     let parts = both (fits n a b c l) (all_fit n a b c ls) ok in
     let m : Processor = stored 4 (s.sp + at) (held l s) s in
     let row : List ℕ = row_bytes isa 0 (store l (stack_pointer isa) at) in
     let rest : List ℕ = word_list isa (area_stores (stack_pointer isa) (at + 8) ls) ++ tail in
     let h2 : HasCode s s.pc (row ++ rest) = split s isa (store l (stack_pointer isa) at) (area_stores (stack_pointer isa) (at + 8) ls) tail h in
-    let step : Steps isa s m = laws.store_area s l at rest parts.0 al eight (omega (arith, short)) (omega (arith, high)) h2 in
+    let step : Steps isa s m = laws.store_area s l at rest parts.0 al sixteen eight (omega (arith, short)) (omega (arith, high)) h2 in
     let len : length row ≡ 4 = laws.store_length l (stack_pointer isa) at parts.0 in
     let h3 : HasCode m m.pc rest = onward s m row rest 4 len refl refl h2 in
-    let done : Went isa s (to_area isa (at + 8) ls m) (suc (length ls)) tail = joined_area isa s m _ (length ls) tail step (area_stored isa n a b c laws ls m (at + 8) tail parts.1 (next_aligned s.pc m.pc refl al) (omega (arith, eight)) (omega (arith, short)) (omega (arith, high)) h3) in
+    let done : Went isa s (to_area isa (at + 8) ls m) (suc (length ls)) tail = joined_area isa s m _ (length ls) tail step (area_stored isa n a b c laws ls m (at + 8) tail parts.1 (next_aligned s.pc m.pc refl al) sixteen (omega (arith, eight)) (omega (arith, short)) (omega (arith, high)) h3) in
     subst (λ (i : ℕ). Went isa s (to_area isa (at + 8) ls (stored i (s.sp + at) (held l s) s)) (suc (length ls)) tail) (sym (laws.size l (stack_pointer isa) 0)) done

@@ -11,7 +11,7 @@ use Rattle.ffi3_place_rules.specs.Isa.{call_loads, entry_stores, callee_saved_wo
 use Rattle.ffi3_machine.specs.Step.{IsAligned}
 use Rattle.ffi3_machine.specs.Stubs.{StubName, Entry, Exit, Call, Return, exchanged_at}
 use Rattle.ffi3_stubs.specs.Calls.{is_in, steps_of, target_of}
-use Rattle.ffi3_host_stubs.specs.Processor.{Processor, half, bytes_at, word_at, TakesSteps, HasCode}
+use Rattle.ffi3_host_stubs.specs.Processor.{Processor, half, bytes_at, word_at, IsStackAligned, TakesSteps, HasCode}
 
 -- what a register holds
 abbrev pub held_in : Loc → (ℕ → ℕ) → (ℕ → ℕ) → ℕ
@@ -57,6 +57,10 @@ OthersStay ls before after = (l : Loc) → is_in l ls ≡ false → held l after
 -- the address is not from `low` on, below `high`
 abbrev pub IsOutside : ℕ → ℕ → ℕ → Type 0
 IsOutside low high a = (a < low) ⊎ (high ≤ a)
+
+-- the address is in the place of none of the registers in the exchange region
+abbrev pub IsInNoPlace : ℕ → List Loc → ℕ → Type 0
+IsInNoPlace x ls a = AllByRecursion (λ l. IsOutside (x + exchanged_at l) (x + exchanged_at l + 8) a) ls
 
 -- ---- where the stubs stand, and the exchange region
 
@@ -104,13 +108,14 @@ pub record HasCalled (isa : Isa) (x behind : ℕ) (before after : Processor) : T
   pub link : IsLinked isa behind after
   pub memory : (a : ℕ) → IsOutside (word_at (x + 520) before - pushed_bytes isa) (word_at (x + 520) before) a
       → after.memory a ≡ before.memory a
+  pub limit : after.limit ≡ before.limit
   pub code : after.code ≡ before.code
 
--- Wherever the bytes stand they call, by the exchange region whose address register `from` holds: with the sp that stands at 520 there, not above the region
+-- Wherever the bytes stand they call, by the exchange region whose address register `from` holds: with the sp that stands at 520 there, which is not below sp, nor above the region
 abbrev pub Calls : Isa → ℕ → List ℕ → Type 0
 Calls isa from bytes =
     (s : Processor) → IsAtStub isa (s.general from) bytes s
-    → pushed_bytes isa ≤ word_at (s.general from + 520) s → word_at (s.general from + 520) s ≤ s.general from
+    → pushed_bytes isa ≤ word_at (s.general from + 520) s → s.sp ≤ word_at (s.general from + 520) s → word_at (s.general from + 520) s ≤ s.general from
     → word_at (s.general from + 512) s ≤ half
     → (t : Processor) × TakesSteps isa (host_steps isa Call) s t × HasCalled isa (s.general from) (s.pc + length bytes) s t
 
@@ -121,13 +126,14 @@ pub record HasReturned (isa : Isa) (x behind : ℕ) (before after : Processor) :
   pub others : OthersStay (exit_scratch isa) before after
   pub sp : after.sp ≡ word_at (x + 544) before
   pub pc : after.pc ≡ behind
-  pub memory : (a : ℕ) → IsOutside x (x + 512) a → after.memory a ≡ before.memory a
+  pub memory : (a : ℕ) → IsInNoPlace x (result_loads isa) a → after.memory a ≡ before.memory a
+  pub limit : after.limit ≡ before.limit
   pub code : after.code ≡ before.code
 
--- Wherever the bytes stand, results go to the exchange region whose address register `from` holds, and sp becomes what stands at 544 there
+-- Wherever the bytes stand, results go to the exchange region whose address register `from` holds, and sp becomes what stands at 544 there, which is not above the region
 abbrev pub Returns : Isa → ℕ → List ℕ → Type 0
 Returns isa from bytes =
-    (s : Processor) → IsAtStub isa (s.general from) bytes s → word_at (s.general from + 544) s ≤ half
+    (s : Processor) → IsAtStub isa (s.general from) bytes s → word_at (s.general from + 544) s ≤ s.general from
     → (t : Processor) × TakesSteps isa (host_steps isa Return) s t × HasReturned isa (s.general from) (s.pc + length bytes) s t
 
 -- ---- Entry
@@ -140,14 +146,16 @@ pub record HasEntered (isa : Isa) (x behind : ℕ) (before after : Processor) : 
   pub others : OthersStay (host_entry_scratch isa) before after
   pub sp : after.sp ≡ word_at (x + 528) before
   pub pc : after.pc ≡ behind
-  pub memory : (a : ℕ) → IsOutside (before.sp - area_bytes isa) before.sp a → IsOutside x (x + 512) a
+  pub memory : (a : ℕ) → IsOutside (before.sp - area_bytes isa) before.sp a → IsInNoPlace x (entry_stores isa) a
       → IsOutside (x + 536) (x + 544) a → after.memory a ≡ before.memory a
+  pub limit : after.limit ≡ before.limit
   pub code : after.code ≡ before.code
 
--- Wherever the bytes stand, what is preserved goes below sp, and arguments and sp to the exchange region whose address register `from` holds
+-- Wherever the bytes stand, what is preserved goes below sp, and arguments and sp to the exchange region whose address register `from` holds; sp becomes what stands at 528 there, which is not above what was saved
 abbrev pub Enters : Isa → ℕ → List ℕ → Type 0
 Enters isa from bytes =
-    (s : Processor) → IsAtStub isa (s.general from) bytes s → area_bytes isa ≤ s.sp → word_at (s.general from + 528) s ≤ half
+    (s : Processor) → IsAtStub isa (s.general from) bytes s → IsStackAligned isa s.sp → area_bytes isa ≤ s.sp
+    → word_at (s.general from + 528) s ≤ s.sp - area_bytes isa
     → (t : Processor) × TakesSteps isa (host_steps isa Entry) s t × HasEntered isa (s.general from) (s.pc + length bytes) s t
 
 -- ---- Exit
@@ -166,17 +174,25 @@ pub record HasLeft (isa : Isa) (x area gap : ℕ) (before after : Processor) : T
   pub sp : after.sp ≡ area + (area_bytes isa + gap) + pushed_bytes isa
   pub pc : after.pc ≡ left_to isa (area + (area_bytes isa + gap)) before after
   pub memory : after.memory ≡ before.memory
+  pub limit : after.limit ≡ before.limit
   pub code : after.code ≡ before.code
 
--- how far Exit's gap may be in its sum
+-- the longest gap of Exit, in bytes, of those that its sum can say on each instruction set
 abbrev pub most_gap : ℕ
 most_gap = 1024
 
--- Wherever the bytes stand, what is preserved comes from the save area, whose address stands at 536 of the exchange region, not above it, and results from that region, whose address register `from` holds
+-- on RISC-V the first word of the save area, which is the return address, is one of a program
+abbrev pub IsReturnLow : Isa → ℕ → Processor → Type 0
+IsReturnLow Amd64 area s = ⊤
+IsReturnLow Aarch64 area s = ⊤
+IsReturnLow Riscv area s = word_at area s ≤ half
+
+-- Wherever the bytes stand, what is preserved comes from the save area, whose address stands at 536 of the exchange region and is not below sp, nor above the region, and results from that region, whose address register `from` holds
 abbrev pub Leaves : Isa → ℕ → ℕ → List ℕ → Type 0
 Leaves isa from gap bytes =
     (s : Processor) → IsAtStub isa (s.general from) bytes s
-    → word_at (s.general from + 536) s ≤ s.general from → word_at (word_at (s.general from + 536) s) s ≤ half
+    → IsStackAligned isa (word_at (s.general from + 536) s) → s.sp ≤ word_at (s.general from + 536) s
+    → word_at (s.general from + 536) s ≤ s.general from → IsReturnLow isa (word_at (s.general from + 536) s) s
     → word_at (s.general from + 536) s + (area_bytes isa + gap) + pushed_bytes isa ≤ half
     → (t : Processor)
     × TakesSteps isa (host_steps isa Exit) s t

@@ -1,5 +1,5 @@
 -- A processor with memory at every address, and what one instruction does to it. (Intel 64 and IA-32 Architectures Software Developer's Manual, volume 2; Arm Architecture Reference Manual for A-profile, C6.2; RISC-V unprivileged ISA, 2.4 to 2.6, RV64I and "D")
-use Rattle.std.specs.Prelude.{◌≡◌, ℕ, zero, suc, ⊤, ◌+◌, ◌-◌, ◌*◌, ◌<◌, ◌≤◌, ◌⊎◌, Bool, ◌&&◌, ◌==◌, if◌then◌else◌, nat_le, nat_lt}
+use Rattle.std.specs.Prelude.{◌≡◌, ℕ, zero, suc, ⊤, ◌+◌, ◌-◌, ◌*◌, ◌%◌, ◌<◌, ◌≤◌, ◌⊎◌, Bool, ◌&&◌, ◌==◌, if◌then◌else◌, nat_le, nat_lt}
 use Rattle.std.specs.Prelude.{pos, negsuc, List, [], ◌∷◌, length}
 use Rattle.std.specs.Int.{byte_at}
 use Rattle.ffi3_memory.specs.Memory.{number_of}
@@ -14,7 +14,7 @@ use Rattle.ffi3_isa.specs.Aarch64.{IsAarch64}
 use Rattle.ffi3_isa.specs.Riscv.{IsRiscv}
 use Rattle.ffi3_machine.specs.Step.{moved, even, reads_zero, reads_sp, IsAligned}
 
--- Register k of each file, the stack pointer and pc; the stack's lowest address. At address a stands the byte `code a` where instructions are taken, and `memory a` where they load and store. Code is mapped so that nothing writes it: no store changes what is taken
+-- Register k of each file, of a floating one the low 64 bits, above which loads leave zeros; the stack pointer and pc; the stack's lowest address. At address a stands the byte `code a` where instructions are taken, and `memory a` where they load and store. Code is mapped so that nothing writes it: no store changes what is taken
 pub record Processor : Type 0 where
   pub general : ℕ → ℕ
   pub floating : ℕ → ℕ
@@ -159,6 +159,19 @@ LoadsKept isa (CallMem rs d) size s = IsKept isa (moved (base isa rs s) d) s
 LoadsKept isa Ret size s = IsKept isa s.sp s
 LoadsKept isa _ size s = ⊤
 
+-- where sp must be if it is the base of a load or a store: on AArch64 at a multiple of 16 (Arm ARM, "SP alignment checking")
+abbrev pub IsStackAligned : Isa → ℕ → Type 0
+IsStackAligned Amd64 sp = ⊤
+IsStackAligned Aarch64 sp = sp % 16 ≡ 0
+IsStackAligned Riscv sp = ⊤
+
+abbrev pub IsBased : Isa → Instr → Processor → Type 0
+IsBased isa (Ld rd rs d) s = rs ≡ stack_pointer isa → IsStackAligned isa s.sp
+IsBased isa (Sd rd rs d) s = rs ≡ stack_pointer isa → IsStackAligned isa s.sp
+IsBased isa (Fld rd rs d) s = rs ≡ stack_pointer isa → IsStackAligned isa s.sp
+IsBased isa (Fsd rd rs d) s = rs ≡ stack_pointer isa → IsStackAligned isa s.sp
+IsBased isa _ s = ⊤
+
 -- The instruction that stands at pc takes the processor from one state to the other, and loads nothing that a signal handler may have written
 pub record Steps (isa : Isa) (before after : Processor) : Type 0 where
   pub instr : Instr
@@ -166,6 +179,7 @@ pub record Steps (isa : Isa) (before after : Processor) : Type 0 where
   pub window : ℕ
   pub aligned : IsAligned isa before.pc
   pub stands : IsCode isa (bytes_at before.code before.pc window) instr size
+  pub based : IsBased isa instr before
   pub kept : LoadsKept isa instr size before
   pub is_after : after ≡ done isa instr size before
 

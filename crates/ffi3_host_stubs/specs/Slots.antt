@@ -1,5 +1,5 @@
 -- The code of a closure's slot whose data stand a distance behind it. (Intel 64 and IA-32 Architectures Software Developer's Manual, volume 2; Arm Architecture Reference Manual for A-profile, C6.2; RISC-V unprivileged ISA, 2)
-use Rattle.std.specs.Prelude.{◌≡◌, ℕ, ◌+◌, ◌-◌, ◌*◌, ◌/◌, ◌%◌, ◌^◌, ◌<◌, ◌≤◌, ◌⊎◌, if◌then◌else◌, nat_le, List, [], ◌∷◌, ◌++◌, length}
+use Rattle.std.specs.Prelude.{◌≡◌, ℕ, ◌+◌, ◌-◌, ◌*◌, ◌/◌, ◌%◌, ◌^◌, ◌<◌, ◌≤◌, ◌⊎◌, if◌then◌else◌, nat_le, List, [], ◌∷◌, ◌++◌}
 use Rattle.ffi3_type_rules.specs.declared.Isa.{Isa}
 use Rattle.ffi3_type_rules.specs.declared.Isa.TheVariants.{Amd64, Aarch64, Riscv}
 use Rattle.ffi3_place_rules.specs.Isa.{closure_register, trampoline_registers}
@@ -40,7 +40,7 @@ slot_code Riscv d =
     ++ riscv_i 0 7 0b000 0 0b1100111
     ++ riscv_i 0 0 0b000 0 0b0010011
 
--- how far the instructions reach: 32 bits with a sign; 21 bits, in fours; the upper 20 of 32 bits
+-- how far the instructions reach: 32 bits with a sign; 21 bits, in fours; the upper 20 of 32 bits. AMD64's numbers are rounder than they might be, and leave out what is not 0 and less than the code before its first distance
 abbrev pub CanReach : Isa → ℕ → Type 0
 CanReach Amd64 d = ((d ≡ 0) ⊎ (11 ≤ d)) × (d < 2147483000)
 CanReach Aarch64 d = (d % 4 ≡ 0) × (d + 16 < 1048576)
@@ -52,6 +52,7 @@ pub record HasReached (isa : Isa) (d : ℕ) (before after : Processor) : Type 0 
   pub others : OthersStay (trampoline_registers isa) before after
   pub sp : after.sp ≡ before.sp
   pub memory : after.memory ≡ before.memory
+  pub limit : after.limit ≡ before.limit
   pub code : after.code ≡ before.code
 
 -- Wherever the bytes stand, with their data outside the stack or not below sp: three instructions lead where the data say, with the address of the data in the closure's register

@@ -1,6 +1,6 @@
 //! The stubs as a processor runs them, wherever they stand, with the exchange region wherever a register says; and a
-//! closure's slot whose data stand a distance behind its code. Nothing here is run by the model's machine: the bytes are
-//! those that `libffi/` runs, and the contract of each says what they do.
+//! closure's slot whose data stand a distance behind its code. Nothing here is run by the model's machine: the bytes
+//! are those that `libffi/` runs, and the contract of each says what they do.
 #![tactic(auto)]
 
 ghost use Rattle.std.specs.Prelude.{◌≡◌, ◌≤◌, ℕ};
@@ -249,9 +249,41 @@ pub fn riscv_slot() -> [u8; 16]
     ]
 }
 
-/// Does nothing. Its contract says of each instruction set: what the stubs do, by the exchange region whose address is in
-/// any register but sp; what a slot does whose data stand any distance behind its code; and that without a gap Exit's
-/// rows, and without a distance a slot's code, are those of the model.
+/// The code of a slot on AMD64 whose data stand in the slot.
+pub fn amd64_own_slot() -> [u8; 24]
+    ensures bytes { result ≡ slot_code Isa.Amd64 0 }
+    ensures reaches { Reaches Isa.Amd64 0 result }
+{
+    [
+        0xF3, 0x0F, 0x1E, 0xFA, 0x4C, 0x8D, 0x15, 0xF5, 0xFF, 0xFF, 0xFF, 0xFF, 0x25, 0x07, 0x00,
+        0x00, 0x00, 0x0F, 0x1F, 0x80, 0x00, 0x00, 0x00, 0x00,
+    ]
+}
+
+/// The code of a slot on AArch64 whose data stand in the slot.
+pub fn aarch64_own_slot() -> [u8; 12]
+    ensures bytes { result ≡ slot_code Isa.Aarch64 0 }
+    ensures reaches { Reaches Isa.Aarch64 0 result }
+{
+    [
+        0x90, 0x00, 0x00, 0x58, 0xF1, 0xFF, 0xFF, 0x10, 0x00, 0x02, 0x1F, 0xD6,
+    ]
+}
+
+/// The code of a slot on RISC-V whose data stand in the slot.
+pub fn riscv_own_slot() -> [u8; 16]
+    ensures bytes { result ≡ slot_code Isa.Riscv 0 }
+    ensures reaches { Reaches Isa.Riscv 0 result }
+{
+    [
+        0x17, 0x03, 0x00, 0x00, 0x83, 0x33, 0x03, 0x01, 0x67, 0x80, 0x03, 0x00, 0x13, 0x00, 0x00,
+        0x00,
+    ]
+}
+
+/// Does nothing. Its contract says of each instruction set: what the stubs do, by the exchange region whose address is
+/// in any register but sp; what a slot does whose data stand any distance behind its code; and that without a gap
+/// Exit's rows, and without a distance a slot's code, are those of the model.
 pub fn host_stub_laws()
     ensures calls { (isa : Isa) (from : ℕ) → IsSource isa from → Calls isa from (host_bytes isa from 0 Call) }
     ensures returns { (isa : Isa) (from : ℕ) → IsSource isa from → Returns isa from (host_bytes isa from 0 Return) }
