@@ -25,10 +25,10 @@
  * DUTIES OF A CALLER. Each pointer points to memory of its type that the caller may read, and, where it is not const,
  * write: to as many elements as the length or the capacity behind it says, else to one. Where that length or capacity
  * is 0, nothing is read or written there, and the pointer may be anything, also NULL; no other may be NULL. No two of
- * them overlap, and no other thread writes what a call reads, or touches what it writes. What is written need not be
- * initialized, but a struct ffi3_interface. Where malloc may not be called, as in a signal handler or in the forked
- * child of a process with threads, these may: ffi3_sizes, ffi3_store, ffi3_load, ffi3_collect, ffi3_give,
- * ffi3_register_name and ffi3_version. No other may.
+ * them overlap, and no other thread writes what a call reads, or touches what it writes. What is only written need not
+ * be initialized: a struct ffi3_interface is read too; ffi3_store reads sp of REGISTERS, and ffi3_give REGISTERS and
+ * STACK. Where malloc may not be called, as in a signal handler or in the forked child of a process with threads, these
+ * may: ffi3_sizes, ffi3_store, ffi3_load, ffi3_collect, ffi3_give, ffi3_register_name and ffi3_version. No other may.
  *
  * What the library makes does not outlive a call, but for the interfaces that ffi3_prepare and ffi3_share leave, each
  * of which ffi3_release gives back. Any number of threads may call, each with interfaces of its own. Memory is taken
@@ -60,12 +60,12 @@ extern "C" {
 #define FFI3_TOO_SMALL 1      /* the array has no room: nothing is in it, and the count says how much is wanted */
 #define FFI3_NOT_DECLARED 2   /* text or nodes declare no function that can be called, or no type: `fault` says why */
 #define FFI3_UNKNOWN_TARGET 3 /* no calling standard has this number */
-#define FFI3_UNKNOWN_VALUE 4  /* the function has no argument of this number, or moves no such list */
+#define FFI3_UNKNOWN_VALUE 4  /* the function has no argument of this number, or there is no such list of moves */
 #define FFI3_OUT_OF_MEMORY 5  /* malloc refused */
 #define FFI3_SHORT_STACK 6    /* what the call has on the stack stands beyond the bytes of stack */
 #define FFI3_NOT_IN_STACK 7   /* an argument is passed by an address that is not in these bytes, or a result's buffer */
 #define FFI3_WRONG_SIZE 8     /* values, or a result, in more or fewer bytes than they take */
-#define FFI3_HIGH_STACK 9     /* the stack pointer and the bytes of stack reach past the last address */
+#define FFI3_HIGH_STACK 9     /* from the stack pointer on the bytes of stack reach the last address */
 #define FFI3_NOT_PREPARED 10  /* no interface is kept */
 
 /* VALUES of a function: its arguments by their numbers, from 0, and the result. */
@@ -165,7 +165,7 @@ struct ffi3_call {
  * FFI3_TOO_SMALL: CALL is filled, and PIECES is as it was: it wants CALL->pieces elements. A CAPACITY of 0 asks for
  *     that number.
  * FFI3_NOT_DECLARED: CALL->fault says why; all else in CALL is 0, and PIECES is as it was.
- * FFI3_UNKNOWN_TARGET, FFI3_OUT_OF_MEMORY: CALL is 0, and PIECES as it was. An unknown target is told first.
+ * FFI3_UNKNOWN_TARGET, FFI3_OUT_OF_MEMORY: CALL is 0, and PIECES as it was. An unknown target is told before a fault.
  */
 uint32_t ffi3_place(uint32_t target, const char *text, size_t length, struct ffi3_call *call,
                     struct ffi3_piece *pieces, size_t capacity);
@@ -340,14 +340,14 @@ struct ffi3_arguments {
  * FFI3_SHORT_STACK: FOUND->stack says how many bytes of stack are wanted, at least; VALUES is as it was.
  * FFI3_NOT_IN_STACK: FOUND->argument and FOUND->address say which address; VALUES is as it was.
  * FFI3_NOT_DECLARED: FOUND->fault says why; all else in FOUND is 0, and VALUES is as it was.
- * FFI3_UNKNOWN_TARGET, FFI3_OUT_OF_MEMORY: FOUND is 0, and VALUES as it was. An unknown target is told first.
+ * FFI3_UNKNOWN_TARGET, FFI3_OUT_OF_MEMORY: FOUND is 0, and VALUES as it was. An unknown target is told before a fault.
  */
 uint32_t ffi3_arguments(uint32_t target, const char *text, size_t length, const struct ffi3_registers *registers,
                         const unsigned char *stack, size_t stack_length, struct ffi3_arguments *found,
                         unsigned char *values, size_t capacity);
 
 /* INTERFACES. Whoever calls a function often, or is called as one, prepares its interface once. Calls by it read no
- * text and no nodes, and take no memory.
+ * text and no nodes, and ffi3_sizes, ffi3_store, ffi3_load, ffi3_collect and ffi3_give take no memory.
  *
  *     struct ffi3_interface interface = FFI3_NO_INTERFACE;
  *     struct ffi3_sizes sizes;
@@ -373,7 +373,8 @@ struct ffi3_interface {
  *
  * FFI3_OK: INTERFACE keeps it; FAULT is 0.
  * FFI3_NOT_DECLARED: FAULT says why; INTERFACE is as it was.
- * FFI3_UNKNOWN_TARGET, FFI3_OUT_OF_MEMORY: FAULT is 0, and INTERFACE as it was. An unknown target is told first.
+ * FFI3_UNKNOWN_TARGET, FFI3_OUT_OF_MEMORY: FAULT is 0, and INTERFACE as it was. An unknown target is told before a
+ *     fault.
  */
 uint32_t ffi3_prepare(uint32_t target, const struct ffi3_node *nodes, size_t count, uint32_t fixed,
                       struct ffi3_interface *interface, struct ffi3_fault *fault);
@@ -413,8 +414,9 @@ uint32_t ffi3_sizes(struct ffi3_interface *interface, struct ffi3_sizes *sizes);
  * REGISTERS->sp on. They need not stand there yet: addresses are computed from sp alone.
  *
  * A caller stores its values, loads these registers and that stack, calls, and then loads its result. A callee keeps
- * registers and stack as they are at its entry, collects its arguments, and gives its result. Where a call is refused,
- * registers, stack, values and result are as they were. An INTERFACE that keeps nothing is told first
+ * registers and stack as they are at its entry, collects its arguments, and gives its result. Values are packed: see
+ * ffi3_sizes; who has each at an address of its own copies it there, or back. Where a call is refused, registers,
+ * stack, values and result are as they were. An INTERFACE that keeps nothing is told first
  * (FFI3_NOT_PREPARED), then FFI3_WRONG_SIZE, FFI3_SHORT_STACK, FFI3_HIGH_STACK and FFI3_NOT_IN_STACK in this order.
  */
 
@@ -520,7 +522,7 @@ uint32_t ffi3_give(struct ffi3_interface *interface, const unsigned char *result
 
 struct ffi3_move {
     uint32_t kind;   /* FFI3_MOVE_BYTES and so on */
-    uint32_t part;   /* the argument's number; 0 of a result */
+    uint32_t part;   /* the argument's number; 0 of a result, and of the number of vector registers */
     uint64_t from;   /* see the kinds */
     uint64_t to;     /* the first byte that is written */
     uint64_t length; /* how many bytes are read; 8 of a number or an address */

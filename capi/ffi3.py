@@ -487,7 +487,7 @@ class Interface:
             raise LookupError(f"{_part(reason.argument)}: {reason.address:#x} is not among the bytes of the stack")
         if status != _OK:
             why = {_WRONG_SIZE: "these are not so many bytes as wanted", _SHORT_STACK: "the stack has too few bytes",
-                   _HIGH_STACK: "the stack reaches past the last address"}
+                   _HIGH_STACK: "the stack reaches the last address"}
             raise ValueError(why[status])
 
     def _machine(self, registers, sp, stack):

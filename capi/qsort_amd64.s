@@ -3,7 +3,11 @@
     .text
     .globl call_with
 call_with:                      # rdi: the function, rsi: the registers
+    .cfi_startproc
+    endbr64
     pushq %rbx
+    .cfi_adjust_cfa_offset 8
+    .cfi_rel_offset %rbx, 0
     movq %rsi, %rbx
     movq %rdi, %r11
     movq (%rbx), %rax
@@ -17,10 +21,16 @@ call_with:                      # rdi: the function, rsi: the registers
     movq %rax, (%rbx)
     movq %rdx, 16(%rbx)
     popq %rbx
+    .cfi_adjust_cfa_offset -8
+    .cfi_restore %rbx
     ret
+    .cfi_endproc
     .globl compare_by_stub
 compare_by_stub:
+    .cfi_startproc
+    endbr64
     subq $520, %rsp
+    .cfi_adjust_cfa_offset 520
     movq %rsi, 48(%rsp)
     movq %rdi, 56(%rsp)
     leaq 520(%rsp), %rsi        # sp at the entry, and the stack
@@ -29,5 +39,7 @@ compare_by_stub:
     call compare_entered@PLT
     movq (%rsp), %rax
     addq $520, %rsp
+    .cfi_adjust_cfa_offset -520
     ret
+    .cfi_endproc
     .section .note.GNU-stack, "", @progbits

@@ -18,7 +18,7 @@ pub const SHORT_STACK: u32 = 6;
 pub const NOT_IN_STACK: u32 = 7;
 /// `FFI3_WRONG_SIZE`: the values, or the result, take more or fewer bytes than there are.
 pub const WRONG_SIZE: u32 = 8;
-/// `FFI3_HIGH_STACK`: the bytes of stack reach past the last address.
+/// `FFI3_HIGH_STACK`: the bytes of stack reach the last address.
 pub const HIGH_STACK: u32 = 9;
 /// `FFI3_NOT_PREPARED`: no interface is kept.
 pub const NOT_PREPARED: u32 = 10;

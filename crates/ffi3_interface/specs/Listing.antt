@@ -48,7 +48,8 @@ pub data TellsMoves (it : Option Kept) (number : ℕ) (old : List ToldMove) : �
   told : (k : Kept) (list : MoveList) → it ≡ Some k → slice_get lists number ≡ Some list
       → TellsMoves it number old (room_status (has_room (told_moves (interface_in k) list) old))
       (length (told_moves (interface_in k) list)) (filled (told_moves (interface_in k) list) old)
-  untold : (k : Kept) → it ≡ Some k → TellsMoves it number old OUT_OF_MEMORY 0 old
+  untold : (k : Kept) (list : MoveList) → it ≡ Some k → slice_get lists number ≡ Some list
+      → TellsMoves it number old OUT_OF_MEMORY 0 old
   nothing : (list : MoveList) → it ≡ None → slice_get lists number ≡ Some list
       → TellsMoves it number old NOT_PREPARED 0 old
   unknown : slice_get lists number ≡ None → TellsMoves it number old UNKNOWN_VALUE 0 old

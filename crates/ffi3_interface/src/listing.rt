@@ -2,7 +2,7 @@
 ghost use Rattle.std.specs.Prelude.{◌≡◌, IfOk, map, slice_get};
 ghost use Rattle.ffi3_moves.specs.Moves.{moves_of};
 ghost use Rattle.ffi3_prepared.specs.Prepared.{signature_in, standard_in};
-ghost use Rattle.ffi3_interface.specs.Listing.{TellsMoves, kind_number, lists, moves_by, told_move};
+ghost use Rattle.ffi3_interface.specs.Listing.{TellsMoves, kind_number, lists, moves_by, told_move, told_moves};
 
 use ffi3_capi::codes::{NOT_PREPARED, OUT_OF_MEMORY, UNKNOWN_VALUE};
 use ffi3_capi::fill::{fill, room_status};
@@ -46,7 +46,7 @@ const LISTS: [MoveList; 5] = [
 pub struct ToldMove {
     /// How it makes the bytes that it writes.
     pub kind: u32,
-    /// The number of the argument whose value it moves; 0 for a result.
+    /// The number of the argument whose value it moves; 0 for a result, and for the number of vector registers.
     pub part: u32,
     pub from: u64,
     pub to: u64,
@@ -124,16 +124,23 @@ fn moves_on(alloc: Global, p: &Prepared, list: MoveList) -> Result<Moves, NoMemo
     }
 }
 
-/// A list, as C has moves.
-fn told_moves(alloc: Global, p: &Prepared, list: MoveList) -> Result<Listed<ToldMove>, NoMemory>
-    ensures { IfOk result (λ told. told ≡ map told_move (moves_by (standard_in p.now) (signature_in p.now) list)) }
+/// Moves, as C has them.
+fn as_told(alloc: Global, moves: &Moves) -> Result<Listed<ToldMove>, NoMemory>
+    ensures { IfOk result (λ told. told ≡ map told_move moves.now) }
 {
-    let moves = moves_on(alloc, p, list)?;
     let mut told = Listed::new(alloc);
     for i in 0..moves.len() {
         told.push(told_move(moves.get(i)))?;
     }
     Ok(told)
+}
+
+/// A list, as C has moves.
+fn told_moves(alloc: Global, p: &Prepared, list: MoveList) -> Result<Listed<ToldMove>, NoMemory>
+    ensures { IfOk result (λ told. told ≡ told_moves p.now list) }
+{
+    let moves = moves_on(alloc, p, list)?;
+    as_told(alloc, &moves)
 }
 
 /// A list of the interface that is kept, by its number, for a caller's array. The number that is answered tells whether

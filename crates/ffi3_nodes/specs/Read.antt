@@ -1,6 +1,6 @@
 -- What the reader answers, in the words of the definitions.
 use Rattle.std.specs.Prelude.{◌≡◌, ℕ, ◌^◌, ◌<◌, ◌≤◌, ⊤, List, Option, Some, None, length}
-use Rattle.ffi3_type_rules.specs.Signature.{Signature, IsFirstSignatureFault}
+use Rattle.ffi3_type_rules.specs.Signature.{Signature, SignatureHasNoFault, IsFirstSignatureFault}
 use Rattle.ffi3_type_rules.specs.declared.Role.TheVariants.{AsResult}
 use Rattle.ffi3_type_rules.specs.Fault.{IsFirstFault}
 use Rattle.ffi3_types.specs.FaultOf.{path_of, fault_of}
@@ -44,6 +44,14 @@ IsOfNone ns (Nodes (BadCount at)) = (fixed : Option ℕ) (s : Signature) → IsS
 IsOfNone ns (Nodes (TooDeep at)) = ⊤
 IsOfNone ns (Sig f) = ⊤
 IsOfNone ns NoMemory = ⊤
+
+-- Refused nodes are those of no signature that can be called: each that has them has this first fault, or none has them, or each has some fault. Of too many nodes, and of want of memory, nothing is said.
+abbrev pub IsUncallable : List Node → Option ℕ → Refused → Type 0
+IsUncallable ns fixed TooLong = ⊤
+IsUncallable ns fixed (Nodes f) = (s : Signature) → IsSignatureOf ns fixed s → SignatureHasNoFault s → ⊥
+IsUncallable ns fixed (Sig f) =
+    (s : Signature) → IsSignatureOf ns fixed s → IsFirstSignatureFault s (signature_fault_of f)
+IsUncallable ns fixed NoMemory = ⊤
 
 -- the nodes of so many types, and not of one
 pub record AreOfOthers (ns : List Node) (count : ℕ) : Type 0 where

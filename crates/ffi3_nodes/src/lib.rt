@@ -7,6 +7,7 @@ mod scan;
 mod signature;
 mod single;
 
+use ffi3_type_rules::limits::DEEPEST_NESTING;
 pub use scan::NodeFault;
 pub use signature::{Refused, read_signature};
 pub use single::{RefusedType, read_type};
@@ -40,3 +41,6 @@ pub const ARRAY: u32 = 20;
 
 /// Structs and arrays stand at most so many deep in one another.
 pub const DEEPEST: u32 = 16;
+
+// as any type's
+const _: () = prove!(DEEPEST as u64 == DEEPEST_NESTING);

@@ -11,7 +11,7 @@ use Rattle.ffi3_place_rules.specs.declared.Res.TheVariants.{Nothing, Direct as D
 use Rattle.ffi3_place_rules.specs.Isa.{to_list}
 use Rattle.ffi3_place_rules.specs.Image.{Image, word_at}
 use Rattle.ffi3_place_rules.specs.Standard.{Standard, frame_of, plan_of}
-use Rattle.ffi3_place_rules.specs.Holds.{Holds, HoldsResult, OwnResult, OwnsHidden, OwnsResult, FillsResult, RegisterHolds}
+use Rattle.ffi3_place_rules.specs.Holds.{Holds, HoldsResult, Kept, OwnResult, OwnsHidden, OwnsResult, FillsResult, RegisterHolds}
 use Rattle.ffi3_place_rules.specs.Sound.{IsNoneOf, hidden_locs, result_locs}
 use Rattle.ffi3_pieces.specs.Stored.{IsPlace}
 use Rattle.ffi3_pieces.specs.Standing.{all_uses}
@@ -114,6 +114,8 @@ pub record IsGiven (std : Standard) (s : Signature) (bytes : List ℕ) (old new 
   pub size : length new.stack ≡ length old.stack
   pub registers : (l : Loc) → IsPlace 0 l → IsNoneOf (given_locs std (plan_of std s).res) l → SameAt 0 l old new
   pub kept : ResultKeeps old new (plan_of std s).res
+  -- what a callee preserves is as it was
+  pub preserved : Kept std old (at_return std new)
   pub beside : (i : ℕ) → IsBeside std s.result_type (plan_of std s).res old i
       → get_or new.stack i 0 ≡ get_or old.stack i 0
 

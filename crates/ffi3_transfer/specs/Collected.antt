@@ -1,4 +1,4 @@
--- The arguments that a callee collects from registers and stack.
+-- The arguments that a callee collects from registers and stack. (System V psABI AMD64 3.2.3, "Parameter Passing"; AAPCS64, "Parameter passing"; RISC-V ELF psABI, "Integer Calling Convention" and "Hardware Floating-point Calling Convention"; Microsoft, "Parameter passing": `Own` has them)
 use Rattle.std.specs.Prelude.{◌≡◌, ◌≢◌, ℕ, ◌<◌, ◌≤◌, List, length}
 use Rattle.ffi3_type_rules.specs.Signature.{Signature}
 use Rattle.ffi3_type_rules.specs.Value.{ValueTree}
