@@ -1,4 +1,5 @@
 #include "layout.h"
+#include "heap.h"
 #include "key.h"
 #include "lock.h"
 #include <stdatomic.h>
@@ -106,7 +107,9 @@ static bool has_asked(const uint64_t *members, size_t count, struct ffi3_type *t
     bool is_right = true;
     for (size_t k = 0; k < count && is_right; k++)
         is_right = has_put(nodes + 1 + 2 * k, members[k]);
+    library_enter();
     is_right = is_right && ffi3_offsets_nodes(nodes, 2 * count + 1, told, offsets, count) == FFI3_OK;
+    library_leave();
     if (nodes != own_nodes)
         free(nodes);
     return is_right;

@@ -91,12 +91,11 @@ bool has_asked_moves(const struct key *key, struct told *told)
     memset(told, 0, offsetof(struct told, own_moves));
     size_t length = told_nodes(key, nodes, &fixed);
     uint32_t target = host_target((ffi_abi)key->nodes[0].count);
-    struct room room;
-    room_open(&room);
+    library_enter();
     bool has = ffi3_prepare(target, nodes, length, fixed, &interface, &fault) == FFI3_OK &&
                has_told_all(&interface, told);
     ffi3_release(&interface);
-    room_close(&room);
+    library_leave();
     if (nodes != own_nodes)
         free(nodes);
     if (!has) {
