@@ -1,6 +1,6 @@
-/* The memory of the proved library while it answers: libffi/build has it call these in place of malloc, realloc and free.
- * All that it takes for an answer it gives back with it. So one piece of memory is given out from its front, and is free
- * again when the library is left; malloc serves where it is full. */
+/* The memory of the proved library while it answers: libffi/build has it call these in place of malloc, realloc and
+ * free. All that it takes for an answer it gives back with it. So one piece of memory is given out from its front, and
+ * is free again when the library is left; malloc serves where it is full. */
 #include "heap.h"
 #include "lock.h"
 #include <stdbool.h>

@@ -13,7 +13,7 @@
 #define NODE_LONG_DOUBLES 0x103u /* `count` long doubles that have registers of their own: long_double.c of the host */
 #define NODES_BEFORE_TYPES 2
 
-/* The bit of all these kinds, and of arguments that are void: whether the library is told other nodes than a key has. */
+/* The bit of all these kinds, and of arguments that are void: the library is told other nodes than a key has. */
 #define NODES_OF_OWN 0x100u
 
 struct key {

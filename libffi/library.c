@@ -80,7 +80,7 @@ static bool has_asked(const struct key *key, const struct ffi3_node *nodes, size
     struct ffi3_interface interface = FFI3_NO_INTERFACE;
     struct ffi3_fault fault;
     uint32_t target = host_target((ffi_abi)key->nodes[0].count);
-    /* The library wants an argument that is fixed, and libffi none; all of these standards place it as if it were not. */
+    /* The library wants one that is fixed, and libffi none; all of these standards place it as if it were not. */
     if (fixed == 0)
         fixed = length > type_end(nodes, 0) ? 1 : FFI3_NOT_VARIADIC;
     memset(told, 0, offsetof(struct told, own_moves));
