@@ -1,58 +1,52 @@
-/* The memory of the proved library while it answers: libffi/build has it call these in place of malloc, realloc and free.
- * All that it takes for an answer it gives back with it. So the answer's room, on the stack of who asks, is given out from
- * its front, and what was given back goes with the room; malloc serves where it is full. */
+/* The memory of the proved library while it answers: libffi/build has it call these in place of malloc, realloc and
+ * free. All that it takes for an answer it gives back with it. So one piece of memory is given out from its front, and
+ * is free again when the library is left; malloc serves where it is full. */
 #include "heap.h"
+#include "lock.h"
+#include <stdbool.h>
+#include <stdint.h>
 #include <stdlib.h>
 #include <string.h>
 
-/* In front of each piece stands how long it is. */
-#define LENGTH_BYTES 16
+#define LENGTH_BYTES 16 /* in front of each block stands how long it is */
 
-static __thread struct room *current __attribute__((tls_model("initial-exec")));
+/* All under library_lock. */
+static _Alignas(16) char bytes[16384];
+static size_t used;
+
+void library_enter(void)
+{
+    pthread_mutex_lock(&library_lock);
+    used = 0;
+}
+
+void library_leave(void) { pthread_mutex_unlock(&library_lock); }
 
 void *answer_malloc(size_t size);
 void *answer_realloc(void *at, size_t size);
 void answer_free(void *at);
 
-void room_open(struct room *room)
-{
-    room->used = 0;
-    room->outer = current;
-    current = room;
-}
-
-void room_close(struct room *room) { current = room->outer; }
-
-static inline bool is_in_room(const void *at)
-{
-    return current && (uintptr_t)at - (uintptr_t)current->bytes < sizeof current->bytes;
-}
-
-static inline size_t length_of(const char *at)
-{
-    size_t length;
-    memcpy(&length, at - LENGTH_BYTES, sizeof length);
-    return length;
-}
+static inline bool is_own(const void *at) { return (uintptr_t)at - (uintptr_t)bytes < sizeof bytes; }
 
 void *answer_malloc(size_t size)
 {
-    if (!current || size > sizeof current->bytes)
+    size_t length = (size + 15) & ~(size_t)15;
+    if (size > sizeof bytes || length + LENGTH_BYTES > sizeof bytes - used)
         return malloc(size);
-    size_t length = (size + 15) / 16 * 16;
-    if (length + LENGTH_BYTES > sizeof current->bytes - current->used)
-        return malloc(size);
-    char *at = current->bytes + current->used + LENGTH_BYTES;
-    current->used += length + LENGTH_BYTES;
+    char *at = bytes + used + LENGTH_BYTES;
+    used += length + LENGTH_BYTES;
     memcpy(at - LENGTH_BYTES, &length, sizeof length);
     return at;
 }
 
 void *answer_realloc(void *at, size_t size)
 {
-    if (!is_in_room(at))
-        return at ? realloc(at, size) : answer_malloc(size);
-    size_t length = length_of(at);
+    size_t length;
+    if (!at)
+        return answer_malloc(size);
+    if (!is_own(at))
+        return realloc(at, size);
+    memcpy(&length, (char *)at - LENGTH_BYTES, sizeof length);
     if (size <= length)
         return at;
     void *larger = answer_malloc(size);
@@ -63,6 +57,6 @@ void *answer_realloc(void *at, size_t size)
 
 void answer_free(void *at)
 {
-    if (!is_in_room(at))
+    if (!is_own(at))
         free(at);
 }

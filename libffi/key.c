@@ -141,6 +141,8 @@ static bool put_type(struct key *key, const ffi_type *type, int depth)
 static void put_value(struct key *key, const ffi_type *type, ffi_abi abi, bool is_result)
 {
     size_t before = key->length;
+    if (!is_result && type->type == FFI_TYPE_VOID)
+        key->kinds |= NODES_OF_OWN;
     if (put_type(key, type, 0) || key->status != FFI_OK)
         return;
     key->length = before;
@@ -158,9 +160,12 @@ void key_tell(struct key *key, const ffi_cif *cif, unsigned fixed)
     key->room = sizeof key->own_nodes / sizeof *key->own_nodes;
     key->length = 0;
     key->status = FFI_OK;
+    if (fixed != FFI3_NOT_VARIADIC && fixed > cif->nargs)
+        fixed = cif->nargs;
     key->fixed = fixed;
     key_put(key, NODE_SIGNATURE, cif->abi);
     key_put(key, NODE_FIXED, fixed);
+    key->kinds = 0;
     put_value(key, cif->rtype, cif->abi, true);
     for (unsigned i = 0; i < cif->nargs && key->status == FFI_OK; i++)
         put_value(key, cif->arg_types[i], cif->abi, false);

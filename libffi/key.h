@@ -13,9 +13,13 @@
 #define NODE_LONG_DOUBLES 0x103u /* `count` long doubles that have registers of their own: long_double.c of the host */
 #define NODES_BEFORE_TYPES 2
 
+/* The bit of all these kinds, and of arguments that are void: the library is told other nodes than a key has. */
+#define NODES_OF_OWN 0x100u
+
 struct key {
     struct ffi3_node *nodes; /* own_nodes, or malloc's: the two, the result, the arguments, those that are void too */
     size_t length, room;
+    uint32_t kinds; /* all that the types have, by bits */
     unsigned fixed;
     ffi_status status; /* FFI_OK, or why there is none */
     struct ffi3_node own_nodes[40];
@@ -52,6 +56,7 @@ static inline void key_put(struct key *key, uint32_t kind, uint32_t count)
     struct ffi3_node *node = &key->nodes[key->length++];
     node->kind = kind;
     node->count = count;
+    key->kinds |= kind;
 }
 
 /* Where in nodes the type ends that begins at `at`. */

@@ -1,4 +1,5 @@
 #include "layout.h"
+#include "heap.h"
 #include "key.h"
 #include "lock.h"
 #include <stdatomic.h>
@@ -106,7 +107,9 @@ static bool has_asked(const uint64_t *members, size_t count, struct ffi3_type *t
     bool is_right = true;
     for (size_t k = 0; k < count && is_right; k++)
         is_right = has_put(nodes + 1 + 2 * k, members[k]);
+    library_enter();
     is_right = is_right && ffi3_offsets_nodes(nodes, 2 * count + 1, told, offsets, count) == FFI3_OK;
+    library_leave();
     if (nodes != own_nodes)
         free(nodes);
     return is_right;
@@ -143,6 +146,13 @@ __attribute__((noinline)) static ffi_status lay_out_anew(ffi_type *type, const u
     return is_right ? FFI_OK : FFI_BAD_TYPEDEF;
 }
 
+/* What was last found for a struct that stands here; whether it is still that one's is looked at. */
+#define RECENT 64u
+
+static _Atomic(const struct layout *) recent[RECENT];
+
+static inline size_t recent_of(const ffi_type *type) { return ((uintptr_t)type >> 3) % RECENT; }
+
 #define FEW_MEMBERS 16
 
 static ffi_status lay_out_inside(ffi_type *type, size_t *offsets, int depth);
@@ -166,6 +176,8 @@ static inline ffi_status lay_out_in(ffi_type *type, uint64_t *members, size_t ro
     if (__builtin_expect(!known, 0))
         return lay_out_anew(type, members, count, bucket, offsets, wanted);
     set(type, known->size, known->alignment);
+    if (offsets)
+        atomic_store_explicit(&recent[recent_of(type)], known, memory_order_release);
     for (size_t k = 0; offsets && k < wanted; k++)
         offsets[k] = known->words[count + k];
     return FFI_OK;
@@ -193,4 +205,25 @@ static ffi_status lay_out_inside(ffi_type *type, size_t *offsets, int depth)
     return lay_out_in(type, members, FEW_MEMBERS, offsets, depth);
 }
 
-ffi_status lay_out(ffi_type *type, size_t *offsets) { return lay_out_inside(type, offsets, 0); }
+static inline bool is_as_recent(ffi_type *type, size_t *offsets)
+{
+    const struct layout *known = atomic_load_explicit(&recent[recent_of(type)], memory_order_acquire);
+    if (!known || !is_aggregate(type) || type->type == FFI_TYPE_COMPLEX || !type->elements)
+        return false;
+    size_t count = 0;
+    for (const ffi_type *it; (it = type->elements[count]); count++)
+        if (count == known->count || __atomic_load_n(&it->size, __ATOMIC_ACQUIRE) == 0 ||
+            member_of(it) != known->words[count])
+            return false;
+    if (count != known->count)
+        return false;
+    set(type, known->size, known->alignment);
+    for (size_t k = 0; k < count; k++)
+        offsets[k] = known->words[count + k];
+    return true;
+}
+
+ffi_status lay_out(ffi_type *type, size_t *offsets)
+{
+    return offsets && is_as_recent(type, offsets) ? FFI_OK : lay_out_inside(type, offsets, 0);
+}

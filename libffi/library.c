@@ -12,7 +12,6 @@ static size_t told_nodes(const struct key *key, struct ffi3_node *told, uint32_t
 {
     size_t count = 0, result_end = type_end(key->nodes, NODES_BEFORE_TYPES);
     uint32_t not_void = 0, position = 0;
-    *fixed = key->fixed;
     for (size_t at = NODES_BEFORE_TYPES; at < key->length;) {
         size_t end = type_end(key->nodes, at);
         bool is_result = at < result_end;
@@ -28,9 +27,6 @@ static size_t told_nodes(const struct key *key, struct ffi3_node *told, uint32_t
     }
     if (*fixed != FFI3_NOT_VARIADIC && *fixed > not_void)
         *fixed = not_void;
-    /* The library wants one that is fixed, and libffi none; all of these standards place it as if it were not. */
-    if (*fixed == 0)
-        *fixed = not_void ? 1 : FFI3_NOT_VARIADIC;
     return count;
 }
 
@@ -78,32 +74,41 @@ static bool has_told_all(struct ffi3_interface *interface, struct told *told)
     return has;
 }
 
-bool has_asked_moves(const struct key *key, struct told *told)
+static bool has_asked(const struct key *key, const struct ffi3_node *nodes, size_t length, uint32_t fixed,
+                      struct told *told)
 {
-    uint32_t fixed;
     struct ffi3_interface interface = FFI3_NO_INTERFACE;
     struct ffi3_fault fault;
-    struct ffi3_node own_nodes[96], *nodes = own_nodes;
-    if (3 * key->length > sizeof own_nodes / sizeof *own_nodes)
-        nodes = malloc(3 * key->length * sizeof *nodes);
-    if (!nodes)
-        return false;
-    memset(told, 0, offsetof(struct told, own_moves));
-    size_t length = told_nodes(key, nodes, &fixed);
     uint32_t target = host_target((ffi_abi)key->nodes[0].count);
-    struct room room;
-    room_open(&room);
+    /* The library wants one that is fixed, and libffi none; all of these standards place it as if it were not. */
+    if (fixed == 0)
+        fixed = length > type_end(nodes, 0) ? 1 : FFI3_NOT_VARIADIC;
+    memset(told, 0, offsetof(struct told, own_moves));
+    library_enter();
     bool has = ffi3_prepare(target, nodes, length, fixed, &interface, &fault) == FFI3_OK &&
                has_told_all(&interface, told);
     ffi3_release(&interface);
-    room_close(&room);
+    library_leave();
+    if (has)
+        told->stack = stack_of(told);
+    else
+        told_end(told);
+    return has;
+}
+
+bool has_asked_moves(const struct key *key, struct told *told)
+{
+    uint32_t fixed = key->fixed;
+    struct ffi3_node own_nodes[96], *nodes = own_nodes;
+    if (!(key->kinds & NODES_OF_OWN))
+        return has_asked(key, key->nodes + NODES_BEFORE_TYPES, key->length - NODES_BEFORE_TYPES, fixed, told);
+    if (3 * key->length > sizeof own_nodes / sizeof *own_nodes)
+        nodes = malloc(3 * key->length * sizeof *nodes);
+    size_t length = nodes ? told_nodes(key, nodes, &fixed) : 0;
+    bool has = length && has_asked(key, nodes, length, fixed, told);
+    if (has)
+        host_correct(key, told);
     if (nodes != own_nodes)
         free(nodes);
-    if (!has) {
-        told_end(told);
-        return false;
-    }
-    told->stack = stack_of(told);
-    host_correct(key, told);
-    return true;
+    return has;
 }

@@ -56,8 +56,8 @@ static uint32_t length_of(const struct ffi3_move *told, uint64_t offset, const f
     return (uint32_t)(is_scalar(type) || told->length < left ? told->length : left);
 }
 
-/* Whether a move goes with the one before it: it goes on where that ended, in both memories, or ends where that began, or
- * writes the same bytes, and so comes in its place. */
+/* Whether a move goes with the one before it: it goes on where that ended, in both memories, or ends where that began,
+ * or writes the same bytes, and so comes in its place. */
 static bool has_joined(struct move *last, const struct move *move)
 {
     if (last->to == move->to) {
