@@ -1,5 +1,5 @@
 -- What each row of AArch64's tables does.
-use Rattle.std.proofs.Common.{inr, ◌≡◌, ℕ, ◌+◌, ◌*◌, ◌/◌, ◌%◌, ◌^◌, ◌<◌, ◌≤◌, Bool, true, false, if◌then◌else◌, List, ◌++◌, length, refl, sym, ap, ◌∙◌, arith, lit<, Some, pos, negsuc}
+use Rattle.std.proofs.Common.{subst, inr, ◌≡◌, ℕ, ◌+◌, ◌*◌, ◌/◌, ◌%◌, ◌^◌, ◌<◌, ◌≤◌, Bool, true, false, if◌then◌else◌, List, ◌++◌, length, refl, sym, ap, ◌∙◌, arith, lit<, Some, pos, negsuc}
 use Rattle.std.specs.Prelude.{◌==◌, ◌-ℤ◌, ◌&&◌, not, nat_lt}
 use Rattle.ffi3_isa.specs.declared.Instr.{Instr}
 use Rattle.ffi3_isa.specs.declared.Instr.TheVariants.{Ld, Sd, Fld, Fsd, Addi, Br, Blr}
@@ -12,10 +12,10 @@ use Rattle.ffi3_machine.specs.Stubs.{load, store, sum, jump, calls, returns, exc
 use Rattle.ffi3_machine.specs.Step.{moved}
 use Rattle.ffi3_stubs.proofs.Places.{word_first, unequal}
 use Rattle.ffi3_stubs.proofs.WordSegments.{fits}
-use Rattle.ffi3_host_stubs.specs.Processor.{Processor, half, bytes_at, word_at, set_at, put_word, base, next, Steps, HasCode}
-use Rattle.ffi3_host_stubs.specs.Calls.{held}
+use Rattle.ffi3_host_stubs.specs.Processor.{Processor, half, bytes_at, word_at, set_at, put_word, base, next, IsKept, Steps, HasCode}
+use Rattle.ffi3_host_stubs.specs.Calls.{held, IsRegionKept}
 use Rattle.ffi3_host_stubs.proofs.Effects.{received, with_sp_by, stored}
-use Rattle.ffi3_host_stubs.proofs.Standing.{plain, wraps, along, ends}
+use Rattle.ffi3_host_stubs.proofs.Standing.{kept_in, plain, wraps, along, ends}
 use Rattle.ffi3_host_stubs.proofs.Memory.{both, less}
 use Rattle.ffi3_host_stubs.proofs.WordSegments.{Laws}
 
@@ -41,7 +41,7 @@ base_is : (s : Processor) (b : ℕ) → b < 31 → base Aarch64 b s ≡ s.genera
 base_is s b h = ap (λ (x : Bool). if x then s.sp else s.general b) (not_31 b h)
 
 -- ldr x(t), [x(b), o]
-pub load_general_row : (s : Processor) (x t b o : ℕ) (tail : List ℕ) → t < 31 → b < 32 → o % 8 ≡ 0 → o < 32768 → s.pc % 4 ≡ 0 → (b ≡ 31 → s.sp % 16 ≡ 0) → base Aarch64 b s ≡ x → x + o ≤ half → s.sp ≤ x + o → HasCode s s.pc (aarch64_row 0 (load (G t) b o) ++ tail) → Steps Aarch64 s (received 4 (G t) (word_at (x + o) s) s)
+pub load_general_row : (s : Processor) (x t b o : ℕ) (tail : List ℕ) → t < 31 → b < 32 → o % 8 ≡ 0 → o < 32768 → s.pc % 4 ≡ 0 → (b ≡ 31 → s.sp % 16 ≡ 0) → base Aarch64 b s ≡ x → x + o ≤ half → IsKept Aarch64 (x + o) s → HasCode s s.pc (aarch64_row 0 (load (G t) b o) ++ tail) → Steps Aarch64 s (received 4 (G t) (word_at (x + o) s) s)
 load_general_row s x t b o tail in_range b_range eight short al sixteen at far above h =
     let row : List ℕ = aarch64_row 0 (load (G t) b o) in
     let behind : next 4 s ≡ s.pc + 4 = along s 4 (ends s row tail 4 refl h) in
@@ -55,12 +55,12 @@ load_general_row s x t b o tail in_range b_range eight short al sixteen at far a
       aligned = al;
       stands = stands_immediate s 0b1111100101 (o / 8) b t tail (Ld t b (pos (8 * (o / 8)))) (omega arith) (omega (arith, short)) b_range (omega (arith, in_range)) refl h;
       based = sixteen;
-      kept = inr (loads_there s.sp addr (x + o) to above);
+      kept = subst (λ (a : ℕ). IsKept Aarch64 a s) (sym to) above;
       is_after = sym (ap (λ (z : Bool). shape z (word_at addr s) (next 4 s)) (not_31 t in_range) ∙ ap (λ (a : ℕ). shape false (word_at a s) (next 4 s)) to ∙ ap (λ (n : ℕ). shape false (word_at (x + o) s) n) behind);
     }
 
 -- ldr d(t), [x(b), o]
-pub load_floating_row : (s : Processor) (x t b o : ℕ) (tail : List ℕ) → t < 32 → b < 32 → o % 8 ≡ 0 → o < 32768 → s.pc % 4 ≡ 0 → (b ≡ 31 → s.sp % 16 ≡ 0) → base Aarch64 b s ≡ x → x + o ≤ half → s.sp ≤ x + o → HasCode s s.pc (aarch64_row 0 (load (F t) b o) ++ tail) → Steps Aarch64 s (received 4 (F t) (word_at (x + o) s) s)
+pub load_floating_row : (s : Processor) (x t b o : ℕ) (tail : List ℕ) → t < 32 → b < 32 → o % 8 ≡ 0 → o < 32768 → s.pc % 4 ≡ 0 → (b ≡ 31 → s.sp % 16 ≡ 0) → base Aarch64 b s ≡ x → x + o ≤ half → IsKept Aarch64 (x + o) s → HasCode s s.pc (aarch64_row 0 (load (F t) b o) ++ tail) → Steps Aarch64 s (received 4 (F t) (word_at (x + o) s) s)
 load_floating_row s x t b o tail in_range b_range eight short al sixteen at far above h =
     let row : List ℕ = aarch64_row 0 (load (F t) b o) in
     let behind : next 4 s ≡ s.pc + 4 = along s 4 (ends s row tail 4 refl h) in
@@ -74,7 +74,7 @@ load_floating_row s x t b o tail in_range b_range eight short al sixteen at far 
       aligned = al;
       stands = stands_immediate s 0b1111110101 (o / 8) b t tail (Fld t b (pos (8 * (o / 8)))) (omega arith) (omega (arith, short)) b_range in_range refl h;
       based = sixteen;
-      kept = inr (loads_there s.sp addr (x + o) to above);
+      kept = subst (λ (a : ℕ). IsKept Aarch64 a s) (sym to) above;
       is_after = sym (ap (λ (a : ℕ). shape (word_at a s) (next 4 s)) to ∙ ap (λ (n : ℕ). shape (word_at (x + o) s) n) behind);
     }
 
@@ -228,13 +228,13 @@ store_length b (G k) r o ok = refl
 store_length b (F k) r o ok = refl
 store_length b (S k) r o ok = absurd (no_stack b k ok)
 
-from_x : (b : ℕ) → b < 31 → (s : Processor) (x : ℕ) (l : Loc) (tail : List ℕ) → fits 31 18 b 18 l ≡ true → s.pc % 4 ≡ 0 → s.general b ≡ x → x + 552 ≤ half → s.sp ≤ x → HasCode s s.pc (row_bytes Aarch64 0 (load l b (exchanged_at l)) ++ tail) → Steps Aarch64 s (received 4 l (word_at (x + exchanged_at l) s) s)
+from_x : (b : ℕ) → b < 31 → (s : Processor) (x : ℕ) (l : Loc) (tail : List ℕ) → fits 31 18 b 18 l ≡ true → s.pc % 4 ≡ 0 → s.general b ≡ x → x + 552 ≤ half → IsRegionKept x s.sp s → HasCode s s.pc (row_bytes Aarch64 0 (load l b (exchanged_at l)) ++ tail) → Steps Aarch64 s (received 4 l (word_at (x + exchanged_at l) s) s)
 from_x b low s x (G k) tail ok al at far above h =
     let small : k < 31 = fits_general b k ok in
-    load_general_row s x k b (8 * k) tail small (omega (arith, low)) (omega arith) (omega (arith, small)) al (no_sp b s.sp low) (base_is s b low ∙ at) (omega (arith, far, small)) (omega (arith, above)) h
+    load_general_row s x k b (8 * k) tail small (omega (arith, low)) (omega arith) (omega (arith, small)) al (no_sp b s.sp low) (base_is s b low ∙ at) (omega (arith, far, small)) (kept_in Aarch64 s x (8 * k) (omega (arith, small)) above) h
 from_x b low s x (F k) tail ok al at far above h =
     let small : k < 32 = fits_floating b k ok in
-    load_floating_row s x k b (256 + 8 * k) tail small (omega (arith, low)) (omega arith) (omega (arith, small)) al (no_sp b s.sp low) (base_is s b low ∙ at) (omega (arith, far, small)) (omega (arith, above)) h
+    load_floating_row s x k b (256 + 8 * k) tail small (omega (arith, low)) (omega arith) (omega (arith, small)) al (no_sp b s.sp low) (base_is s b low ∙ at) (omega (arith, far, small)) (kept_in Aarch64 s x (256 + 8 * k) (omega (arith, small)) above) h
 from_x b low s x (S k) tail ok al at far above h = absurd (no_stack b k ok)
 
 to_x : (b : ℕ) → b < 31 → (s : Processor) (x : ℕ) (l : Loc) (tail : List ℕ) → fits 31 18 b 18 l ≡ true → s.pc % 4 ≡ 0 → s.general b ≡ x → x + 552 ≤ half → HasCode s s.pc (row_bytes Aarch64 0 (store l b (exchanged_at l)) ++ tail) → Steps Aarch64 s (stored 4 (x + exchanged_at l) (held l s) s)
@@ -248,9 +248,9 @@ to_x b low s x (S k) tail ok al at far h = absurd (no_stack b k ok)
 
 from_stack : (b : ℕ) (s : Processor) (l : Loc) (at : ℕ) (tail : List ℕ) → fits 31 18 b 18 l ≡ true → s.pc % 4 ≡ 0 → s.sp % 16 ≡ 0 → at % 8 ≡ 0 → at < 2048 → s.sp + at ≤ half → HasCode s s.pc (row_bytes Aarch64 0 (load l 31 at) ++ tail) → Steps Aarch64 s (received 4 l (word_at (s.sp + at) s) s)
 from_stack b s (G k) at tail ok al sixteen eight short far h =
-    load_general_row s s.sp k 31 at tail (fits_general b k ok) (omega arith) eight (omega (arith, short)) al (λ e. sixteen) refl far (omega arith) h
+    load_general_row s s.sp k 31 at tail (fits_general b k ok) (omega arith) eight (omega (arith, short)) al (λ e. sixteen) refl far (inr (omega arith)) h
 from_stack b s (F k) at tail ok al sixteen eight short far h =
-    load_floating_row s s.sp k 31 at tail (fits_floating b k ok) (omega arith) eight (omega (arith, short)) al (λ e. sixteen) refl far (omega arith) h
+    load_floating_row s s.sp k 31 at tail (fits_floating b k ok) (omega arith) eight (omega (arith, short)) al (λ e. sixteen) refl far (inr (omega arith)) h
 from_stack b s (S k) at tail ok al sixteen eight short far h = absurd (no_stack b k ok)
 
 to_stack : (b : ℕ) (s : Processor) (l : Loc) (at : ℕ) (tail : List ℕ) → fits 31 18 b 18 l ≡ true → s.pc % 4 ≡ 0 → s.sp % 16 ≡ 0 → at % 8 ≡ 0 → at < 2048 → s.sp + at ≤ half → HasCode s s.pc (row_bytes Aarch64 0 (store l 31 at) ++ tail) → Steps Aarch64 s (stored 4 (s.sp + at) (held l s) s)

@@ -1,5 +1,5 @@
 -- The four stubs of AArch64, wherever they and the exchange region stand.
-use Rattle.std.proofs.Common.{◌≡◌, ◌≢◌, inl, inr, ⊎_elim, ℕ, ◌+◌, ◌-◌, ◌*◌, ◌%◌, ◌<◌, ◌≤◌, Bool, true, false, if◌then◌else◌, List, [], ◌∷◌, ◌++◌, length, refl, sym, ap, ◌∙◌, subst, arith, lit<, lit≤, pos, negsuc}
+use Rattle.std.proofs.Common.{◌≡◌, ◌≢◌, ◌⊎◌, inl, inr, ⊎_elim, ℕ, ◌+◌, ◌-◌, ◌*◌, ◌%◌, ◌<◌, ◌≤◌, Bool, true, false, if◌then◌else◌, List, [], ◌∷◌, ◌++◌, length, refl, sym, ap, ◌∙◌, subst, arith, lit<, lit≤, pos, negsuc}
 use Rattle.ffi3_memory.specs.Memory.{number_of}
 use Rattle.ffi3_type_rules.specs.declared.Isa.TheVariants.{Aarch64}
 use Rattle.ffi3_place_rules.specs.declared.Loc.{Loc}
@@ -11,15 +11,12 @@ use Rattle.ffi3_stubs.proofs.WordSegments.{fits, all_fit}
 use Rattle.ffi3_stubs.proofs.Reading.{are_apart, are_disjoint, place, misses, are_spread, in_neither}
 use Rattle.ffi3_host_stubs.specs.Processor.{Processor, half, bytes_at, word_at, base, Steps, HasCode}
 use Rattle.ffi3_host_stubs.specs.Stubs.{copy_bytes, host_bytes}
-use Rattle.ffi3_host_stubs.specs.Calls.{held, IsOutside, HasCalled, Calls, HasReturned, Returns, HasEntered, Enters, HasLeft, Leaves}
-use Rattle.ffi3_host_stubs.proofs.Standing.{onward, TakesBy, one_step, and_then, in_turn}
+use Rattle.ffi3_host_stubs.specs.Calls.{held, IsOutside, IsRegionKept, HasCalled, Calls, HasReturned, Returns, HasEntered, Enters, HasLeft, Leaves}
+use Rattle.ffi3_host_stubs.proofs.Standing.{kept_in, outside_region, apart_from, region_outside, onward, TakesBy, one_step, and_then, in_turn}
 use Rattle.ffi3_host_stubs.proofs.Effects.{received, with_sp_by, stored, from_exchange, to_exchange, from_area, to_area}
 use Rattle.ffi3_host_stubs.proofs.Memory.{neither, byte_other, word_put, bytes_other, bytes_alike, set_other, exchange_others, area_others, came_from_exchange, came_from_area, exchange_outside, places_outside, exchange_beyond, went_to_exchange, area_outside, went_to_area, went_from, area_still, came_still, came_again}
 use Rattle.ffi3_host_stubs.proofs.WordSegments.{word_list, Came, Went, next_aligned, exchange_loaded, exchange_stored, area_loaded, area_stored}
 use Rattle.ffi3_host_stubs.proofs.Aarch64Rows.{not_31, no_sp, load_general_row, store_general_row, copy_row, sp_row, fall_row, linked, call_row, return_row, aarch64_laws}
-
-in_half : (x v : ℕ) → x + 552 ≤ half → v ≤ x → v ≤ half
-in_half x v far under = omega (arith, far, under)
 
 source : (s : Processor) (from : ℕ) → from < 31 → from ≢ 31 → base Aarch64 from s ≡ s.general from
 source s from low not_sp = ap (λ (b : Bool). if b then s.sp else s.general from) (not_31 from low)
@@ -41,9 +38,9 @@ call_ready x s = received 4 (G 16) (word_at (x + 512) (call_loaded x s)) (call_l
 abbrev after_call : ℕ → Processor → Processor
 after_call x s = linked (word_at (x + 512) (call_loaded x s)) (call_ready x s)
 
-call_runs : (s : Processor) (from : ℕ) → from < 31 → from ≢ 31 → s.pc % 4 ≡ 0 → s.general from + 552 ≤ half → s.sp ≤ s.general from → word_at (s.general from + 520) s ≤ s.general from → HasCode s s.pc (host_bytes Aarch64 from 0 Call) → TakesBy Aarch64 22 s (after_call (s.general from) s)
+call_runs : (s : Processor) (from : ℕ) → from < 31 → from ≢ 31 → s.pc % 4 ≡ 0 → s.general from + 552 ≤ half → IsRegionKept (s.general from) s.sp s → word_at (s.general from + 520) s ≤ half → IsRegionKept (s.general from) (word_at (s.general from + 520) s) s → HasCode s s.pc (host_bytes Aarch64 from 0 Call) → TakesBy Aarch64 22 s (after_call (s.general from) s)
 unfolding host_bytes word_list fits all_fit
-call_runs s from in_range not_sp al far above under h =
+call_runs s from in_range not_sp al far above low under h =
     let x : ℕ = s.general from in
     let t5 : List ℕ = aarch64_row 0 (jump (calls 16)) ++ [] in
     let t4 : List ℕ = aarch64_row 0 (load (G 16) 17 512) ++ t5 in
@@ -59,15 +56,15 @@ call_runs s from in_range not_sp al far above under h =
     let one = copy_row s 17 from x t1 (lit< tt) (omega (arith, in_range)) al (source s from in_range not_sp) (omega (arith, far)) h in
     let h1 : HasCode s1 s1.pc t1 = onward s s1 (copy_bytes Aarch64 17 from) t1 4 refl refl refl h in
     let al1 : s1.pc % 4 ≡ 0 = next_aligned s.pc s1.pc refl al in
-    let two = load_general_row s1 x 16 17 520 t2 (lit< tt) (lit< tt) refl (lit< tt) al1 (no_sp 17 s1.sp (lit< tt)) refl (omega (arith, far)) (omega (arith, above)) h1 in
+    let two = load_general_row s1 x 16 17 520 t2 (lit< tt) (lit< tt) refl (lit< tt) al1 (no_sp 17 s1.sp (lit< tt)) refl (omega (arith, far)) (kept_in Aarch64 s1 x 520 (omega arith) above) h1 in
     let h2 : HasCode s2 s2.pc t2 = onward s1 s2 (aarch64_row 0 (load (G 16) 17 520)) t2 4 refl refl refl h1 in
     let al2 : s2.pc % 4 ≡ 0 = next_aligned s1.pc s2.pc refl al1 in
     let same : word_at (x + 520) s + 0 ≡ word_at (x + 520) s = omega arith in
-    let three = sp_row s2 16 0 (word_at (x + 520) s) t3 (lit< tt) (lit< tt) al2 same (omega (arith, under, far)) h2 in
+    let three = sp_row s2 16 0 (word_at (x + 520) s) t3 (lit< tt) (lit< tt) al2 same low h2 in
     let h3 : HasCode s3 s3.pc t3 = onward s2 s3 (aarch64_row 0 (sum 31 16 (pos 0))) t3 4 refl refl refl h2 in
     let al3 : s3.pc % 4 ≡ 0 = next_aligned s2.pc s3.pc refl al2 in
     let came : Came Aarch64 17 x s3 s4 17 t4 = exchange_loaded Aarch64 31 18 17 18 x (aarch64_laws 17 (lit< tt)) (call_loads Aarch64) s3 t4 refl al3 refl far under h3 in
-    let five = load_general_row s4 x 16 17 512 t5 (lit< tt) (lit< tt) refl (lit< tt) came.aligned (no_sp 17 s4.sp (lit< tt)) came.base (omega (arith, far)) (omega (arith, under)) came.stands in
+    let five = load_general_row s4 x 16 17 512 t5 (lit< tt) (lit< tt) refl (lit< tt) came.aligned (no_sp 17 s4.sp (lit< tt)) came.base (omega (arith, far)) (kept_in Aarch64 s4 x 512 (omega arith) under) came.stands in
     let h5 : HasCode s5 s5.pc t5 = onward s4 s5 (aarch64_row 0 (load (G 16) 17 512)) t5 4 refl refl refl came.stands in
     let al5 : s5.pc % 4 ≡ 0 = next_aligned s4.pc s5.pc refl came.aligned in
     let six : Steps Aarch64 s5 e = call_row s5 [] al5 h5 in
@@ -113,9 +110,9 @@ has_called s from x =
     }
 
 pub calls_by : (from : ℕ) → from < 31 → from ≢ 31 → Calls Aarch64 from (host_bytes Aarch64 from 0 Call)
-calls_by from in_range not_sp s is room over under callee =
+calls_by from in_range not_sp s is room over low under callee =
     let x : ℕ = s.general from in
-    (after_call x s, in_turn Aarch64 22 s (after_call x s) (call_runs s from in_range not_sp is.aligned is.high is.above under is.code), has_called s from x)
+    (after_call x s, in_turn Aarch64 22 s (after_call x s) (call_runs s from in_range not_sp is.aligned is.high is.region low under is.code), has_called s from x)
 
 -- ---- Return
 
@@ -132,7 +129,7 @@ after_return x s = with_sp_by 4 (word_at (x + 544) (return_taken x s)) (return_r
 unread : (base_k x at : ℕ) (ls : List Loc) (t : Processor) → 512 ≤ at → are_spread ls ≡ true → word_at (x + at) (to_exchange Aarch64 base_k x ls t) ≡ word_at (x + at) t
 unread base_k x at ls t far ok = ap (number_of 8) (exchange_beyond Aarch64 base_k x ls t at far ok)
 
-return_runs : (s : Processor) (from : ℕ) → from < 31 → from ≢ 31 → s.pc % 4 ≡ 0 → s.general from + 552 ≤ half → s.sp ≤ s.general from → word_at (s.general from + 544) s ≤ half → HasCode s s.pc (host_bytes Aarch64 from 0 Return) → TakesBy Aarch64 9 s (after_return (s.general from) s)
+return_runs : (s : Processor) (from : ℕ) → from < 31 → from ≢ 31 → s.pc % 4 ≡ 0 → s.general from + 552 ≤ half → IsRegionKept (s.general from) s.sp s → word_at (s.general from + 544) s ≤ half → HasCode s s.pc (host_bytes Aarch64 from 0 Return) → TakesBy Aarch64 9 s (after_return (s.general from) s)
 unfolding host_bytes word_list fits all_fit place misses are_spread
 return_runs s from in_range not_sp al far above low h =
     let x : ℕ = s.general from in
@@ -148,7 +145,7 @@ return_runs s from in_range not_sp al far above low h =
     let h1 : HasCode s1 s1.pc t1 = onward s s1 (copy_bytes Aarch64 16 from) t1 4 refl refl refl h in
     let al1 : s1.pc % 4 ≡ 0 = next_aligned s.pc s1.pc refl al in
     let came : Came Aarch64 16 x s1 s2 6 t2 = exchange_stored Aarch64 31 18 16 18 x (aarch64_laws 16 (lit< tt)) (result_loads Aarch64) s1 t2 refl al1 refl far h1 in
-    let three = load_general_row s2 x 17 16 544 t3 (lit< tt) (lit< tt) refl (lit< tt) came.aligned (no_sp 16 s2.sp (lit< tt)) came.base (omega (arith, far)) (omega (arith, above)) came.stands in
+    let three = load_general_row s2 x 17 16 544 t3 (lit< tt) (lit< tt) refl (lit< tt) came.aligned (no_sp 16 s2.sp (lit< tt)) came.base (omega (arith, far)) (kept_in Aarch64 s2 x 544 (omega arith) above) came.stands in
     let h3 : HasCode s3 s3.pc t3 = onward s2 s3 (aarch64_row 0 (load (G 17) 16 544)) t3 4 refl refl refl came.stands in
     let al3 : s3.pc % 4 ≡ 0 = next_aligned s2.pc s3.pc refl came.aligned in
     let same : v ≡ word_at (x + 544) s = unread 16 x 544 (result_loads Aarch64) s1 (omega arith) refl in
@@ -178,9 +175,9 @@ has_returned s from x =
     }
 
 pub returns_back : (from : ℕ) → from < 31 → from ≢ 31 → Returns Aarch64 from (host_bytes Aarch64 from 0 Return)
-returns_back from in_range not_sp s is small =
+returns_back from in_range not_sp s is small under =
     let x : ℕ = s.general from in
-    (after_return x s, in_turn Aarch64 9 s (after_return x s) (return_runs s from in_range not_sp is.aligned is.high is.above (in_half x (word_at (x + 544) s) is.high small) is.code), has_returned s from x)
+    (after_return x s, in_turn Aarch64 9 s (after_return x s) (return_runs s from in_range not_sp is.aligned is.high is.region small is.code), has_returned s from x)
 
 -- ---- Exit
 
@@ -202,7 +199,7 @@ exit_raised x gap s = with_sp_by 4 ((exit_given x s).sp + (176 + gap)) (exit_giv
 abbrev after_exit : ℕ → ℕ → Processor → Processor
 after_exit x gap s = record (exit_raised x gap s) { pc = (exit_raised x gap s).general 30 }
 
-exit_runs : (s : Processor) (from gap : ℕ) → from < 31 → from ≢ 31 → gap ≤ 1024 → s.pc % 4 ≡ 0 → word_at (s.general from + 536) s % 16 ≡ 0 → s.general from + 552 ≤ half → s.sp ≤ s.general from → word_at (s.general from + 536) s ≤ s.general from → word_at (s.general from + 536) s + (176 + gap) + 0 ≤ half → HasCode s s.pc (host_bytes Aarch64 from gap Exit) → TakesBy Aarch64 31 s (after_exit (s.general from) gap s)
+exit_runs : (s : Processor) (from gap : ℕ) → from < 31 → from ≢ 31 → gap ≤ 1024 → s.pc % 4 ≡ 0 → word_at (s.general from + 536) s % 16 ≡ 0 → s.general from + 552 ≤ half → IsRegionKept (s.general from) s.sp s → IsRegionKept (s.general from) (word_at (s.general from + 536) s) s → word_at (s.general from + 536) s + (176 + gap) + 0 ≤ half → HasCode s s.pc (host_bytes Aarch64 from gap Exit) → TakesBy Aarch64 31 s (after_exit (s.general from) gap s)
 unfolding host_bytes word_list fits all_fit
 exit_runs s from gap in_range not_sp room al sixteen far above under top h =
     let x : ℕ = s.general from in
@@ -225,7 +222,7 @@ exit_runs s from gap in_range not_sp room al sixteen far above under top h =
     let one = copy_row s 16 from x t1 (lit< tt) (omega (arith, in_range)) al (source s from in_range not_sp) (omega (arith, far)) h in
     let h1 : HasCode s1 s1.pc t1 = onward s s1 (copy_bytes Aarch64 16 from) t1 4 refl refl refl h in
     let al1 : s1.pc % 4 ≡ 0 = next_aligned s.pc s1.pc refl al in
-    let two = load_general_row s1 x 17 16 536 t2 (lit< tt) (lit< tt) refl (lit< tt) al1 (no_sp 16 s1.sp (lit< tt)) refl (omega (arith, far)) (omega (arith, above)) h1 in
+    let two = load_general_row s1 x 17 16 536 t2 (lit< tt) (lit< tt) refl (lit< tt) al1 (no_sp 16 s1.sp (lit< tt)) refl (omega (arith, far)) (kept_in Aarch64 s1 x 536 (omega arith) above) h1 in
     let h2 : HasCode s2 s2.pc t2 = onward s1 s2 (aarch64_row 0 (load (G 17) 16 536)) t2 4 refl refl refl h1 in
     let al2 : s2.pc % 4 ≡ 0 = next_aligned s1.pc s2.pc refl al1 in
     let plus : a + 0 ≡ a = omega arith in
@@ -266,7 +263,7 @@ has_left s x gap =
 pub leaves : (from gap : ℕ) → from < 31 → from ≢ 31 → gap ≤ 1024 → Leaves Aarch64 from gap (host_bytes Aarch64 from gap Exit)
 leaves from gap in_range not_sp room s is sixteen over under back top =
     let x : ℕ = s.general from in
-    (after_exit x gap s, in_turn Aarch64 31 s (after_exit x gap s) (exit_runs s from gap in_range not_sp room is.aligned sixteen is.high is.above under top is.code), has_left s x gap)
+    (after_exit x gap s, in_turn Aarch64 31 s (after_exit x gap s) (exit_runs s from gap in_range not_sp room is.aligned sixteen is.high is.region under top is.code), has_left s x gap)
 
 -- ---- Entry
 
@@ -298,19 +295,19 @@ after_entry x s = with_sp_by 4 (word_at (x + 528) (entry_passed x s)) (entry_rea
 around : (s : Processor) (a : ℕ) → 176 ≤ s.sp → IsOutside (s.sp - 176) s.sp a → (entry_saved s).memory a ≡ s.memory a
 around s a room out = area_outside Aarch64 0 (stub_area Aarch64) (entry_fallen s) a (⊎_elim (λ h. inl (omega (arith, h))) (λ h. inr (omega (arith, h, room))) out)
 
-entry_word : (s : Processor) (x : ℕ) → 176 ≤ s.sp → s.sp ≤ x → word_at (x + 528) (entry_passed x s) ≡ word_at (x + 528) s
+entry_word : (s : Processor) (x : ℕ) → 176 ≤ s.sp → (x + 552 ≤ s.sp - 176) ⊎ (s.sp ≤ x) → word_at (x + 528) (entry_passed x s) ≡ word_at (x + 528) s
 unfolding place misses are_spread
 entry_word s x room above =
     let t : Processor = entry_noted x s in
-    let word : bytes_at (entry_saved s).memory (x + 528) 8 ≡ bytes_at s.memory (x + 528) 8 = bytes_alike (entry_saved s).memory s.memory (x + 528) 8 (λ a low high. around s a room (inr (omega (arith, low, above)))) in
+    let word : bytes_at (entry_saved s).memory (x + 528) 8 ≡ bytes_at s.memory (x + 528) 8 = bytes_alike (entry_saved s).memory s.memory (x + 528) 8 (λ a low high. around s a room (region_outside a x (s.sp - 176) s.sp (omega (arith, low)) (omega (arith, high)) above)) in
     unread 16 x 528 (entry_stores Aarch64) t (omega arith) refl ∙ ap (number_of 8) (bytes_other (x + 536) (s.sp - 176) (entry_saved s).memory (x + 528) 8 (inl (omega arith)) ∙ word)
 
 -- numbers of the entry, over plain variables
-lowered_within : (p sp x : ℕ) → sp ≡ p + 176 → sp ≤ x → x + 552 ≤ half → (p + 0 + 8 * 21 ≤ half) × (p ≤ half) × (sp ≤ half)
-lowered_within p sp x e above far = (omega (arith, e, above, far), omega (arith, e, above, far), omega (arith, above, far))
+lowered_within : (p sp : ℕ) → sp ≡ p + 176 → sp ≤ half → (p + 0 + 8 * 21 ≤ half) × (p ≤ half)
+lowered_within p sp e low = (omega (arith, e, low), omega (arith, e, low))
 
-reads_within : (p sp x : ℕ) → sp ≡ p + 176 → sp ≤ x → x + 552 ≤ half → (p ≤ x + 528) × (x + 528 ≤ half) × (x + 536 ≤ half) × (x ≤ half)
-reads_within p sp x e above far = (omega (arith, e, above), omega (arith, far), omega (arith, far), omega (arith, far))
+reads_within : (x : ℕ) → x + 552 ≤ half → (x + 528 ≤ half) × (x + 536 ≤ half) × (x ≤ half)
+reads_within x far = (omega (arith, far), omega (arith, far), omega (arith, far))
 
 nothing_more : (v : ℕ) → v + 0 ≡ v
 nothing_more v = omega arith
@@ -318,15 +315,15 @@ nothing_more v = omega arith
 lower_sixteen : (sp p : ℕ) → sp ≡ p + 176 → sp % 16 ≡ 0 → p % 16 ≡ 0
 lower_sixteen sp p e h = omega (arith, e, h)
 
-to_in_half : (sp x v : ℕ) → sp ≤ x → x + 552 ≤ half → v ≤ sp - 176 → v ≤ half
-to_in_half sp x v above far to = omega (arith, above, far, to)
+to_in_half : (sp v : ℕ) → sp ≤ half → v ≤ sp - 176 → v ≤ half
+to_in_half sp v low to = omega (arith, low, to)
 
 in_the_set : (from : ℕ) → from < 31 → from < 32
 in_the_set from h = omega (arith, h)
 
-entry_runs : (s : Processor) (from : ℕ) → from < 31 → from ≢ 31 → s.pc % 4 ≡ 0 → s.sp % 16 ≡ 0 → s.general from + 552 ≤ half → s.sp ≤ s.general from → 176 ≤ s.sp → word_at (s.general from + 528) s ≤ half → HasCode s s.pc (host_bytes Aarch64 from 0 Entry) → TakesBy Aarch64 45 s (after_entry (s.general from) s)
+entry_runs : (s : Processor) (from : ℕ) → from < 31 → from ≢ 31 → s.pc % 4 ≡ 0 → s.sp % 16 ≡ 0 → s.general from + 552 ≤ half → IsRegionKept (s.general from) (s.sp - 176) s → s.sp ≤ half → (s.general from + 552 ≤ s.sp - 176) ⊎ (s.sp ≤ s.general from) → 176 ≤ s.sp → word_at (s.general from + 528) s ≤ half → HasCode s s.pc (host_bytes Aarch64 from 0 Entry) → TakesBy Aarch64 45 s (after_entry (s.general from) s)
 unfolding host_bytes word_list fits all_fit
-entry_runs s from in_range not_sp al sixteen far above room low h =
+entry_runs s from in_range not_sp al sixteen far above below_half region room low h =
     let x : ℕ = s.general from in
     let t7 : List ℕ = aarch64_row 0 (sum 31 16 (pos 0)) ++ [] in
     let t6 : List ℕ = aarch64_row 0 (load (G 16) 16 528) ++ t7 in
@@ -346,28 +343,28 @@ entry_runs s from in_range not_sp al sixteen far above room low h =
     let v : ℕ = word_at (x + 528) s6 in
     let p : ℕ = s.sp - 176 in
     let fallen : s.sp ≡ p + 176 = omega (arith, room) in
-    let bounds = lowered_within p s.sp x fallen above far in
-    let reads = reads_within p s.sp x fallen above far in
-    let one = fall_row s p t1 al fallen bounds.2 h in
+    let bounds = lowered_within p s.sp fallen below_half in
+    let reads = reads_within x far in
+    let one = fall_row s p t1 al fallen below_half h in
     let h1 : HasCode s1 s1.pc t1 = onward s s1 (aarch64_row 0 (sum 31 31 (negsuc 175))) t1 4 refl refl refl h in
     let al1 : s1.pc % 4 ≡ 0 = next_aligned s.pc s1.pc refl al in
     let short : 0 + 8 * 21 ≤ 2048 = lit≤ tt in
     let saves : Went Aarch64 s1 s2 21 t2 = area_stored Aarch64 31 18 16 18 (aarch64_laws 16 (lit< tt)) (stub_area Aarch64) s1 0 t2 refl al1 (lower_sixteen s.sp p fallen sixteen) refl short bounds.0 h1 in
-    let three = copy_row s2 16 from x t3 (lit< tt) (in_the_set from in_range) saves.aligned (source s2 from in_range not_sp) reads.3 saves.stands in
+    let three = copy_row s2 16 from x t3 (lit< tt) (in_the_set from in_range) saves.aligned (source s2 from in_range not_sp) reads.2 saves.stands in
     let h3 : HasCode s3 s3.pc t3 = onward s2 s3 (copy_bytes Aarch64 16 from) t3 4 refl refl refl saves.stands in
     let al3 : s3.pc % 4 ≡ 0 = next_aligned s2.pc s3.pc refl saves.aligned in
     let four = copy_row s3 9 31 p t4 (lit< tt) (lit< tt) al3 refl bounds.1 h3 in
     let h4 : HasCode s4 s4.pc t4 = onward s3 s4 (aarch64_row 0 (sum 9 31 (pos 0))) t4 4 refl refl refl h3 in
     let al4 : s4.pc % 4 ≡ 0 = next_aligned s3.pc s4.pc refl al3 in
-    let five = store_general_row s4 x 9 16 536 t5 (lit< tt) (lit< tt) refl (lit< tt) al4 (no_sp 16 s4.sp (lit< tt)) refl reads.2 h4 in
+    let five = store_general_row s4 x 9 16 536 t5 (lit< tt) (lit< tt) refl (lit< tt) al4 (no_sp 16 s4.sp (lit< tt)) refl reads.1 h4 in
     let h5 : HasCode s5 s5.pc t5 = onward s4 s5 (aarch64_row 0 (store (G 9) 16 536)) t5 4 refl refl refl h4 in
     let al5 : s5.pc % 4 ≡ 0 = next_aligned s4.pc s5.pc refl al4 in
     let came : Came Aarch64 16 x s5 s6 18 t6 = exchange_stored Aarch64 31 18 16 18 x (aarch64_laws 16 (lit< tt)) (entry_stores Aarch64) s5 t6 refl al5 refl far h5 in
-    let seven = load_general_row s6 x 16 16 528 t7 (lit< tt) (lit< tt) refl (lit< tt) came.aligned (no_sp 16 s6.sp (lit< tt)) came.base reads.1 reads.0 came.stands in
+    let seven = load_general_row s6 x 16 16 528 t7 (lit< tt) (lit< tt) refl (lit< tt) came.aligned (no_sp 16 s6.sp (lit< tt)) came.base reads.0 (kept_in Aarch64 s6 x 528 (lit≤ tt) above) came.stands in
     let h7 : HasCode s7 s7.pc t7 = onward s6 s7 (aarch64_row 0 (load (G 16) 16 528)) t7 4 refl refl refl came.stands in
     let al7 : s7.pc % 4 ≡ 0 = next_aligned s6.pc s7.pc refl came.aligned in
     let plus : v + 0 ≡ v = nothing_more v in
-    let small : v ≤ half = subst (λ (a : ℕ). a ≤ half) (sym (entry_word s x room above)) low in
+    let small : v ≤ half = subst (λ (a : ℕ). a ≤ half) (sym (entry_word s x room region)) low in
     let eight = sp_row s7 16 0 v [] (lit< tt) (lit< tt) al7 plus small h7 in
     and_then Aarch64 1 44 45 s s1 e refl (one_step Aarch64 s s1 one) (and_then Aarch64 21 23 44 s1 s2 e refl saves.steps (and_then Aarch64 1 22 23 s2 s3 e refl (one_step Aarch64 s2 s3 three) (and_then Aarch64 1 21 22 s3 s4 e refl (one_step Aarch64 s3 s4 four) (and_then Aarch64 1 20 21 s4 s5 e refl (one_step Aarch64 s4 s5 five) (and_then Aarch64 18 2 20 s5 s6 e refl came.steps (and_then Aarch64 1 1 2 s6 s7 e refl (one_step Aarch64 s6 s7 seven) (one_step Aarch64 s7 e eight)))))))
 
@@ -383,13 +380,14 @@ all_in_all : (a b c : ℕ) → b ≡ a + 4 + 84 → c ≡ b + 4 + 4 + 4 + 72 →
 all_in_all a b c e f = omega (arith, e, f)
 
 -- the save area is below the region
-area_apart : (s : Processor) (x : ℕ) → s.sp ≤ x → 176 ≤ s.sp → (a : ℕ) → s.sp - 176 ≤ a → a < s.sp - 176 + 168 → (entry_passed x s).memory a ≡ (entry_saved s).memory a
+area_apart : (s : Processor) (x : ℕ) → (x + 552 ≤ s.sp - 176) ⊎ (s.sp ≤ x) → 176 ≤ s.sp → (a : ℕ) → s.sp - 176 ≤ a → a < s.sp - 176 + 168 → (entry_passed x s).memory a ≡ (entry_saved s).memory a
 unfolding place misses are_spread
 area_apart s x above room a low high =
-    let below : a < x = omega (arith, high, above, room) in
-    exchange_outside Aarch64 16 x (entry_stores Aarch64) (entry_noted x s) a (inl below) refl ∙ byte_other (x + 536) (s.sp - 176) a (entry_saved s).memory (inl (omega (arith, below)))
+    let below : a < s.sp = omega (arith, high, room) in
+    let out : (a < x) ⊎ (x + 552 ≤ a) = outside_region a x (s.sp - 176) s.sp low below above in
+    exchange_outside Aarch64 16 x (entry_stores Aarch64) (entry_noted x s) a (⊎_elim (λ h. inl h) (λ h. inr (omega (arith, h))) out) refl ∙ byte_other (x + 536) (s.sp - 176) a (entry_saved s).memory (⊎_elim (λ h. inl (omega (arith, h))) (λ h. inr (omega (arith, h))) out)
 
-has_entered : (s : Processor) (from x : ℕ) → s.sp ≤ x → 176 ≤ s.sp → HasEntered Aarch64 x (s.pc + length (host_bytes Aarch64 from 0 Entry)) s (after_entry x s)
+has_entered : (s : Processor) (from x : ℕ) → (x + 552 ≤ s.sp - 176) ⊎ (s.sp ≤ x) → 176 ≤ s.sp → HasEntered Aarch64 x (s.pc + length (host_bytes Aarch64 from 0 Entry)) s (after_entry x s)
 unfolding host_bytes place misses are_spread
 has_entered s from x above room =
     let w : Processor = entry_fallen s in
@@ -416,6 +414,10 @@ has_entered s from x above room =
     }
 
 pub enters : (from : ℕ) → from < 31 → from ≢ 31 → Enters Aarch64 from (host_bytes Aarch64 from 0 Entry)
-enters from in_range not_sp s is sixteen room to =
+enters from in_range not_sp s is sixteen low room to =
     let x : ℕ = s.general from in
-    (after_entry x s, in_turn Aarch64 45 s (after_entry x s) (entry_runs s from in_range not_sp is.aligned sixteen is.high is.above room (to_in_half s.sp x (word_at (x + 528) s) is.above is.high to) is.code), has_entered s from x is.above room)
+    let fits : 176 ≤ s.sp = omega (arith, room) in
+    let in_stack : s.limit ≤ s.sp - 176 = omega (arith, room) in
+    let region : (x + 552 ≤ s.sp - 176) ⊎ (s.sp ≤ x) = apart_from x s.limit (s.sp - 176) s.sp in_stack is.region in
+    let after : IsRegionKept x (s.sp - 176) s = ⊎_elim (λ h. inl h) (λ h. inr (omega (arith, h))) is.region in
+    (after_entry x s, in_turn Aarch64 45 s (after_entry x s) (entry_runs s from in_range not_sp is.aligned sixteen is.high after low region fits (to_in_half s.sp (word_at (x + 528) s) low to) is.code), has_entered s from x region fits)

@@ -1,5 +1,5 @@
 -- What each row of AMD64's tables does.
-use Rattle.std.proofs.Common.{inr, ◌≡◌, ◌≢◌, ℕ, ◌+◌, ◌-◌, ◌*◌, ◌/◌, ◌%◌, ◌<◌, ◌≤◌, Bool, true, false, if◌then◌else◌, List, ◌++◌, length, refl, sym, ap, ◌∙◌, arith, ℤ, pos, negsuc}
+use Rattle.std.proofs.Common.{subst, inr, ◌≡◌, ◌≢◌, ℕ, ◌+◌, ◌-◌, ◌*◌, ◌/◌, ◌%◌, ◌<◌, ◌≤◌, Bool, true, false, if◌then◌else◌, List, ◌++◌, length, refl, sym, ap, ◌∙◌, arith, ℤ, pos, negsuc}
 use Rattle.std.proofs.lemmas.Bool.Decides.{nat_tests}
 use Rattle.std.proofs.lemmas.Nat.{from_le_bytes-to_le_bytes_4}
 use Rattle.std.specs.Prelude.{nat_lt, ◌==◌}
@@ -11,7 +11,7 @@ use Rattle.ffi3_type_rules.specs.declared.Isa.TheVariants.{Amd64}
 use Rattle.ffi3_place_rules.specs.declared.Loc.TheVariants.{G, F}
 use Rattle.ffi3_machine.specs.Stubs.{load, store, sum, jump, calls_at, returns, amd64_row}
 use Rattle.ffi3_machine.specs.Step.{moved}
-use Rattle.ffi3_host_stubs.specs.Processor.{Processor, half, word_at, set_at, put_word, next, listed, move_of, Steps, HasCode}
+use Rattle.ffi3_host_stubs.specs.Processor.{Processor, half, word_at, set_at, put_word, next, listed, move_of, IsKept, Steps, HasCode}
 use Rattle.ffi3_host_stubs.specs.Stubs.{copy_bytes}
 use Rattle.ffi3_host_stubs.proofs.Effects.{received, with_sp_by, stored}
 use Rattle.ffi3_host_stubs.proofs.Standing.{plain, wraps, unmoved, along, ends}
@@ -63,7 +63,7 @@ copy_row s from tail in_range listed_k low h =
     }
 
 -- a general register from [r11 + o]
-pub load_general_row : (s : Processor) (x k o : ℕ) (tail : List ℕ) → k < 16 → k ≢ 4 → o < 2147483648 → s.general 11 ≡ x → x + o ≤ half → s.sp ≤ x + o → HasCode s s.pc (amd64_row 0 (load (G k) 11 o) ++ tail) → Steps Amd64 s (received 7 (G k) (word_at (x + o) s) s)
+pub load_general_row : (s : Processor) (x k o : ℕ) (tail : List ℕ) → k < 16 → k ≢ 4 → o < 2147483648 → s.general 11 ≡ x → x + o ≤ half → IsKept Amd64 (x + o) s → HasCode s s.pc (amd64_row 0 (load (G k) 11 o) ++ tail) → Steps Amd64 s (received 7 (G k) (word_at (x + o) s) s)
 unfolding disp
 load_general_row s x k o tail in_range listed_k near at far above h =
     let row : List ℕ = amd64_row 0 (load (G k) 11 o) in
@@ -78,12 +78,12 @@ load_general_row s x k o tail in_range listed_k near at far above h =
       aligned = tt;
       stands = listed (mov_at_r11 (record { prefix = rex 1 (k / 8) 0 1; op = 0x8B; mod_reg_rm = mod_rm 2 (k % 8) 3; register = k; a = byte_at 0 o; b = byte_at 1 o; c = byte_at 2 o; d = byte_at 3 o; rest = tail; is_bytes = h.are; names = record { r = k / 8; reg = k % 8; r_in_range = omega arith; reg_in_range = omega arith; is_prefix = refl; is_mod_rm = refl; is_register = omega arith }; means = refl; is_size = refl }));
       based = λ e. tt;
-      kept = inr (loads_there s.sp (moved (s.general 11) (disp o)) (x + o) to (omega (arith, above)));
+      kept = subst (λ (a : ℕ). IsKept Amd64 a s) (sym to) above;
       is_after = sym (ap (λ (b : Bool). shape b (word_at (moved (s.general 11) (disp o)) s) (next 7 s)) is_other ∙ ap (λ (a : ℕ). shape false (word_at a s) (next 7 s)) to ∙ ap (λ (n : ℕ). shape false (word_at (x + o) s) n) behind);
     }
 
 -- sp from [r11 + o]
-pub load_sp_row : (s : Processor) (x o : ℕ) (tail : List ℕ) → o < 2147483648 → s.general 11 ≡ x → x + o ≤ half → s.sp ≤ x + o → HasCode s s.pc (amd64_row 0 (load (G 4) 11 o) ++ tail) → Steps Amd64 s (with_sp_by 7 (word_at (x + o) s) s)
+pub load_sp_row : (s : Processor) (x o : ℕ) (tail : List ℕ) → o < 2147483648 → s.general 11 ≡ x → x + o ≤ half → IsKept Amd64 (x + o) s → HasCode s s.pc (amd64_row 0 (load (G 4) 11 o) ++ tail) → Steps Amd64 s (with_sp_by 7 (word_at (x + o) s) s)
 unfolding disp
 load_sp_row s x o tail near at far above h =
     let row : List ℕ = amd64_row 0 (load (G 4) 11 o) in
@@ -97,12 +97,12 @@ load_sp_row s x o tail near at far above h =
       aligned = tt;
       stands = listed (mov_at_r11 (record { prefix = rex 1 0 0 1; op = 0x8B; mod_reg_rm = mod_rm 2 4 3; register = 4; a = byte_at 0 o; b = byte_at 1 o; c = byte_at 2 o; d = byte_at 3 o; rest = tail; is_bytes = h.are; names = record { r = 0; reg = 4; r_in_range = omega arith; reg_in_range = omega arith; is_prefix = refl; is_mod_rm = refl; is_register = refl }; means = refl; is_size = refl }));
       based = λ e. tt;
-      kept = inr (loads_there s.sp (moved (s.general 11) (disp o)) (x + o) to (omega (arith, above)));
+      kept = subst (λ (a : ℕ). IsKept Amd64 a s) (sym to) above;
       is_after = sym (ap (λ (a : ℕ). shape (word_at a s) (next 7 s)) to ∙ ap (λ (n : ℕ). shape (word_at (x + o) s) n) behind);
     }
 
 -- a floating register from [r11 + o]
-pub load_floating_row : (s : Processor) (x k o : ℕ) (tail : List ℕ) → k < 8 → o < 2147483648 → s.general 11 ≡ x → x + o ≤ half → s.sp ≤ x + o → HasCode s s.pc (amd64_row 0 (load (F k) 11 o) ++ tail) → Steps Amd64 s (received 9 (F k) (word_at (x + o) s) s)
+pub load_floating_row : (s : Processor) (x k o : ℕ) (tail : List ℕ) → k < 8 → o < 2147483648 → s.general 11 ≡ x → x + o ≤ half → IsKept Amd64 (x + o) s → HasCode s s.pc (amd64_row 0 (load (F k) 11 o) ++ tail) → Steps Amd64 s (received 9 (F k) (word_at (x + o) s) s)
 unfolding disp
 load_floating_row s x k o tail in_range near at far above h =
     let row : List ℕ = amd64_row 0 (load (F k) 11 o) in
@@ -116,7 +116,7 @@ load_floating_row s x k o tail in_range near at far above h =
       aligned = tt;
       stands = listed (movsd_at_r11 (record { op = 0x10; register = k; a = byte_at 0 o; b = byte_at 1 o; c = byte_at 2 o; d = byte_at 3 o; rest = tail; is_bytes = h.are; in_range = in_range; means = refl; is_size = refl }));
       based = λ e. tt;
-      kept = inr (loads_there s.sp (moved (s.general 11) (disp o)) (x + o) to (omega (arith, above)));
+      kept = subst (λ (a : ℕ). IsKept Amd64 a s) (sym to) above;
       is_after = sym (ap (λ (a : ℕ). shape (word_at a s) (next 9 s)) to ∙ ap (λ (n : ℕ). shape (word_at (x + o) s) n) behind);
     }
 
@@ -260,13 +260,13 @@ abbrev pub pushed : ℕ → ℕ → Processor → Processor
 pushed size to s = record s { sp = s.sp - 8; memory = put_word (s.sp - 8) (s.pc + size) s.memory; pc = to }
 
 -- call [r11 + o]
-pub call_row : (s : Processor) (x o : ℕ) (tail : List ℕ) → o < 2147483648 → s.general 11 ≡ x → x + o ≤ half → s.sp ≤ x + o → 8 ≤ s.sp → HasCode s s.pc (amd64_row 0 (jump (calls_at 11 o)) ++ tail) → Steps Amd64 s (pushed 7 (word_at (x + o) s) s)
+pub call_row : (s : Processor) (x o : ℕ) (tail : List ℕ) → o < 2147483648 → s.general 11 ≡ x → x + o ≤ half → IsKept Amd64 (x + o) s → 8 ≤ s.sp → s.sp ≤ half → HasCode s s.pc (amd64_row 0 (jump (calls_at 11 o)) ++ tail) → Steps Amd64 s (pushed 7 (word_at (x + o) s) s)
 unfolding disp
-call_row s x o tail near at far above room h =
+call_row s x o tail near at far above room low h =
     let row : List ℕ = amd64_row 0 (jump (calls_at 11 o)) in
     let behind : next 7 s ≡ s.pc + 7 = along s 7 (ends s row tail 7 refl h) in
     let to : moved (s.general 11) (disp o) ≡ x + o = up (s.general 11) o (x + o) near (ap (λ b. b + o) at) far in
-    let sp : moved s.sp (negsuc 7) ≡ s.sp - 8 = wraps s.sp 18446744073709551608 (s.sp - 8) (omega (arith, room)) (omega (arith, above, far)) in
+    let sp : moved s.sp (negsuc 7) ≡ s.sp - 8 = wraps s.sp 18446744073709551608 (s.sp - 8) (omega (arith, room)) (omega (arith, low)) in
     let shape : ℕ → ℕ → ℕ → Processor = λ p n pc. record s { sp = p; memory = put_word p n s.memory; pc = pc } in
     record {
       instr = CallMem 11 (disp o);
@@ -275,7 +275,7 @@ call_row s x o tail near at far above room h =
       aligned = tt;
       stands = listed (fixed (call h.are));
       based = tt;
-      kept = inr (loads_there s.sp (moved (s.general 11) (disp o)) (x + o) to (omega (arith, above)));
+      kept = subst (λ (a : ℕ). IsKept Amd64 a s) (sym to) above;
       is_after = sym (ap (λ (p : ℕ). shape p (next 7 s) (word_at (moved (s.general 11) (disp o)) s)) sp ∙ ap (λ (n : ℕ). shape (s.sp - 8) n (word_at (moved (s.general 11) (disp o)) s)) behind ∙ ap (λ (a : ℕ). shape (s.sp - 8) (s.pc + 7) (word_at a s)) to);
     }
 

@@ -8,8 +8,9 @@ use Rattle.ffi3_place_rules.specs.declared.Loc.TheVariants.{G, F, S}
 use Rattle.ffi3_machine.specs.Stubs.{Row, load, store, amd64_row, exchange_loads, exchange_stores, area_loads, area_stores}
 use Rattle.ffi3_stubs.proofs.Amd64Segments.{is_plain, are_moved, are_saved}
 use Rattle.ffi3_host_stubs.specs.Processor.{Processor, half, word_at, set_at, Steps, HasCode}
+use Rattle.ffi3_host_stubs.specs.Calls.{IsRegionKept}
 use Rattle.ffi3_host_stubs.proofs.Effects.{received, stored, from_exchange, to_exchange, from_area, to_area}
-use Rattle.ffi3_host_stubs.proofs.Standing.{onward, TakesBy, one_step, none_taken, and_then}
+use Rattle.ffi3_host_stubs.proofs.Standing.{kept_in, onward, TakesBy, one_step, none_taken, and_then}
 use Rattle.ffi3_host_stubs.proofs.Memory.{both, less, unlike}
 use Rattle.ffi3_host_stubs.proofs.Amd64Rows.{load_general_row, load_floating_row, load_area_row, store_general_row, store_floating_row, store_area_row}
 
@@ -53,7 +54,7 @@ kept_base general k v x ne h =
     let other : (11 == k) ≡ false = grind (arith, nat_tests) in
     ap (λ (b : Bool). if b then v else general 11) other ∙ h
 
-pub exchange_loaded : (x : ℕ) (ls : List Loc) (s : Processor) (tail : List ℕ) → are_moved ls ≡ true → s.general 11 ≡ x → x + 552 ≤ half → s.sp ≤ x → HasCode s s.pc (row_list (exchange_loads 11 ls) ++ tail) → Came s (from_exchange Amd64 11 x ls s) x (length ls) tail
+pub exchange_loaded : (x : ℕ) (ls : List Loc) (s : Processor) (tail : List ℕ) → are_moved ls ≡ true → s.general 11 ≡ x → x + 552 ≤ half → IsRegionKept x s.sp s → HasCode s s.pc (row_list (exchange_loads 11 ls) ++ tail) → Came s (from_exchange Amd64 11 x ls s) x (length ls) tail
 unfolding are_moved row_list
 exchange_loaded x [] s tail ok base far above h = record { steps = none_taken Amd64 s; stands = h; base = base }
 exchange_loaded x (G k ∷ ls) s tail ok base far above h =
@@ -64,7 +65,7 @@ exchange_loaded x (G k ∷ ls) s tail ok base far above h =
     let m : Processor = received 7 (G k) v s in
     let rest : List ℕ = row_list (exchange_loads 11 ls) ++ tail in
     let row : List ℕ = amd64_row 0 (load (G k) 11 (8 * k)) in
-    let step : Steps Amd64 s m = load_general_row s x k (8 * k) rest plain.in_range plain.not_sp (omega (arith, small)) base (omega (arith, small, far)) (omega (arith, above)) h in
+    let step : Steps Amd64 s m = load_general_row s x k (8 * k) rest plain.in_range plain.not_sp (omega (arith, small)) base (omega (arith, small, far)) (kept_in Amd64 s x (8 * k) (omega (arith, small)) above) h in
     joined s m _ x (length ls) tail step (exchange_loaded x ls m tail parts.1 (kept_base s.general k v x plain.not_base base) far above (onward s m row rest 7 refl refl refl h))
 exchange_loaded x (F k ∷ ls) s tail ok base far above h =
     let parts = both (nat_lt k 8) (are_moved ls) ok in
@@ -73,7 +74,7 @@ exchange_loaded x (F k ∷ ls) s tail ok base far above h =
     let m : Processor = received 9 (F k) v s in
     let rest : List ℕ = row_list (exchange_loads 11 ls) ++ tail in
     let row : List ℕ = amd64_row 0 (load (F k) 11 (256 + 8 * k)) in
-    let step : Steps Amd64 s m = load_floating_row s x k (256 + 8 * k) rest small (omega (arith, small)) base (omega (arith, small, far)) (omega (arith, above)) h in
+    let step : Steps Amd64 s m = load_floating_row s x k (256 + 8 * k) rest small (omega (arith, small)) base (omega (arith, small, far)) (kept_in Amd64 s x (256 + 8 * k) (omega (arith, small)) above) h in
     joined s m _ x (length ls) tail step (exchange_loaded x ls m tail parts.1 base far above (onward s m row rest 9 refl refl refl h))
 exchange_loaded x (S k ∷ ls) s tail ok base far above h = absurd cc
 

@@ -1,5 +1,5 @@
 -- The four stubs of AMD64, wherever they and the exchange region stand.
-use Rattle.std.proofs.Common.{◌≡◌, ◌≢◌, inl, inr, ⊎_elim, ℕ, ◌+◌, ◌-◌, ◌*◌, ◌<◌, ◌≤◌, false, List, [], ◌++◌, length, refl, ap, ◌∙◌, arith, pos, negsuc}
+use Rattle.std.proofs.Common.{◌≡◌, ◌≢◌, ◌⊎◌, inl, inr, ⊎_elim, ℕ, ◌+◌, ◌-◌, ◌*◌, ◌<◌, ◌≤◌, false, List, [], ◌++◌, length, refl, ap, ◌∙◌, arith, pos, negsuc}
 use Rattle.ffi3_memory.specs.Memory.{number_of, low_bytes}
 use Rattle.ffi3_type_rules.specs.declared.Isa.TheVariants.{Amd64}
 use Rattle.ffi3_place_rules.specs.declared.Loc.{Loc}
@@ -11,8 +11,8 @@ use Rattle.ffi3_stubs.proofs.Amd64Segments.{is_plain, are_moved, are_saved}
 use Rattle.ffi3_stubs.proofs.Reading.{are_apart, are_disjoint, place, misses, are_spread, in_neither}
 use Rattle.ffi3_host_stubs.specs.Processor.{Processor, half, bytes_at, word_at, HasCode}
 use Rattle.ffi3_host_stubs.specs.Stubs.{copy_bytes, host_bytes}
-use Rattle.ffi3_host_stubs.specs.Calls.{held, IsOutside, HasCalled, Calls, HasReturned, Returns, HasEntered, Enters, HasLeft, Leaves}
-use Rattle.ffi3_host_stubs.proofs.Standing.{onward, TakesBy, one_step, and_then, in_turn}
+use Rattle.ffi3_host_stubs.specs.Calls.{held, IsOutside, IsRegionKept, HasCalled, Calls, HasReturned, Returns, HasEntered, Enters, HasLeft, Leaves}
+use Rattle.ffi3_host_stubs.proofs.Standing.{kept_in, outside_region, apart_from, region_outside, onward, TakesBy, one_step, and_then, in_turn}
 use Rattle.ffi3_host_stubs.proofs.Effects.{received, with_sp_by, stored, from_exchange, to_exchange, from_area, to_area}
 use Rattle.ffi3_host_stubs.proofs.Memory.{neither, byte_other, word_put, bytes_other, bytes_alike, set_other, exchange_others, area_others, came_from_exchange, came_from_area, exchange_outside, places_outside, exchange_beyond, went_to_exchange, area_outside, went_to_area, went_from, area_still, came_still}
 use Rattle.ffi3_host_stubs.proofs.Amd64Rows.{copy_row, load_sp_row, store_sp_row, pushed, call_row, popped, return_row, rise_row, fall_row}
@@ -29,9 +29,9 @@ call_loaded x s = from_exchange Amd64 11 x (call_loads Amd64) (call_placed x s)
 abbrev after_call : ℕ → Processor → Processor
 after_call x s = pushed 7 (word_at (x + 512) (call_loaded x s)) (call_loaded x s)
 
-call_runs : (s : Processor) (from : ℕ) → from < 16 → from ≢ 4 → s.general from + 552 ≤ half → s.sp ≤ s.general from → 8 ≤ word_at (s.general from + 520) s → word_at (s.general from + 520) s ≤ s.general from → HasCode s s.pc (host_bytes Amd64 from 0 Call) → TakesBy Amd64 18 s (after_call (s.general from) s)
+call_runs : (s : Processor) (from : ℕ) → from < 16 → from ≢ 4 → s.general from + 552 ≤ half → IsRegionKept (s.general from) s.sp s → 8 ≤ word_at (s.general from + 520) s → word_at (s.general from + 520) s ≤ half → IsRegionKept (s.general from) (word_at (s.general from + 520) s) s → HasCode s s.pc (host_bytes Amd64 from 0 Call) → TakesBy Amd64 18 s (after_call (s.general from) s)
 unfolding host_bytes row_list is_plain are_moved
-call_runs s from in_range not_sp far above room under h =
+call_runs s from in_range not_sp far above room low under h =
     let x : ℕ = s.general from in
     let t3 : List ℕ = amd64_row 0 (jump (calls_at 11 512)) ++ [] in
     let t2 : List ℕ = row_list (exchange_loads 11 (call_loads Amd64)) ++ t3 in
@@ -42,10 +42,10 @@ call_runs s from in_range not_sp far above room under h =
     let e : Processor = after_call x s in
     let one = copy_row s from t1 in_range not_sp (omega (arith, far)) h in
     let h1 : HasCode s1 s1.pc t1 = onward s s1 (copy_bytes Amd64 11 from) t1 3 refl refl refl h in
-    let two = load_sp_row s1 x 520 t2 (omega arith) refl (omega (arith, far)) (omega (arith, above)) h1 in
+    let two = load_sp_row s1 x 520 t2 (omega arith) refl (omega (arith, far)) (kept_in Amd64 s1 x 520 (omega arith) above) h1 in
     let h2 : HasCode s2 s2.pc t2 = onward s1 s2 (amd64_row 0 (load (G 4) 11 520)) t2 7 refl refl refl h1 in
     let came : Came s2 s3 x 15 t3 = exchange_loaded x (call_loads Amd64) s2 t3 refl refl far under h2 in
-    let last = call_row s3 x 512 [] (omega arith) came.base (omega (arith, far)) (omega (arith, under)) room came.stands in
+    let last = call_row s3 x 512 [] (omega arith) came.base (omega (arith, far)) (kept_in Amd64 s3 x 512 (omega arith) under) room low came.stands in
     and_then Amd64 1 17 18 s s1 e refl (one_step Amd64 s s1 one) (and_then Amd64 1 16 17 s1 s2 e refl (one_step Amd64 s1 s2 two) (and_then Amd64 15 1 16 s2 s3 e refl came.steps (one_step Amd64 s3 e last)))
 
 has_called : (s : Processor) (from x : ℕ) → 8 ≤ word_at (x + 520) s → HasCalled Amd64 x (s.pc + length (host_bytes Amd64 from 0 Call)) s (after_call x s)
@@ -68,9 +68,10 @@ has_called s from x room =
     }
 
 pub calls_by : (from : ℕ) → from < 16 → from ≢ 4 → Calls Amd64 from (host_bytes Amd64 from 0 Call)
-calls_by from in_range not_sp s is room over under callee =
+calls_by from in_range not_sp s is room over low under callee =
     let x : ℕ = s.general from in
-    (after_call x s, in_turn Amd64 18 s (after_call x s) (call_runs s from in_range not_sp is.high is.above room under is.code), has_called s from x room)
+    let pushed_there : 8 ≤ word_at (x + 520) s = omega (arith, room) in
+    (after_call x s, in_turn Amd64 18 s (after_call x s) (call_runs s from in_range not_sp is.high is.region pushed_there low under is.code), has_called s from x pushed_there)
 
 -- ---- Return
 
@@ -80,7 +81,7 @@ return_taken x s = to_exchange Amd64 11 x (result_loads Amd64) (received 3 (G 11
 abbrev after_return : ℕ → Processor → Processor
 after_return x s = with_sp_by 7 (word_at (x + 544) (return_taken x s)) (return_taken x s)
 
-return_runs : (s : Processor) (from : ℕ) → from < 16 → from ≢ 4 → s.general from + 552 ≤ half → s.sp ≤ s.general from → HasCode s s.pc (host_bytes Amd64 from 0 Return) → TakesBy Amd64 6 s (after_return (s.general from) s)
+return_runs : (s : Processor) (from : ℕ) → from < 16 → from ≢ 4 → s.general from + 552 ≤ half → IsRegionKept (s.general from) s.sp s → HasCode s s.pc (host_bytes Amd64 from 0 Return) → TakesBy Amd64 6 s (after_return (s.general from) s)
 unfolding host_bytes row_list is_plain are_moved
 return_runs s from in_range not_sp far above h =
     let x : ℕ = s.general from in
@@ -92,7 +93,7 @@ return_runs s from in_range not_sp far above h =
     let one = copy_row s from t1 in_range not_sp (omega (arith, far)) h in
     let h1 : HasCode s1 s1.pc t1 = onward s s1 (copy_bytes Amd64 11 from) t1 3 refl refl refl h in
     let came : Came s1 s2 x 4 t2 = exchange_stored x (result_loads Amd64) s1 t2 refl refl far h1 in
-    let last = load_sp_row s2 x 544 [] (omega arith) came.base (omega (arith, far)) (omega (arith, above)) came.stands in
+    let last = load_sp_row s2 x 544 [] (omega arith) came.base (omega (arith, far)) (kept_in Amd64 s2 x 544 (omega arith) above) came.stands in
     and_then Amd64 1 5 6 s s1 e refl (one_step Amd64 s s1 one) (and_then Amd64 4 1 5 s1 s2 e refl came.steps (one_step Amd64 s2 e last))
 
 has_returned : (s : Processor) (from x : ℕ) → HasReturned Amd64 x (s.pc + length (host_bytes Amd64 from 0 Return)) s (after_return x s)
@@ -113,9 +114,9 @@ has_returned s from x =
     }
 
 pub returns_back : (from : ℕ) → from < 16 → from ≢ 4 → Returns Amd64 from (host_bytes Amd64 from 0 Return)
-returns_back from in_range not_sp s is small =
+returns_back from in_range not_sp s is small under =
     let x : ℕ = s.general from in
-    (after_return x s, in_turn Amd64 6 s (after_return x s) (return_runs s from in_range not_sp is.high is.above is.code), has_returned s from x)
+    (after_return x s, in_turn Amd64 6 s (after_return x s) (return_runs s from in_range not_sp is.high is.region is.code), has_returned s from x)
 
 -- ---- Exit
 
@@ -134,7 +135,7 @@ exit_raised x gap s = with_sp_by 8 ((exit_given x s).sp + (56 + gap)) (exit_give
 abbrev after_exit : ℕ → ℕ → Processor → Processor
 after_exit x gap s = popped (exit_raised x gap s)
 
-exit_runs : (s : Processor) (from gap : ℕ) → from < 16 → from ≢ 4 → gap ≤ 1024 → s.general from + 552 ≤ half → s.sp ≤ s.general from → word_at (s.general from + 536) s ≤ s.general from → word_at (s.general from + 536) s + (56 + gap) + 8 ≤ half → HasCode s s.pc (host_bytes Amd64 from gap Exit) → TakesBy Amd64 14 s (after_exit (s.general from) gap s)
+exit_runs : (s : Processor) (from gap : ℕ) → from < 16 → from ≢ 4 → gap ≤ 1024 → s.general from + 552 ≤ half → IsRegionKept (s.general from) s.sp s → IsRegionKept (s.general from) (word_at (s.general from + 536) s) s → word_at (s.general from + 536) s + (56 + gap) + 8 ≤ half → HasCode s s.pc (host_bytes Amd64 from gap Exit) → TakesBy Amd64 14 s (after_exit (s.general from) gap s)
 unfolding host_bytes row_list is_plain are_moved are_saved
 exit_runs s from gap in_range not_sp room far above under top h =
     let x : ℕ = s.general from in
@@ -151,7 +152,7 @@ exit_runs s from gap in_range not_sp room far above under top h =
     let e : Processor = after_exit x gap s in
     let one = copy_row s from t1 in_range not_sp (omega (arith, far)) h in
     let h1 : HasCode s1 s1.pc t1 = onward s s1 (copy_bytes Amd64 11 from) t1 3 refl refl refl h in
-    let two = load_sp_row s1 x 536 t2 (omega arith) refl (omega (arith, far)) (omega (arith, above)) h1 in
+    let two = load_sp_row s1 x 536 t2 (omega arith) refl (omega (arith, far)) (kept_in Amd64 s1 x 536 (omega arith) above) h1 in
     let h2 : HasCode s2 s2.pc t2 = onward s1 s2 (amd64_row 0 (load (G 4) 11 536)) t2 7 refl refl refl h1 in
     let back : Came s2 s3 x 6 t3 = area_loaded x (callee_saved_words Amd64) s2 0 t3 refl refl (omega arith) (omega (arith, top)) h2 in
     let given : Came s3 s4 x 4 t4 = exchange_loaded x (result_loads Amd64) s3 t4 refl back.base far under back.stands in
@@ -186,7 +187,7 @@ has_left s x gap =
 pub leaves : (from gap : ℕ) → from < 16 → from ≢ 4 → gap ≤ 1024 → Leaves Amd64 from gap (host_bytes Amd64 from gap Exit)
 leaves from gap in_range not_sp room s is sixteen over under back top =
     let x : ℕ = s.general from in
-    (after_exit x gap s, in_turn Amd64 14 s (after_exit x gap s) (exit_runs s from gap in_range not_sp room is.high is.above under top is.code), has_left s x gap)
+    (after_exit x gap s, in_turn Amd64 14 s (after_exit x gap s) (exit_runs s from gap in_range not_sp room is.high is.region under top is.code), has_left s x gap)
 
 -- ---- Entry
 
@@ -208,9 +209,9 @@ entry_passed x s = to_exchange Amd64 11 x (entry_stores Amd64) (entry_noted x s)
 abbrev after_entry : ℕ → Processor → Processor
 after_entry x s = with_sp_by 7 (word_at (x + 528) (entry_passed x s)) (entry_passed x s)
 
-entry_runs : (s : Processor) (from : ℕ) → from < 16 → from ≢ 4 → s.general from + 552 ≤ half → s.sp ≤ s.general from → 56 ≤ s.sp → HasCode s s.pc (host_bytes Amd64 from 0 Entry) → TakesBy Amd64 26 s (after_entry (s.general from) s)
+entry_runs : (s : Processor) (from : ℕ) → from < 16 → from ≢ 4 → s.general from + 552 ≤ half → IsRegionKept (s.general from) (s.sp - 56) s → 56 ≤ s.sp → s.sp ≤ half → HasCode s s.pc (host_bytes Amd64 from 0 Entry) → TakesBy Amd64 26 s (after_entry (s.general from) s)
 unfolding host_bytes row_list is_plain are_moved are_saved
-entry_runs s from in_range not_sp far above room h =
+entry_runs s from in_range not_sp far above room low h =
     let x : ℕ = s.general from in
     let t5 : List ℕ = amd64_row 0 (load (G 4) 11 528) ++ [] in
     let t4 : List ℕ = row_list (exchange_stores 11 (entry_stores Amd64)) ++ t5 in
@@ -223,18 +224,18 @@ entry_runs s from in_range not_sp far above room h =
     let s4 : Processor = entry_noted x s in
     let s5 : Processor = entry_passed x s in
     let e : Processor = after_entry x s in
-    let one = fall_row s (s.sp - 56) t1 (omega (arith, room)) (omega (arith, far, above)) h in
+    let one = fall_row s (s.sp - 56) t1 (omega (arith, room)) low h in
     let h1 : HasCode s1 s1.pc t1 = onward s s1 (amd64_row 0 (sum 4 4 (negsuc 55))) t1 8 refl refl refl h in
-    let saves = area_stored (stub_area Amd64) s1 0 t2 refl (omega arith) (omega (arith, far, above)) h1 in
+    let saves = area_stored (stub_area Amd64) s1 0 t2 refl (omega arith) (omega (arith, low, room)) h1 in
     let three = copy_row s2 from t3 in_range not_sp (omega (arith, far)) saves.stands in
     let h3 : HasCode s3 s3.pc t3 = onward s2 s3 (copy_bytes Amd64 11 from) t3 3 refl refl refl saves.stands in
     let four = store_sp_row s3 x 536 t4 (omega arith) refl (omega (arith, far)) h3 in
     let h4 : HasCode s4 s4.pc t4 = onward s3 s4 (amd64_row 0 (store (G 4) 11 536)) t4 7 refl refl refl h3 in
     let came : Came s4 s5 x 15 t5 = exchange_stored x (entry_stores Amd64) s4 t5 refl refl far h4 in
-    let last = load_sp_row s5 x 528 [] (omega arith) came.base (omega (arith, far)) (omega (arith, above)) came.stands in
+    let last = load_sp_row s5 x 528 [] (omega arith) came.base (omega (arith, far)) (kept_in Amd64 s5 x 528 (omega arith) above) came.stands in
     and_then Amd64 1 25 26 s s1 e refl (one_step Amd64 s s1 one) (and_then Amd64 7 18 25 s1 s2 e refl saves.steps (and_then Amd64 1 17 18 s2 s3 e refl (one_step Amd64 s2 s3 three) (and_then Amd64 1 16 17 s3 s4 e refl (one_step Amd64 s3 s4 four) (and_then Amd64 15 1 16 s4 s5 e refl came.steps (one_step Amd64 s5 e last)))))
 
-has_entered : (s : Processor) (from x : ℕ) → s.sp ≤ x → 56 ≤ s.sp → HasEntered Amd64 x (s.pc + length (host_bytes Amd64 from 0 Entry)) s (after_entry x s)
+has_entered : (s : Processor) (from x : ℕ) → (x + 552 ≤ s.sp - 56) ⊎ (s.sp ≤ x) → 56 ≤ s.sp → HasEntered Amd64 x (s.pc + length (host_bytes Amd64 from 0 Entry)) s (after_entry x s)
 unfolding host_bytes place misses are_spread
 has_entered s from x above room =
     let w : Processor = entry_fallen s in
@@ -245,8 +246,11 @@ has_entered s from x above room =
     let behind : e.pc ≡ s.pc + length (host_bytes Amd64 from 0 Entry) = omega arith in
     let around : (a : ℕ) → IsOutside v s.sp a → (entry_saved s).memory a ≡ s.memory a = λ a out. area_outside Amd64 0 (stub_area Amd64) w a (⊎_elim (λ h. inl (omega (arith, h))) (λ h. inr (omega (arith, h, room))) out) in
     let same : (l : Loc) → same_loc l (G 11) ≡ false → held l t ≡ held l s = λ l out. set_other 11 x l s t refl refl out in
-    let area : (a : ℕ) → v ≤ a → a < v + 8 * length (stub_area Amd64) → e.memory a ≡ (entry_saved s).memory a = λ a low high. exchange_outside Amd64 11 x (entry_stores Amd64) t a (inl (omega (arith, high, above, room))) refl ∙ byte_other (x + 536) v a (entry_saved s).memory (inl (omega (arith, high, above, room))) in
-    let word : bytes_at (entry_saved s).memory (x + 528) 8 ≡ bytes_at s.memory (x + 528) 8 = bytes_alike (entry_saved s).memory s.memory (x + 528) 8 (λ a low high. around a (inr (omega (arith, low, above)))) in
+    let area : (a : ℕ) → v ≤ a → a < v + 8 * length (stub_area Amd64) → e.memory a ≡ (entry_saved s).memory a = λ a low high.
+    let below : a < s.sp = omega (arith, high, room) in
+    let out : (a < x) ⊎ (x + 552 ≤ a) = outside_region a x v s.sp low below above in
+    exchange_outside Amd64 11 x (entry_stores Amd64) t a (⊎_elim (λ h. inl h) (λ h. inr (omega (arith, h))) out) refl ∙ byte_other (x + 536) v a (entry_saved s).memory (⊎_elim (λ h. inl (omega (arith, h))) (λ h. inr (omega (arith, h))) out) in
+    let word : bytes_at (entry_saved s).memory (x + 528) 8 ≡ bytes_at s.memory (x + 528) 8 = bytes_alike (entry_saved s).memory s.memory (x + 528) 8 (λ a low high. around a (region_outside a x v s.sp (omega (arith, low)) (omega (arith, high)) above)) in
     record {
       saved = area_still v (stub_area Amd64) s (entry_saved s) e area (went_to_area Amd64 0 v (stub_area Amd64) w first);
       stored = went_from 11 x (entry_stores Amd64) s t e refl same (went_to_exchange Amd64 11 x (entry_stores Amd64) t refl);
@@ -260,6 +264,10 @@ has_entered s from x above room =
     }
 
 pub enters : (from : ℕ) → from < 16 → from ≢ 4 → Enters Amd64 from (host_bytes Amd64 from 0 Entry)
-enters from in_range not_sp s is sixteen room to =
+enters from in_range not_sp s is sixteen low room to =
     let x : ℕ = s.general from in
-    (after_entry x s, in_turn Amd64 26 s (after_entry x s) (entry_runs s from in_range not_sp is.high is.above room is.code), has_entered s from x is.above room)
+    let fits : 56 ≤ s.sp = omega (arith, room) in
+    let in_stack : s.limit ≤ s.sp - 56 = omega (arith, room) in
+    let region : (x + 552 ≤ s.sp - 56) ⊎ (s.sp ≤ x) = apart_from x s.limit (s.sp - 56) s.sp in_stack is.region in
+    let after : IsRegionKept x (s.sp - 56) s = ⊎_elim (λ h. inl h) (λ h. inr (omega (arith, h))) is.region in
+    (after_entry x s, in_turn Amd64 26 s (after_entry x s) (entry_runs s from in_range not_sp is.high after fits low is.code), has_entered s from x region fits)

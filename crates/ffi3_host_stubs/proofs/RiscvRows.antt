@@ -14,9 +14,9 @@ use Rattle.ffi3_machine.specs.Step.{moved, even}
 use Rattle.ffi3_stubs.proofs.Places.{word_first, unequal}
 use Rattle.ffi3_stubs.proofs.WordSegments.{fits}
 use Rattle.ffi3_host_stubs.specs.Processor.{Processor, half, bytes_at, word_at, set_at, put_word, base, next, IsStackAligned, IsKept, Steps, HasCode}
-use Rattle.ffi3_host_stubs.specs.Calls.{held}
+use Rattle.ffi3_host_stubs.specs.Calls.{held, IsRegionKept}
 use Rattle.ffi3_host_stubs.proofs.Effects.{received, with_sp_by, stored}
-use Rattle.ffi3_host_stubs.proofs.Standing.{plain, wraps, along, ends}
+use Rattle.ffi3_host_stubs.proofs.Standing.{kept_in, plain, wraps, along, ends}
 use Rattle.ffi3_host_stubs.proofs.Memory.{both, less, unlike}
 use Rattle.ffi3_host_stubs.proofs.WordSegments.{Laws}
 
@@ -65,7 +65,7 @@ load_general_row s x k b o tail in_range nz ns b_range short al at far above h =
     }
 
 -- ld sp, o(b)
-pub load_sp_row : (s : Processor) (x b o : ℕ) (tail : List ℕ) → b < 32 → o < 2048 → s.pc % 4 ≡ 0 → base Riscv b s ≡ x → x + o ≤ half → s.sp ≤ x + o → HasCode s s.pc (riscv_row 0 (load (G 2) b o) ++ tail) → Steps Riscv s (with_sp_by 4 (word_at (x + o) s) s)
+pub load_sp_row : (s : Processor) (x b o : ℕ) (tail : List ℕ) → b < 32 → o < 2048 → s.pc % 4 ≡ 0 → base Riscv b s ≡ x → x + o ≤ half → IsKept Riscv (x + o) s → HasCode s s.pc (riscv_row 0 (load (G 2) b o) ++ tail) → Steps Riscv s (with_sp_by 4 (word_at (x + o) s) s)
 load_sp_row s x b o tail b_range short al at far above h =
     let row : List ℕ = riscv_row 0 (load (G 2) b o) in
     let behind : next 4 s ≡ s.pc + 4 = along s 4 (ends s row tail 4 refl h) in
@@ -79,12 +79,12 @@ load_sp_row s x b o tail b_range short al at far above h =
       aligned = al;
       stands = stands_word s (o * 2 ^ 20 + b * 2 ^ 15 + 0b011 * 2 ^ 12 + 2 * 2 ^ 7 + 0b0000011) tail (Ld 2 b (sign_extend 12 o)) (omega (arith, b_range, short)) (ld (record { imm_in_range = omega (arith, short); rs1_in_range = b_range; rd_in_range = omega arith; is_word = refl })) h;
       based = λ e. tt;
-      kept = inr (loads_there s.sp addr (x + o) to above);
+      kept = subst (λ (a : ℕ). IsKept Riscv a s) (sym to) above;
       is_after = sym (ap (λ (a : ℕ). shape (word_at a s) (next 4 s)) to ∙ ap (λ (n : ℕ). shape (word_at (x + o) s) n) behind);
     }
 
 -- fld f(k), o(b)
-pub load_floating_row : (s : Processor) (x k b o : ℕ) (tail : List ℕ) → k < 32 → b < 32 → o < 2048 → s.pc % 4 ≡ 0 → base Riscv b s ≡ x → x + o ≤ half → s.sp ≤ x + o → HasCode s s.pc (riscv_row 0 (load (F k) b o) ++ tail) → Steps Riscv s (received 4 (F k) (word_at (x + o) s) s)
+pub load_floating_row : (s : Processor) (x k b o : ℕ) (tail : List ℕ) → k < 32 → b < 32 → o < 2048 → s.pc % 4 ≡ 0 → base Riscv b s ≡ x → x + o ≤ half → IsKept Riscv (x + o) s → HasCode s s.pc (riscv_row 0 (load (F k) b o) ++ tail) → Steps Riscv s (received 4 (F k) (word_at (x + o) s) s)
 load_floating_row s x k b o tail in_range b_range short al at far above h =
     let row : List ℕ = riscv_row 0 (load (F k) b o) in
     let behind : next 4 s ≡ s.pc + 4 = along s 4 (ends s row tail 4 refl h) in
@@ -98,7 +98,7 @@ load_floating_row s x k b o tail in_range b_range short al at far above h =
       aligned = al;
       stands = stands_word s (o * 2 ^ 20 + b * 2 ^ 15 + 0b011 * 2 ^ 12 + k * 2 ^ 7 + 0b0000111) tail (Fld k b (sign_extend 12 o)) (omega (arith, in_range, b_range, short)) (fld (record { imm_in_range = omega (arith, short); rs1_in_range = b_range; rd_in_range = in_range; is_word = refl })) h;
       based = λ e. tt;
-      kept = inr (loads_there s.sp addr (x + o) to above);
+      kept = subst (λ (a : ℕ). IsKept Riscv a s) (sym to) above;
       is_after = sym (ap (λ (a : ℕ). shape (word_at a s) (next 4 s)) to ∙ ap (λ (n : ℕ). shape (word_at (x + o) s) n) behind);
     }
 
@@ -292,14 +292,14 @@ store_length b (G k) r o ok = refl
 store_length b (F k) r o ok = refl
 store_length b (S k) r o ok = absurd (no_stack b k ok)
 
-from_x : (b : ℕ) → b < 32 → b ≢ 0 → b ≢ 2 → (s : Processor) (x : ℕ) (l : Loc) (tail : List ℕ) → fits 32 0 b 2 l ≡ true → s.pc % 4 ≡ 0 → s.general b ≡ x → x + 552 ≤ half → s.sp ≤ x → HasCode s s.pc (row_bytes Riscv 0 (load l b (exchanged_at l)) ++ tail) → Steps Riscv s (received 4 l (word_at (x + exchanged_at l) s) s)
+from_x : (b : ℕ) → b < 32 → b ≢ 0 → b ≢ 2 → (s : Processor) (x : ℕ) (l : Loc) (tail : List ℕ) → fits 32 0 b 2 l ≡ true → s.pc % 4 ≡ 0 → s.general b ≡ x → x + 552 ≤ half → IsRegionKept x s.sp s → HasCode s s.pc (row_bytes Riscv 0 (load l b (exchanged_at l)) ++ tail) → Steps Riscv s (received 4 l (word_at (x + exchanged_at l) s) s)
 from_x b low nz ns s x (G k) tail ok al at far above h =
     let p = plain_by b k ok in
     let small : k < 32 = p.in_range in
-    load_general_row s x k b (8 * k) tail small p.not_zero p.not_sp low (omega (arith, small)) al (base_is s b nz ns ∙ at) (omega (arith, far, small)) (inr (omega (arith, above))) h
+    load_general_row s x k b (8 * k) tail small p.not_zero p.not_sp low (omega (arith, small)) al (base_is s b nz ns ∙ at) (omega (arith, far, small)) (kept_in Riscv s x (8 * k) (omega (arith, small)) above) h
 from_x b low nz ns s x (F k) tail ok al at far above h =
     let small : k < 32 = fits_floating b k ok in
-    load_floating_row s x k b (256 + 8 * k) tail small low (omega (arith, small)) al (base_is s b nz ns ∙ at) (omega (arith, far, small)) (omega (arith, above)) h
+    load_floating_row s x k b (256 + 8 * k) tail small low (omega (arith, small)) al (base_is s b nz ns ∙ at) (omega (arith, far, small)) (kept_in Riscv s x (256 + 8 * k) (omega (arith, small)) above) h
 from_x b low nz ns s x (S k) tail ok al at far above h = absurd (no_stack b k ok)
 
 to_x : (b : ℕ) → b < 32 → b ≢ 0 → b ≢ 2 → (s : Processor) (x : ℕ) (l : Loc) (tail : List ℕ) → fits 32 0 b 2 l ≡ true → s.pc % 4 ≡ 0 → s.general b ≡ x → x + 552 ≤ half → HasCode s s.pc (row_bytes Riscv 0 (store l b (exchanged_at l)) ++ tail) → Steps Riscv s (stored 4 (x + exchanged_at l) (held l s) s)
@@ -317,7 +317,7 @@ from_stack b s (G k) at tail ok al sixteen eight short far h =
     let p = plain_by b k ok in
     load_general_row s s.sp k 2 at tail p.in_range p.not_zero p.not_sp (omega arith) short al refl far (inr (omega arith)) h
 from_stack b s (F k) at tail ok al sixteen eight short far h =
-    load_floating_row s s.sp k 2 at tail (fits_floating b k ok) (omega arith) short al refl far (omega arith) h
+    load_floating_row s s.sp k 2 at tail (fits_floating b k ok) (omega arith) short al refl far (inr (omega arith)) h
 from_stack b s (S k) at tail ok al sixteen eight short far h = absurd (no_stack b k ok)
 
 to_stack : (b : ℕ) (s : Processor) (l : Loc) (at : ℕ) (tail : List ℕ) → fits 32 0 b 2 l ≡ true → s.pc % 4 ≡ 0 → IsStackAligned Riscv s.sp → at % 8 ≡ 0 → at < 2048 → s.sp + at ≤ half → HasCode s s.pc (row_bytes Riscv 0 (store l 2 at) ++ tail) → Steps Riscv s (stored 4 (s.sp + at) (held l s) s)

@@ -1,8 +1,8 @@
 -- Instructions that stand at pc, and steps one after another.
-use Rattle.std.proofs.Common.{◌≡◌, ℕ, zero, suc, ◌+◌, ◌%◌, ◌^◌, ◌<◌, ◌≤◌, List, [], ◌∷◌, ◌++◌, length, drop, refl, sym, ap, ◌∙◌, subst, arith, lit<, length-append}
+use Rattle.std.proofs.Common.{◌⊎◌, inl, inr, ⊎_elim, ◌≡◌, ℕ, zero, suc, ◌+◌, ◌%◌, ◌^◌, ◌<◌, ◌≤◌, List, [], ◌∷◌, ◌++◌, length, drop, refl, sym, ap, ◌∙◌, subst, arith, lit<, length-append}
 use Rattle.std.proofs.Math.Nat.{mod-eq_of_lt, add-mod_right}
 use Rattle.ffi3_type_rules.specs.declared.Isa.{Isa}
-use Rattle.ffi3_host_stubs.specs.Processor.{Processor, half, bytes_at, next, Steps, TakesSteps, HasCode}
+use Rattle.ffi3_host_stubs.specs.Processor.{Processor, half, bytes_at, next, IsKept, Steps, TakesSteps, HasCode}
 
 -- ---- numbers
 
@@ -20,6 +20,21 @@ unmoved v h = let same : v + 0 ≡ v = omega arith in plain v 0 v same h
 
 pub along : (s : Processor) (n : ℕ) → s.pc + n ≤ half → next n s ≡ s.pc + n
 along s n h = plain s.pc n (s.pc + n) refl h
+
+-- a word of the region is kept, and where the stack is written the region is not
+pub kept_in : (isa : Isa) (s : Processor) (x o : ℕ) → o + 8 ≤ 552 → (x + 552 ≤ s.limit) ⊎ (s.sp ≤ x) → IsKept isa (x + o) s
+kept_in isa s x o room region = ⊎_elim (λ h. inl (omega (arith, h, room))) (λ h. inr (omega (arith, h))) region
+
+pub outside_region : (a x low top : ℕ) → low ≤ a → a < top → (x + 552 ≤ low) ⊎ (top ≤ x) → (a < x) ⊎ (x + 552 ≤ a)
+outside_region a x low top above below region = ⊎_elim (λ h. inr (omega (arith, above, h))) (λ h. inl (omega (arith, below, h))) region
+
+-- the stack's part from low on, below top
+pub apart_from : (x limit low top : ℕ) → limit ≤ low → (x + 552 ≤ limit) ⊎ (top ≤ x) → (x + 552 ≤ low) ⊎ (top ≤ x)
+apart_from x limit low top in_stack region = ⊎_elim (λ h. inl (omega (arith, h, in_stack))) (λ h. inr h) region
+
+-- a byte of the region is in no such part
+pub region_outside : (a x low top : ℕ) → x ≤ a → a < x + 552 → (x + 552 ≤ low) ⊎ (top ≤ x) → (a < low) ⊎ (top ≤ a)
+region_outside a x low top above below region = ⊎_elim (λ h. inl (omega (arith, below, h))) (λ h. inr (omega (arith, above, h))) region
 
 -- ---- bytes at pc
 

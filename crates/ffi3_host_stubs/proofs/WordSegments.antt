@@ -9,7 +9,7 @@ use Rattle.ffi3_place_rules.specs.Isa.{stack_pointer}
 use Rattle.ffi3_machine.specs.Stubs.{Row, load, store, size_of, row_bytes, exchanged_at, exchange_loads, exchange_stores, area_loads, area_stores}
 use Rattle.ffi3_stubs.proofs.WordSegments.{fits, all_fit}
 use Rattle.ffi3_host_stubs.specs.Processor.{Processor, half, word_at, set_at, IsStackAligned, Steps, HasCode}
-use Rattle.ffi3_host_stubs.specs.Calls.{held}
+use Rattle.ffi3_host_stubs.specs.Calls.{held, IsRegionKept}
 use Rattle.ffi3_host_stubs.proofs.Effects.{received, stored, from_exchange, to_exchange, from_area, to_area}
 use Rattle.ffi3_host_stubs.proofs.Standing.{onward, TakesBy, one_step, none_taken, and_then}
 use Rattle.ffi3_host_stubs.proofs.Memory.{both, unlike}
@@ -24,7 +24,7 @@ pub record Laws (isa : Isa) (n a b c : ℕ) : Type 0 where
   pub size : (l : Loc) (base o : ℕ) → size_of isa (load l base o) ≡ 4
   pub load_length : (l : Loc) (base o : ℕ) → fits n a b c l ≡ true → length (row_bytes isa 0 (load l base o)) ≡ 4
   pub store_length : (l : Loc) (base o : ℕ) → fits n a b c l ≡ true → length (row_bytes isa 0 (store l base o)) ≡ 4
-  pub load_exchange : (s : Processor) (x : ℕ) (l : Loc) (tail : List ℕ) → fits n a b c l ≡ true → s.pc % 4 ≡ 0 → s.general b ≡ x → x + 552 ≤ half → s.sp ≤ x → HasCode s s.pc (row_bytes isa 0 (load l b (exchanged_at l)) ++ tail) → Steps isa s (received 4 l (word_at (x + exchanged_at l) s) s)
+  pub load_exchange : (s : Processor) (x : ℕ) (l : Loc) (tail : List ℕ) → fits n a b c l ≡ true → s.pc % 4 ≡ 0 → s.general b ≡ x → x + 552 ≤ half → IsRegionKept x s.sp s → HasCode s s.pc (row_bytes isa 0 (load l b (exchanged_at l)) ++ tail) → Steps isa s (received 4 l (word_at (x + exchanged_at l) s) s)
   pub store_exchange : (s : Processor) (x : ℕ) (l : Loc) (tail : List ℕ) → fits n a b c l ≡ true → s.pc % 4 ≡ 0 → s.general b ≡ x → x + 552 ≤ half → HasCode s s.pc (row_bytes isa 0 (store l b (exchanged_at l)) ++ tail) → Steps isa s (stored 4 (x + exchanged_at l) (held l s) s)
   pub load_area : (s : Processor) (l : Loc) (at : ℕ) (tail : List ℕ) → fits n a b c l ≡ true → s.pc % 4 ≡ 0 → IsStackAligned isa s.sp → at % 8 ≡ 0 → at < 2048 → s.sp + at ≤ half → HasCode s s.pc (row_bytes isa 0 (load l (stack_pointer isa) at) ++ tail) → Steps isa s (received 4 l (word_at (s.sp + at) s) s)
   pub store_area : (s : Processor) (l : Loc) (at : ℕ) (tail : List ℕ) → fits n a b c l ≡ true → s.pc % 4 ≡ 0 → IsStackAligned isa s.sp → at % 8 ≡ 0 → at < 2048 → s.sp + at ≤ half → HasCode s s.pc (row_bytes isa 0 (store l (stack_pointer isa) at) ++ tail) → Steps isa s (stored 4 (s.sp + at) (held l s) s)
@@ -91,6 +91,11 @@ received_code v (G k) s = refl
 received_code v (F k) s = refl
 received_code v (S k) s = refl
 
+still_kept : (v : ℕ) (l : Loc) (x : ℕ) (s : Processor) → IsRegionKept x s.sp s → IsRegionKept x (received 4 l v s).sp (received 4 l v s)
+still_kept v (G k) x s h = h
+still_kept v (F k) x s h = h
+still_kept v (S k) x s h = h
+
 pub next_aligned : (p q : ℕ) → q ≡ p + 4 → p % 4 ≡ 0 → q % 4 ≡ 0
 next_aligned p q e h = omega (arith, e, h)
 
@@ -99,7 +104,7 @@ split : (s : Processor) (isa : Isa) (row : Row) (rows : List Row) (tail : List �
 unfolding word_list
 split s isa row rows tail h = subst (λ (bs : List ℕ). HasCode s s.pc bs) (append_assoc (row_bytes isa 0 row) (word_list isa rows) tail) h
 
-pub exchange_loaded : (isa : Isa) (n a b c x : ℕ) (laws : Laws isa n a b c) (ls : List Loc) (s : Processor) (tail : List ℕ) → all_fit n a b c ls ≡ true → s.pc % 4 ≡ 0 → s.general b ≡ x → x + 552 ≤ half → s.sp ≤ x → HasCode s s.pc (word_list isa (exchange_loads b ls) ++ tail) → Came isa b x s (from_exchange isa b x ls s) (length ls) tail
+pub exchange_loaded : (isa : Isa) (n a b c x : ℕ) (laws : Laws isa n a b c) (ls : List Loc) (s : Processor) (tail : List ℕ) → all_fit n a b c ls ≡ true → s.pc % 4 ≡ 0 → s.general b ≡ x → x + 552 ≤ half → IsRegionKept x s.sp s → HasCode s s.pc (word_list isa (exchange_loads b ls) ++ tail) → Came isa b x s (from_exchange isa b x ls s) (length ls) tail
 unfolding all_fit word_list
 exchange_loaded isa n a b c x laws [] s tail ok al base far above h = record { steps = none_taken isa s; stands = h; aligned = al; base = base }
 exchange_loaded isa n a b c x laws (l ∷ ls) s tail ok al base far above h =
@@ -114,7 +119,7 @@ exchange_loaded isa n a b c x laws (l ∷ ls) s tail ok al base far above h =
     let pc : m.pc ≡ s.pc + 4 = received_pc n a b c v l s parts.0 in
     let h3 : HasCode m m.pc rest = onward s m row rest 4 len pc (received_code v l s) h2 in
     let sp : m.sp ≡ s.sp = received_sp v l s in
-    let done : Came isa b x s (from_exchange isa b x ls m) (suc (length ls)) tail = joined isa b x s m _ (length ls) tail step (exchange_loaded isa n a b c x laws ls m tail parts.1 (next_aligned s.pc m.pc pc al) (received_base n a b c v x l s parts.0 base) far (omega (arith, sp, above)) h3) in
+    let done : Came isa b x s (from_exchange isa b x ls m) (suc (length ls)) tail = joined isa b x s m _ (length ls) tail step (exchange_loaded isa n a b c x laws ls m tail parts.1 (next_aligned s.pc m.pc pc al) (received_base n a b c v x l s parts.0 base) far (still_kept v l x s above) h3) in
     subst (λ (i : ℕ). Came isa b x s (from_exchange isa b x ls (received i l v s)) (suc (length ls)) tail) (sym (laws.size l b 0)) done
 
 pub exchange_stored : (isa : Isa) (n a b c x : ℕ) (laws : Laws isa n a b c) (ls : List Loc) (s : Processor) (tail : List ℕ) → all_fit n a b c ls ≡ true → s.pc % 4 ≡ 0 → s.general b ≡ x → x + 552 ≤ half → HasCode s s.pc (word_list isa (exchange_stores b ls) ++ tail) → Came isa b x s (to_exchange isa b x ls s) (length ls) tail

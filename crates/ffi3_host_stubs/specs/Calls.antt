@@ -70,11 +70,15 @@ pub record IsSource (isa : Isa) (from : ℕ) : Type 0 where
   pub not_sp : ¬ from ≡ stack_pointer isa
   pub not_zero : is_zero_register isa from ≡ false
 
--- The bytes stand at pc, and the exchange region at x, not below sp and in the lower half
+-- the exchange region at x is outside the stack, or not below this sp
+abbrev pub IsRegionKept : ℕ → ℕ → Processor → Type 0
+IsRegionKept x sp s = (x + 552 ≤ s.limit) ⊎ (sp ≤ x)
+
+-- The bytes stand at pc, and the exchange region at x, outside the stack or not below sp, and in the lower half
 pub record IsAtStub (isa : Isa) (x : ℕ) (bytes : List ℕ) (s : Processor) : Type 0 where
   pub aligned : IsAligned isa s.pc
   pub code : HasCode s s.pc bytes
-  pub above : s.sp ≤ x
+  pub region : IsRegionKept x s.sp s
   pub high : x + 552 ≤ half
 
 -- what Entry writes besides, on AArch64 also x9, through which sp goes
@@ -111,11 +115,12 @@ pub record HasCalled (isa : Isa) (x behind : ℕ) (before after : Processor) : T
   pub limit : after.limit ≡ before.limit
   pub code : after.code ≡ before.code
 
--- Wherever the bytes stand they call, by the exchange region whose address register `from` holds: with the sp that stands at 520 there, which is not below sp, nor above the region
+-- Wherever the bytes stand they call, by the exchange region whose address register `from` holds: with the sp that stands at 520 there, which is in the stack and not below sp
 abbrev pub Calls : Isa → ℕ → List ℕ → Type 0
 Calls isa from bytes =
     (s : Processor) → IsAtStub isa (s.general from) bytes s
-    → pushed_bytes isa ≤ word_at (s.general from + 520) s → s.sp ≤ word_at (s.general from + 520) s → word_at (s.general from + 520) s ≤ s.general from
+    → s.limit + pushed_bytes isa ≤ word_at (s.general from + 520) s → s.sp ≤ word_at (s.general from + 520) s
+    → word_at (s.general from + 520) s ≤ half → IsRegionKept (s.general from) (word_at (s.general from + 520) s) s
     → word_at (s.general from + 512) s ≤ half
     → (t : Processor) × TakesSteps isa (host_steps isa Call) s t × HasCalled isa (s.general from) (s.pc + length bytes) s t
 
@@ -130,10 +135,11 @@ pub record HasReturned (isa : Isa) (x behind : ℕ) (before after : Processor) :
   pub limit : after.limit ≡ before.limit
   pub code : after.code ≡ before.code
 
--- Wherever the bytes stand, results go to the exchange region whose address register `from` holds, and sp becomes what stands at 544 there, which is not above the region
+-- Wherever the bytes stand, results go to the exchange region whose address register `from` holds, and sp becomes what stands at 544 there, below which the region is not
 abbrev pub Returns : Isa → ℕ → List ℕ → Type 0
 Returns isa from bytes =
-    (s : Processor) → IsAtStub isa (s.general from) bytes s → word_at (s.general from + 544) s ≤ s.general from
+    (s : Processor) → IsAtStub isa (s.general from) bytes s → word_at (s.general from + 544) s ≤ half
+    → IsRegionKept (s.general from) (word_at (s.general from + 544) s) s
     → (t : Processor) × TakesSteps isa (host_steps isa Return) s t × HasReturned isa (s.general from) (s.pc + length bytes) s t
 
 -- ---- Entry
@@ -154,7 +160,8 @@ pub record HasEntered (isa : Isa) (x behind : ℕ) (before after : Processor) : 
 -- Wherever the bytes stand, what is preserved goes below sp, and arguments and sp to the exchange region whose address register `from` holds; sp becomes what stands at 528 there, which is not above what was saved
 abbrev pub Enters : Isa → ℕ → List ℕ → Type 0
 Enters isa from bytes =
-    (s : Processor) → IsAtStub isa (s.general from) bytes s → IsStackAligned isa s.sp → area_bytes isa ≤ s.sp
+    (s : Processor) → IsAtStub isa (s.general from) bytes s → IsStackAligned isa s.sp → s.sp ≤ half
+    → s.limit + area_bytes isa ≤ s.sp
     → word_at (s.general from + 528) s ≤ s.sp - area_bytes isa
     → (t : Processor) × TakesSteps isa (host_steps isa Entry) s t × HasEntered isa (s.general from) (s.pc + length bytes) s t
 
@@ -187,12 +194,12 @@ IsReturnLow Amd64 area s = ⊤
 IsReturnLow Aarch64 area s = ⊤
 IsReturnLow Riscv area s = word_at area s ≤ half
 
--- Wherever the bytes stand, what is preserved comes from the save area, whose address stands at 536 of the exchange region and is not below sp, nor above the region, and results from that region, whose address register `from` holds
+-- Wherever the bytes stand, what is preserved comes from the save area, whose address stands at 536 of the exchange region and is not below sp, and results from that region, whose address register `from` holds
 abbrev pub Leaves : Isa → ℕ → ℕ → List ℕ → Type 0
 Leaves isa from gap bytes =
     (s : Processor) → IsAtStub isa (s.general from) bytes s
     → IsStackAligned isa (word_at (s.general from + 536) s) → s.sp ≤ word_at (s.general from + 536) s
-    → word_at (s.general from + 536) s ≤ s.general from → IsReturnLow isa (word_at (s.general from + 536) s) s
+    → IsRegionKept (s.general from) (word_at (s.general from + 536) s) s → IsReturnLow isa (word_at (s.general from + 536) s) s
     → word_at (s.general from + 536) s + (area_bytes isa + gap) + pushed_bytes isa ≤ half
     → (t : Processor)
     × TakesSteps isa (host_steps isa Exit) s t
