@@ -4,6 +4,17 @@ use Rattle.ffi3_transfer.specs.Stored.{image_in}
 use Rattle.ffi3_transfer.specs.Packed.{values_packed}
 use Rattle.ffi3_transfer.proofs.collecting.collect.Goals as goal
 
+pub returns-then-stack-least-clause-err : goal.returns-then-stack-least-clause-err
+returns-then-stack-least-clause-err g c = (
+  omega (arith, c.if-values-wanted.false, c.packed_size-wanted.ensures),
+  omega (arith, c.least_stack-least.ensures),
+  omega (arith, c.if-stack-least.true, c.least_stack-least.ensures),
+)
+
+pub collect_arguments-requires-clause-sized : goal.collect_arguments-requires-clause-sized
+collect_arguments-requires-clause-sized g c =
+    omega (arith, c.if-values-wanted.false, c.packed_size-wanted.ensures)
+
 pub returns-in-None-clause-ok : goal.returns-in-None-clause-ok
 returns-in-None-clause-ok g c =
     let std = g.A.Abi.standard in
