@@ -26,7 +26,7 @@ import sys
 try:
     from .library import (FRAME_AT, HIDDEN, MOVES, RESULT, TARGETS, VERSION, Call, Error, Interface, Layout, Move,
                           NotInStack, Piece, ShortStack, Sizes, Type, VersionError, arguments, check_layout, layout,
-                          layout_nodes, place, place_nodes, scalars, version)
+                          layout_nodes, place, place_nodes, result, result_nodes, scalars, version)
 except (OSError, ImportError) as error:
     if sys.argv[:1] != ["-m"]:
         raise
@@ -34,4 +34,4 @@ except (OSError, ImportError) as error:
 
 __all__ = ["FRAME_AT", "HIDDEN", "MOVES", "RESULT", "TARGETS", "VERSION", "Call", "Error", "Interface", "Layout",
            "Move", "NotInStack", "Piece", "ShortStack", "Sizes", "Type", "VersionError", "arguments", "check_layout",
-           "layout", "layout_nodes", "place", "place_nodes", "scalars", "version"]
+           "layout", "layout_nodes", "place", "place_nodes", "result", "result_nodes", "scalars", "version"]

@@ -1,0 +1,342 @@
+// The result of a function, from registers and memory where it has returned.
+ghost use Rattle.std.specs.Prelude.{◌≡◌, ◌≤◌, IfOk, IfErr, length};
+ghost use Rattle.std.specs.List.{AllByRecursion};
+ghost use Rattle.ffi3_type_rules.specs.declared.limits.TheConstants.{LARGEST_TYPE};
+ghost use Rattle.ffi3_type_rules.specs.Layout.{size_of};
+ghost use Rattle.ffi3_type_rules.specs.Signature.{SignatureHasNoFault};
+ghost use Rattle.ffi3_place_rules.specs.Isa.{to_list};
+ghost use Rattle.ffi3_place_rules.specs.Image.{byte_at, word_at};
+ghost use Rattle.ffi3_place_rules.specs.Sound.{IsWithin};
+ghost use Rattle.ffi3_explain_rules.specs.Arguments.{offset_in};
+ghost use Rattle.ffi3_explain_rules.specs.Explain.{eight, first_bytes};
+ghost use Rattle.ffi3_explain_rules.specs.Standards.{standard_of};
+ghost use Rattle.ffi3_explain.specs.Places.{CanBeRead, HasPlace, IsPieceRead};
+ghost use Rattle.ffi3_transfer.specs.Stored.{image_in};
+ghost use Rattle.ffi3_capi.specs.DeclaredBy.{IsDeclaredBy, IsFaultBy};
+ghost use Rattle.ffi3_capi.specs.Returned.{IsFound, IsFoundBy, IsNotFound, IsNotFoundBy, IsUnfound, ReadsResult, are_bytes, no_result, result_behind, result_of, returned_by_standard, unfound_status};
+
+use crate::codes::{NO_ADDRESS, NOT_IN_STACK};
+use crate::declaration::{Declaration, declared};
+use crate::fault::{FaultKind, TextFault, fault_with};
+use crate::fill::{fill_bytes, room_status};
+use crate::placing::target_numbered;
+use crate::status::Refusal;
+use ffi3_aapcs64::Aapcs64;
+use ffi3_amd64::Amd64;
+use ffi3_cif::Cif;
+use ffi3_place::{Abi, Loc, Piece, Pieces, Res};
+use ffi3_riscv::Riscv;
+use ffi3_transfer::Registers;
+use ffi3_type_rules::limits::LARGEST_TYPE;
+use ffi3_types::{Bytes, CheckedType, NoMemory, Sig, Target};
+use ffi3_win64::Win64;
+use std::alloc::Global;
+
+/// What is told of a result beside its bytes: C's `struct ffi3_result`.
+#[repr(C)]
+#[derive(Clone, Copy)]
+pub struct ReturnedResult {
+    /// How many bytes it has.
+    pub size: usize,
+    /// The address of the buffer that has them, if that points past the bytes of memory.
+    pub address: u64,
+    /// Nothing yet.
+    pub reserved: [u64; 2],
+    pub fault: TextFault,
+}
+
+/// A result that was read.
+#[derive(Drop)]
+pub struct FoundResult {
+    pub told: ReturnedResult,
+    pub bytes: Bytes,
+}
+
+/// Why a result is not read.
+#[derive(Clone, Copy)]
+pub enum Unfound {
+    /// There is no such call.
+    Call(Refusal),
+    /// So many bytes from this address on have it.
+    NotInStack { size: usize, address: u64 },
+    /// So many bytes of a buffer have it, whose address the standard does not give back.
+    NoAddress { size: usize },
+}
+
+impl Unfound {
+    /// The number that C is answered.
+    fn status(self) -> u32
+        ensures { result ≡ unfound_status self }
+    {
+        match self {
+            Unfound::Call(refusal) => refusal.status(),
+            Unfound::NotInStack { .. } => NOT_IN_STACK,
+            Unfound::NoAddress { .. } => NO_ADDRESS,
+        }
+    }
+
+    /// What C is told beside it.
+    fn told(self) -> ReturnedResult
+        ensures { result ≡ no_result self }
+    {
+        match self {
+            Unfound::Call(refusal) => told(0, 0, refusal.fault()),
+            Unfound::NotInStack { size, address } => {
+                told(size, address, fault_with(FaultKind::NoFault))
+            }
+            Unfound::NoAddress { size } => told(size, 0, fault_with(FaultKind::NoFault)),
+        }
+    }
+}
+
+fn told(size: usize, address: u64, fault: TextFault) -> ReturnedResult
+    ensures { result ≡ result_of size address fault }
+{
+    ReturnedResult {
+        size,
+        address,
+        reserved: [0; 2],
+        fault,
+    }
+}
+
+/// The eight bytes of a place. Stack places count from `base` bytes above the stack pointer.
+fn place_bytes(registers: &Registers, stack: &[u8], base: u64, at: Loc) -> [u8; 8]
+    requires { HasPlace (image_in registers.now stack.now) base at }
+    ensures { result ≡ eight (byte_at (image_in registers.now stack.now) base at) }
+{
+    // its length tells that the sum below is small
+    let _len = stack.len();
+    match at {
+        Loc::G(r) => registers.general[r as usize].to_le_bytes(),
+        Loc::F(r) => registers.floating[r as usize].to_le_bytes(),
+        Loc::S(n) => {
+            let start = base as usize + n as usize;
+            let mut bytes = [0; 8];
+            bytes.copy_from_slice(&stack[start..start + 8]);
+            bytes
+        }
+    }
+}
+
+/// Reads a piece of a value from its place.
+fn read_piece(registers: &Registers, stack: &[u8], base: u64, piece: &Piece, out: &mut [u8])
+    requires there { CanBeRead (image_in registers.now stack.now) base piece.now }
+    requires within { IsWithin (length out.old) piece.now }
+    ensures { IsPieceRead (image_in registers.now stack.now) base piece.now out.old out.new }
+{
+    let bytes = place_bytes(registers, stack, base, piece.loc);
+    let start = piece.off as usize;
+    let len = piece.len as usize;
+    out[start..start + len].copy_from_slice(&bytes[..len]);
+}
+
+/// The bytes of a value in pieces. Of two pieces that have a byte the first tells it, and a byte of none is 0.
+fn read_pieces(registers: &Registers, stack: &[u8], base: u64, pieces: &Pieces, out: &mut [u8])
+    requires there { AllByRecursion (CanBeRead (image_in registers.now stack.now) base) pieces.now }
+    requires within { AllByRecursion (IsWithin (length out.old)) pieces.now }
+    ensures { out.new ≡ first_bytes (image_in registers.now stack.now) base pieces.now 0 (length out.old) }
+{
+    out.fill(0);
+    for j in (0..pieces.len()).rev() {
+        read_piece(registers, stack, base, pieces.get(j), out);
+    }
+}
+
+/// Where in the stack's bytes so many bytes from an address on begin, where all of them are there.
+fn offset_in(registers: &Registers, stack: &[u8], address: u64, size: u64) -> Option<usize>
+    ensures { result ≡ offset_in (image_in registers.now stack.now) address size }
+{
+    let len = stack.len() as u64;
+    if address < registers.sp {
+        return None;
+    }
+    let offset = address - registers.sp;
+    if len < offset {
+        return None;
+    }
+    if len - offset < size {
+        return None;
+    }
+    Some(offset as usize)
+}
+
+/// The number in a register.
+fn register_word(registers: &Registers, stack: &[u8], at: Loc) -> u64
+    requires { HasPlace (image_in registers.now stack.now) 0 at }
+    ensures { result ≡ word_at (image_in registers.now stack.now) 0 at }
+{
+    match at {
+        Loc::G(r) => registers.general[r as usize],
+        Loc::F(r) => registers.floating[r as usize],
+        Loc::S(_) => u64::from_le_bytes(place_bytes(registers, stack, 0, at)),
+    }
+}
+
+/// The bytes of a result in pieces.
+fn direct_bytes(
+    alloc: Global,
+    registers: &Registers,
+    stack: &[u8],
+    pieces: &Pieces,
+    size: usize,
+) -> Result<Bytes, NoMemory>
+    requires there { AllByRecursion (CanBeRead (image_in registers.now stack.now) 0) pieces.now }
+    requires within { AllByRecursion (IsWithin size) pieces.now }
+    requires small { size ≤ LARGEST_TYPE }
+    ensures { IfOk result (λ b. b ≡ first_bytes (image_in registers.now stack.now) 0 pieces.now 0 size) }
+{
+    let mut room = [0; LARGEST_TYPE as usize];
+    let out = &mut room[..size];
+    read_pieces(registers, stack, 0, pieces, out);
+    Bytes::from_slice(alloc, out)
+}
+
+/// The bytes of a result in a buffer, whose address is in this register, if in any.
+fn buffer_bytes(
+    alloc: Global,
+    registers: &Registers,
+    stack: &[u8],
+    returned: Option<Loc>,
+    ty: &CheckedType<'_>,
+) -> Result<Bytes, Unfound>
+    requires { AllByRecursion (HasPlace (image_in registers.now stack.now) 0) (to_list returned) }
+    ensures bytes { IfOk result (λ b. result_behind (image_in registers.now stack.now) ty.now returned ≡ are_bytes b) }
+    ensures sized { IfOk result (λ b. length b ≡ size_of ty.now) }
+    ensures unfound { IfErr result (λ u. IsUnfound ty.now (result_behind (image_in registers.now stack.now) ty.now returned) u) }
+{
+    let wanted = ty.size();
+    let size = wanted as usize;
+    let at = match returned {
+        Some(at) => at,
+        None => return Err(Unfound::NoAddress { size }),
+    };
+    let address = register_word(registers, stack, at);
+    match offset_in(registers, stack, address, wanted) {
+        Some(from) => match Bytes::from_slice(alloc, &stack[from..from + size]) {
+            Ok(bytes) => Ok(bytes),
+            Err(_) => Err(Unfound::Call(Refusal::NoMemory)),
+        },
+        None => Err(Unfound::NotInStack { size, address }),
+    }
+}
+
+/// The bytes of the result of a call by this interface.
+fn read_result<A: Abi>(
+    alloc: Global,
+    cif: &Cif<A>,
+    registers: &Registers,
+    stack: &[u8],
+) -> Result<Bytes, Unfound>
+    ensures bytes { IfOk result (λ b. returned_by_standard A.standard cif.now (image_in registers.now stack.now) ≡ are_bytes b) }
+    ensures sized { IfOk result (λ b. length b ≡ size_of cif.now.result_type) }
+    ensures unfound { IfErr result (λ u. IsUnfound cif.now.result_type (returned_by_standard A.standard cif.now (image_in registers.now stack.now)) u) }
+{
+    let sig = cif.checked_sig();
+    let ty = sig.ret();
+    match cif.result_place() {
+        Res::Nothing => Ok(Bytes::new(alloc)),
+        Res::Direct(pieces) => {
+            match direct_bytes(alloc, registers, stack, pieces, ty.size() as usize) {
+                Ok(bytes) => Ok(bytes),
+                Err(_) => Err(Unfound::Call(Refusal::NoMemory)),
+            }
+        }
+        Res::Hidden { .. } => buffer_bytes(alloc, registers, stack, A::returned_address(), &ty),
+    }
+}
+
+/// The result by a calling standard.
+fn find_by<A: Abi>(
+    alloc: Global,
+    sig: Sig,
+    registers: &Registers,
+    stack: &[u8],
+) -> Result<FoundResult, Unfound>
+    requires { SignatureHasNoFault sig }
+    ensures found { IfOk result (λ f. IsFoundBy A.standard sig (image_in registers.now stack.now) f) }
+    ensures unfound { IfErr result (λ u. IsNotFoundBy A.standard sig (image_in registers.now stack.now) u) }
+{
+    let Ok(cif) = Cif::<A>::prepare(alloc, sig) else {
+        return Err(Unfound::Call(Refusal::NoMemory));
+    };
+    match read_result(alloc, &cif, registers, stack) {
+        Ok(bytes) => Ok(FoundResult {
+            told: told(bytes.len(), 0, fault_with(FaultKind::NoFault)),
+            bytes,
+        }),
+        Err(unfound) => Err(unfound),
+    }
+}
+
+/// The result by the target's calling standard.
+fn find_on(
+    alloc: Global,
+    target: Target,
+    sig: Sig,
+    registers: &Registers,
+    stack: &[u8],
+) -> Result<FoundResult, Unfound>
+    requires { SignatureHasNoFault sig }
+    ensures found { IfOk result (λ f. IsFoundBy (standard_of target) sig (image_in registers.now stack.now) f) }
+    ensures unfound { IfErr result (λ u. IsNotFoundBy (standard_of target) sig (image_in registers.now stack.now) u) }
+{
+    match target {
+        Target::Amd64 => find_by::<Amd64>(alloc, sig, registers, stack),
+        Target::Aapcs64 => find_by::<Aapcs64>(alloc, sig, registers, stack),
+        Target::Riscv => find_by::<Riscv>(alloc, sig, registers, stack),
+        Target::Win64 => find_by::<Win64>(alloc, sig, registers, stack),
+    }
+}
+
+/// The result of the function that is declared, as registers and stack have it where it has returned, by the calling
+/// standard with this number alone: in its registers, or where the address points that is given back, if that is in the
+/// stack's bytes, which begin at the stack pointer.
+pub fn find_result(
+    alloc: Global,
+    target: u32,
+    declaration: Declaration<'_>,
+    registers: &Registers,
+    stack: &[u8],
+) -> Result<FoundResult, Unfound>
+    ensures found { IfOk result (λ f. IsFound (IsDeclaredBy declaration.entry) target (image_in registers.now stack.now) f) }
+    ensures unfound { IfErr result (λ u. IsNotFound (IsDeclaredBy declaration.entry) (IsFaultBy declaration.entry) target (image_in registers.now stack.now) u) }
+{
+    let Some(to) = target_numbered(target) else {
+        return Err(Unfound::Call(Refusal::NoSuchTarget));
+    };
+    let sig = match declared(alloc, declaration) {
+        Ok(sig) => sig,
+        Err(Some(fault)) => return Err(Unfound::Call(Refusal::Fault(fault))),
+        Err(None) => return Err(Unfound::Call(Refusal::NoMemory)),
+    };
+    match find_on(alloc, to, sig, registers, stack) {
+        Ok(found) => Ok(found),
+        Err(unfound) => Err(unfound),
+    }
+}
+
+/// The same for a caller's struct and array of bytes. The number tells whether the result had room, or why there is
+/// none.
+pub fn tell_result(
+    alloc: Global,
+    target: u32,
+    declaration: Declaration<'_>,
+    registers: &Registers,
+    stack: &[u8],
+    told: &mut ReturnedResult,
+    value: &mut [u8],
+) -> u32
+    ensures { ReadsResult (IsDeclaredBy declaration.entry) (IsFaultBy declaration.entry) target (image_in registers.now stack.now) value.old result told.new value.new }
+{
+    match find_result(alloc, target, declaration, registers, stack) {
+        Ok(found) => {
+            *told = found.told;
+            room_status(fill_bytes(found.bytes.as_slice(), value))
+        }
+        Err(unfound) => {
+            *told = unfound.told();
+            unfound.status()
+        }
+    }
+}
