@@ -79,12 +79,20 @@ class ShortStack(LookupError):
 
 
 class NotInStack(LookupError):
-    """An argument is passed by an address that is not among the bytes of the stack: which one, and the address."""
+    """An argument, or the result, is at an address that is not among the bytes of the stack: which one, and it."""
 
-    def __init__(self, argument: int, address: int):
-        super().__init__(f"argument {argument} is at {address:#x}, which is not among the bytes of the stack")
-        self.argument = argument
+    def __init__(self, part: Part, address: int):
+        name = part if isinstance(part, str) else f"argument {part}"
+        super().__init__(f"{name} is at {address:#x}, which is not among the bytes of the stack")
+        self.argument = part
         self.address = address
+
+
+class NoAddress(LookupError):
+    """A result is in a buffer of the caller, whose address the standard does not give back."""
+
+    def __init__(self):
+        super().__init__("the result is in a buffer of the caller, whose address the standard does not give back")
 
 
 class Piece(NamedTuple):
@@ -512,9 +520,9 @@ def _returned(target: str, registers: Mapping[str, int], sp: int, stack: bytes, 
 
     status, found = _filled(ctypes.c_char, ask)
     if status == _NOT_IN_STACK:
-        raise LookupError(f"the result is at {told.address:#x}, which is not among the bytes of the stack")
+        raise NotInStack(RESULT, told.address)
     if status == _NO_ADDRESS:
-        raise LookupError("the result is in a buffer of the caller, whose address the standard does not give back")
+        raise NoAddress
     if status != _OK:
         _refuse(status, told.fault)
     return found
@@ -524,8 +532,9 @@ def result(target: str, declaration: str | bytes, registers: Mapping[str, int], 
            stack: bytes = b"") -> tuple[Scalar, ...]:
     """What a function gave back, from what the machine held where it had returned: the tuple of the result's scalars.
 
-    registers and stack are as arguments has them. Raises LookupError where the result is in a buffer of the caller that
-    is not among the bytes of the stack, or whose address the standard does not give back; otherwise as arguments does.
+    registers and stack are as arguments has them. Raises NotInStack where the result is in a buffer of the caller that
+    is not among the bytes of the stack, and NoAddress where the standard does not give its address back, both
+    LookupError; otherwise as arguments does.
     """
     text = _bytes_of(declaration)
     found = _returned(target, registers, sp, stack, lambda number, *given: _library.ffi3_result(

@@ -18,7 +18,7 @@ use ffi3_cif::Cif;
 use ffi3_place::{Abi, Loc, Res};
 
 /// Where in the stack's bytes so many bytes from an address on begin, where all of them are there.
-pub(crate) fn offset_in(
+pub fn offset_in(
     registers: &Registers,
     stack: &[u8],
     address: u64,

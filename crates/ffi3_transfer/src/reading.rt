@@ -30,7 +30,7 @@ pub(crate) fn place_bytes(registers: &Registers, stack: &[u8], base: u64, at: Lo
 }
 
 /// The number in a place.
-pub(crate) fn place_word(registers: &Registers, stack: &[u8], base: u64, at: Loc) -> u64
+pub fn place_word(registers: &Registers, stack: &[u8], base: u64, at: Loc) -> u64
     requires { HasPlace (image_in registers.now stack.now) base at }
     ensures { result ≡ word_at (image_in registers.now stack.now) base at }
 {
@@ -54,7 +54,7 @@ fn read_piece(registers: &Registers, stack: &[u8], base: u64, piece: &Piece, out
 }
 
 /// The bytes of a value in pieces. Of two pieces that have a byte the first tells it, and a byte of none is 0.
-pub(crate) fn read_pieces(
+pub fn read_pieces(
     registers: &Registers,
     stack: &[u8],
     base: u64,
