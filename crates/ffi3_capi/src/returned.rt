@@ -5,12 +5,10 @@ ghost use Rattle.ffi3_type_rules.specs.declared.limits.TheConstants.{LARGEST_TYP
 ghost use Rattle.ffi3_type_rules.specs.Layout.{size_of};
 ghost use Rattle.ffi3_type_rules.specs.Signature.{SignatureHasNoFault};
 ghost use Rattle.ffi3_place_rules.specs.Isa.{to_list};
-ghost use Rattle.ffi3_place_rules.specs.Image.{byte_at, word_at};
 ghost use Rattle.ffi3_place_rules.specs.Sound.{IsWithin};
-ghost use Rattle.ffi3_explain_rules.specs.Arguments.{offset_in};
-ghost use Rattle.ffi3_explain_rules.specs.Explain.{eight, first_bytes};
+ghost use Rattle.ffi3_explain_rules.specs.Explain.{first_bytes};
 ghost use Rattle.ffi3_explain_rules.specs.Standards.{standard_of};
-ghost use Rattle.ffi3_explain.specs.Places.{CanBeRead, HasPlace, IsPieceRead};
+ghost use Rattle.ffi3_explain.specs.Places.{CanBeRead, HasPlace};
 ghost use Rattle.ffi3_transfer.specs.Stored.{image_in};
 ghost use Rattle.ffi3_capi.specs.DeclaredBy.{IsDeclaredBy, IsFaultBy};
 ghost use Rattle.ffi3_capi.specs.Returned.{IsFound, IsFoundBy, IsNotFound, IsNotFoundBy, IsUnfound, ReadsResult, are_bytes, no_result, result_behind, result_of, returned_by_standard, unfound_status};
@@ -19,12 +17,13 @@ use crate::codes::{NO_ADDRESS, NOT_IN_STACK};
 use crate::declaration::{Declaration, declared};
 use crate::fault::{FaultKind, TextFault, fault_with};
 use crate::fill::{fill_bytes, room_status};
+use crate::held::{offset_in, place_word, read_pieces};
 use crate::placing::target_numbered;
 use crate::status::Refusal;
 use ffi3_aapcs64::Aapcs64;
 use ffi3_amd64::Amd64;
 use ffi3_cif::Cif;
-use ffi3_place::{Abi, Loc, Piece, Pieces, Res};
+use ffi3_place::{Abi, Loc, Pieces, Res};
 use ffi3_riscv::Riscv;
 use ffi3_transfer::Registers;
 use ffi3_type_rules::limits::LARGEST_TYPE;
@@ -100,79 +99,6 @@ fn told(size: usize, address: u64, fault: TextFault) -> ReturnedResult
     }
 }
 
-/// The eight bytes of a place. Stack places count from `base` bytes above the stack pointer.
-fn place_bytes(registers: &Registers, stack: &[u8], base: u64, at: Loc) -> [u8; 8]
-    requires { HasPlace (image_in registers.now stack.now) base at }
-    ensures { result ≡ eight (byte_at (image_in registers.now stack.now) base at) }
-{
-    // its length tells that the sum below is small
-    let _len = stack.len();
-    match at {
-        Loc::G(r) => registers.general[r as usize].to_le_bytes(),
-        Loc::F(r) => registers.floating[r as usize].to_le_bytes(),
-        Loc::S(n) => {
-            let start = base as usize + n as usize;
-            let mut bytes = [0; 8];
-            bytes.copy_from_slice(&stack[start..start + 8]);
-            bytes
-        }
-    }
-}
-
-/// Reads a piece of a value from its place.
-fn read_piece(registers: &Registers, stack: &[u8], base: u64, piece: &Piece, out: &mut [u8])
-    requires there { CanBeRead (image_in registers.now stack.now) base piece.now }
-    requires within { IsWithin (length out.old) piece.now }
-    ensures { IsPieceRead (image_in registers.now stack.now) base piece.now out.old out.new }
-{
-    let bytes = place_bytes(registers, stack, base, piece.loc);
-    let start = piece.off as usize;
-    let len = piece.len as usize;
-    out[start..start + len].copy_from_slice(&bytes[..len]);
-}
-
-/// The bytes of a value in pieces. Of two pieces that have a byte the first tells it, and a byte of none is 0.
-fn read_pieces(registers: &Registers, stack: &[u8], base: u64, pieces: &Pieces, out: &mut [u8])
-    requires there { AllByRecursion (CanBeRead (image_in registers.now stack.now) base) pieces.now }
-    requires within { AllByRecursion (IsWithin (length out.old)) pieces.now }
-    ensures { out.new ≡ first_bytes (image_in registers.now stack.now) base pieces.now 0 (length out.old) }
-{
-    out.fill(0);
-    for j in (0..pieces.len()).rev() {
-        read_piece(registers, stack, base, pieces.get(j), out);
-    }
-}
-
-/// Where in the stack's bytes so many bytes from an address on begin, where all of them are there.
-fn offset_in(registers: &Registers, stack: &[u8], address: u64, size: u64) -> Option<usize>
-    ensures { result ≡ offset_in (image_in registers.now stack.now) address size }
-{
-    let len = stack.len() as u64;
-    if address < registers.sp {
-        return None;
-    }
-    let offset = address - registers.sp;
-    if len < offset {
-        return None;
-    }
-    if len - offset < size {
-        return None;
-    }
-    Some(offset as usize)
-}
-
-/// The number in a register.
-fn register_word(registers: &Registers, stack: &[u8], at: Loc) -> u64
-    requires { HasPlace (image_in registers.now stack.now) 0 at }
-    ensures { result ≡ word_at (image_in registers.now stack.now) 0 at }
-{
-    match at {
-        Loc::G(r) => registers.general[r as usize],
-        Loc::F(r) => registers.floating[r as usize],
-        Loc::S(_) => u64::from_le_bytes(place_bytes(registers, stack, 0, at)),
-    }
-}
-
 /// The bytes of a result in pieces.
 fn direct_bytes(
     alloc: Global,
@@ -211,7 +137,7 @@ fn buffer_bytes(
         Some(at) => at,
         None => return Err(Unfound::NoAddress { size }),
     };
-    let address = register_word(registers, stack, at);
+    let address = place_word(registers, stack, 0, at);
     match offset_in(registers, stack, address, wanted) {
         Some(from) => match Bytes::from_slice(alloc, &stack[from..from + size]) {
             Ok(bytes) => Ok(bytes),

@@ -3,7 +3,7 @@ use Rattle.ffi3_place_rules.specs.Sound.{IsWithin}
 use Rattle.ffi3_explain.specs.Places.{CanBeRead}
 use Rattle.ffi3_explain.proofs.Loops.{ArePiecesRead, each_from, one_more_read, all_read, none_read}
 use Rattle.ffi3_transfer.specs.Stored.{image_in}
-use Rattle.ffi3_capi.proofs.returned.read_pieces.Goals as goal
+use Rattle.ffi3_capi.proofs.held.read_pieces.Goals as goal
 
 pub loop-j-init : goal.loop-j-init
 loop-j-init c = none_read (image_in c.args.registers.now c.args.stack.now) c.args.base c.args.pieces.now (length c.args.out.now) c.len-j.result c.fill.new.self (search rules) (search rules)
