@@ -347,6 +347,43 @@ uint32_t ffi3_arguments(uint32_t target, const char *text, size_t length, const 
                         const unsigned char *stack, size_t stack_length, struct ffi3_arguments *found,
                         unsigned char *values, size_t capacity);
 
+/* One argument of a call. */
+struct ffi3_argument {
+    uint32_t status;   /* FFI3_OK: VALUES has its value. FFI3_NOT_IN_STACK: that stands elsewhere */
+    uint32_t reserved; /* 0 */
+    size_t offset;     /* where in VALUES it begins, a multiple of 8 */
+    size_t size;       /* how many bytes it takes */
+    uint64_t address;  /* of FFI3_NOT_IN_STACK: where they stand; else 0 */
+};
+
+/* uint32_t ffi3_arguments_each(uint32_t TARGET, const char *TEXT, size_t LENGTH,
+ *                              const struct ffi3_registers *REGISTERS, const unsigned char *STACK, size_t STACK_LENGTH,
+ *                              struct ffi3_arguments *FOUND, struct ffi3_argument *EACH, size_t MOST,
+ *                              unsigned char *VALUES, size_t CAPACITY)
+ * uint32_t ffi3_arguments_nodes(uint32_t TARGET, const struct ffi3_node *NODES, size_t COUNT, uint32_t FIXED,
+ *                               const struct ffi3_registers *REGISTERS, const unsigned char *STACK,
+ *                               size_t STACK_LENGTH, struct ffi3_arguments *FOUND, struct ffi3_argument *EACH,
+ *                               size_t MOST, unsigned char *VALUES, size_t CAPACITY)
+ *
+ * As ffi3_arguments, of the function that the LENGTH bytes at TEXT, or the COUNT nodes at NODES, declare; of nodes all
+ * arguments are read, those behind the FIXED named ones as variadic. EACH is an array of MOST elements, and is given
+ * what is told of each argument. One that is passed by an address which is not all in STACK has FFI3_NOT_IN_STACK and
+ * that address, and zeros in VALUES: its value is the bytes there, which a debugger reads, and may copy to its offset.
+ *
+ * FFI3_OK: FOUND, EACH and VALUES are filled; each argument has a status of its own.
+ * FFI3_TOO_SMALL: FOUND is filled, and of EACH and VALUES what has room; the other is as it was. They want
+ *     FOUND->arguments elements, and FOUND->size bytes.
+ * FFI3_SHORT_STACK: FOUND->stack says how many bytes of stack are wanted, at least; EACH and VALUES are as they were.
+ * FFI3_NOT_DECLARED, FFI3_UNKNOWN_TARGET, FFI3_OUT_OF_MEMORY: as of ffi3_arguments; EACH and VALUES are as they were.
+ */
+uint32_t ffi3_arguments_each(uint32_t target, const char *text, size_t length, const struct ffi3_registers *registers,
+                             const unsigned char *stack, size_t stack_length, struct ffi3_arguments *found,
+                             struct ffi3_argument *each, size_t most, unsigned char *values, size_t capacity);
+uint32_t ffi3_arguments_nodes(uint32_t target, const struct ffi3_node *nodes, size_t count, uint32_t fixed,
+                              const struct ffi3_registers *registers, const unsigned char *stack, size_t stack_length,
+                              struct ffi3_arguments *found, struct ffi3_argument *each, size_t most,
+                              unsigned char *values, size_t capacity);
+
 /* The result of a call. */
 struct ffi3_result {
     size_t size;          /* how many bytes it takes; of void 0 */

@@ -244,6 +244,70 @@ struct nodes {
     size_t length;
 };
 
+// One call of ffi3_arguments_each, or of ffi3_arguments_nodes: over so many bytes of stack, with room for so many
+// arguments and bytes of values.
+static struct ffi3_arguments read_each(uint32_t target, const struct nodes *from, size_t deep, size_t most, size_t room)
+{
+    const char *text = from->line;
+    size_t shown = from->length;
+    struct ffi3_registers *held = block(sizeof *held);
+    unsigned char *stack = block(deep), *values = block(room);
+    struct ffi3_argument *each = block(most * sizeof *each);
+    struct ffi3_arguments *found = block(sizeof *found), told;
+    memset(held, 0x10, sizeof *held);
+    memset(stack, 0x10, deep);
+    uint32_t status = from->at ? ffi3_arguments_nodes(target, from->at, from->count, from->fixed, held, stack, deep,
+                                                      found, each, most, values, room)
+                               : ffi3_arguments_each(target, text, shown, held, stack, deep, found, each, most, values,
+                                                     room);
+    told = *found;
+    int has_each = told.arguments <= most, has_values = told.size <= room;
+    size_t seen = 0, used = 0, at = 0;
+    switch (status) {
+    case FFI3_OK:
+    case FFI3_TOO_SMALL:
+        check((status == FFI3_OK) == (has_each && has_values) && told.stack <= deep, "room for each", text, shown);
+        seen = has_each ? told.arguments : 0, used = has_values ? told.size : 0;
+        for (size_t i = 0; i < seen; at += (each[i++].size + 7) / 8 * 8)
+            check(each[i].offset == at && !each[i].reserved
+                      && (each[i].status == FFI3_OK ? !each[i].address : each[i].status == FFI3_NOT_IN_STACK
+                          && each[i].address == held->sp && deep < each[i].size), "one argument", text, shown);
+        check(!has_each || at == told.size, "all arguments", text, shown);
+        break;
+    case FFI3_SHORT_STACK:
+        check(deep < told.stack && !told.size, "short stack of each", text, shown);
+        break;
+    case FFI3_NOT_DECLARED:
+        check(!told.arguments && told.fault.kind != FFI3_NO_FAULT, "each of no function", text, shown);
+        break;
+    default:
+        check(status == FFI3_OUT_OF_MEMORY && due && due <= counted && !told.arguments, "none", text, shown);
+    }
+    check(is_untouched(each + seen, (most - seen) * sizeof *each) && is_untouched(values + used, room - used),
+          "behind each", text, shown);
+    release((char *)values, room);
+    release((char *)stack, deep);
+    release((char *)each, most * sizeof *each);
+    free(found);
+    free(held);
+    return told;
+}
+
+// The same with less and with more stack and room than is wanted.
+static void try_each(uint32_t target, const struct nodes *from)
+{
+    size_t deep = read_each(target, from, 0, 0, 0).stack;
+    if (deep)
+        read_each(target, from, deep - 1, 0, 0);
+    struct ffi3_arguments all = read_each(target, from, deep, 0, 0);
+    if (all.arguments)
+        read_each(target, from, deep, all.arguments - 1, all.size);
+    if (all.size)
+        read_each(target, from, deep, all.arguments, all.size - 1);
+    for (size_t more = 0; more <= 1; more++)
+        read_each(target, from, deep + more, all.arguments + more, all.size + more);
+}
+
 // One call of ffi3_result, or of ffi3_result_nodes: over so many bytes of stack, to which each register points, with
 // room for so many bytes of the result.
 static struct ffi3_result read_result(uint32_t target, const struct nodes *from, size_t deep, size_t room)
@@ -320,6 +384,7 @@ static void try_text(const char *from, size_t length, int all_rooms)
         read_arguments(target, text, length, deep, room);
         read_arguments(target, text, length, deep + 1, room + 1);
         try_result(target, &(struct nodes){.line = text, .length = length});
+        try_each(target, &(struct nodes){.line = text, .length = length});
     }
     lay_out(text, length, FFI3_RESULT, 0, &arguments);
     for (uint32_t value = 0; value <= arguments; value++) {
@@ -357,6 +422,8 @@ static void try_refused(const char *line, size_t length)
         read_arguments((uint32_t)due % 4, line, length, 4096, 4096);
         calls = calls > counted ? calls : counted, counted = 0;
         read_result((uint32_t)due % 4, &(struct nodes){.line = line, .length = length}, 4096, 4096);
+        calls = calls > counted ? calls : counted, counted = 0;
+        read_each((uint32_t)due % 4, &(struct nodes){.line = line, .length = length}, 4096, 64, 4096);
     } while (due <= (calls > counted ? calls : counted));
     due = 0;
 }
@@ -446,6 +513,7 @@ static void try_nodes(struct nodes from, int all_rooms)
         for (size_t room = all_rooms ? 1 : wanted; room <= wanted + 1; room++)
             place_nodes(target, &from, room);
         try_result(target, &from);
+        try_each(target, &from);
     }
     for (; from.count; from.at++, from.count--) {
         size_t wanted = type_of_nodes(&from, 0);
@@ -495,6 +563,8 @@ static void try_nodes_refused(const struct nodes *from)
         place_nodes((uint32_t)due % 4, from, 64);
         calls = counted, counted = 0;
         read_result((uint32_t)due % 4, from, 4096, 4096);
+        calls = calls > counted ? calls : counted, counted = 0;
+        read_each((uint32_t)due % 4, from, 4096, 64, 4096);
         calls = calls > counted ? calls : counted, counted = 0;
         type_of_nodes(&first, 64);
     } while (due <= (calls > counted ? calls : counted));

@@ -173,6 +173,15 @@ class Move(NamedTuple):
     length: int
 
 
+class Argument(NamedTuple):
+    """One argument that was passed: its bytes, or None where they stand at an address that is not in the stack; and how
+    many they are."""
+
+    value: object
+    size: int
+    address: int
+
+
 class _Fault(ctypes.Structure):
     _fields_ = [("kind", ctypes.c_uint32), ("argument", ctypes.c_uint32), ("offset", ctypes.c_size_t),
                 ("number", ctypes.c_size_t)]
@@ -232,6 +241,11 @@ class _Arguments(ctypes.Structure):
                 ("argument", ctypes.c_uint32), ("fault", _Fault)]
 
 
+class _Argument(ctypes.Structure):
+    _fields_ = [("status", ctypes.c_uint32), ("reserved", ctypes.c_uint32), ("offset", ctypes.c_size_t),
+                ("size", ctypes.c_size_t), ("address", ctypes.c_uint64)]
+
+
 class _Result(ctypes.Structure):
     _fields_ = [("size", ctypes.c_size_t), ("address", ctypes.c_uint64), ("reserved", ctypes.c_uint64 * 2),
                 ("fault", _Fault)]
@@ -267,6 +281,10 @@ def _load() -> ctypes.CDLL:
                                   ctypes.POINTER(_Fault)]),
         ("layout", uint32, [text, size, uint32, ctypes.POINTER(_Layout), ctypes.POINTER(_Leaf), size]),
         ("arguments", uint32, [uint32, text, size, registers, text, size, ctypes.POINTER(_Arguments), text, size]),
+        ("arguments_each", uint32, [uint32, text, size, registers, text, size, ctypes.POINTER(_Arguments),
+                                    ctypes.POINTER(_Argument), size, text, size]),
+        ("arguments_nodes", uint32, [uint32, nodes, size, uint32, registers, text, size, ctypes.POINTER(_Arguments),
+                                     ctypes.POINTER(_Argument), size, text, size]),
         ("result", uint32, [uint32, text, size, registers, text, size, ctypes.POINTER(_Result), text, size]),
         ("result_nodes", uint32, [uint32, nodes, size, uint32, registers, text, size, ctypes.POINTER(_Result), text,
                                   size]),
@@ -506,6 +524,41 @@ def arguments(target: str, declaration: str | bytes, registers: Mapping[str, int
         values.append(scalars(kind.leaves, found[start:start + kind.size]))
         start += -(-kind.size // 8) * 8
     return values
+
+
+def _each(target, registers, sp, stack, tell):
+    """Each argument; tell makes the library's call, with the target's number and what the machine held."""
+    number, told = TARGETS.index(target), _Arguments()
+    held, stack = _named_registers(number, registers, sp), bytes(stack)
+    each, capacity = (_Argument * 64)(), 256
+    while True:
+        values = ctypes.create_string_buffer(capacity)
+        status = tell(number, ctypes.byref(held), stack, len(stack), ctypes.byref(told), each, len(each), values,
+                      capacity)
+        if status != _TOO_SMALL:
+            break
+        capacity = told.size
+    if status == _SHORT_STACK:
+        raise LookupError(f"{told.stack} bytes of the stack are wanted, {len(stack)} are there")
+    if status != _OK:
+        _refuse(status, told.fault)
+    return [Argument(values.raw[one.offset:one.offset + one.size] if one.status == _OK else None, one.size, one.address)
+            for one in each[:told.arguments]]
+
+
+def arguments_each(target, declaration, registers, sp=0, stack=b""):
+    """As arguments, each by itself: the bytes of its value, or the address of those that are not in the stack."""
+    text = _bytes_of(declaration)
+    return _each(target, registers, sp, stack, lambda number, *given: _library.ffi3_arguments_each(
+        number, text, len(text), *given))
+
+
+def arguments_nodes(target, nodes, registers, sp=0, stack=b"", fixed=None):
+    """The same of the function whose result and arguments are these nodes, as place_nodes has them, with those that
+    stand in the place of its dots."""
+    (array, count), named = _nodes_of(nodes), _NOT_VARIADIC if fixed is None else fixed
+    return _each(target, registers, sp, stack, lambda number, *given: _library.ffi3_arguments_nodes(
+        number, array, count, named, *given))
 
 
 # ---- what a machine holds where a function has returned

@@ -11,6 +11,7 @@ ghost use Rattle.ffi3_capi.specs.WholeType.{LaysOutNodes, TellsOffsets};
 ghost use Rattle.ffi3_capi.specs.NaturalLayout.{ChecksLayout};
 ghost use Rattle.ffi3_transfer.specs.Stored.{image_in};
 ghost use Rattle.ffi3_capi.specs.Entry.{Reads};
+ghost use Rattle.ffi3_capi.specs.Each.{ReadsEach};
 ghost use Rattle.ffi3_capi.specs.Returned.{ReadsResult};
 ghost use Rattle.ffi3_capi.specs.Filled.{filled, with_end};
 ghost use Rattle.ffi3_capi.specs.FaultText.{fault_text};
@@ -21,8 +22,8 @@ ghost use Rattle.ffi3_interface.specs.Transfers.{Collects, Gives, Loads, Stores}
 ghost use Rattle.ffi3_interface.specs.Listing.{TellsMoves};
 
 use ffi3_capi::{
-    Declaration, EntryArguments, LaidLeaf, LaidType, Node, PlacedCall, PlacedPiece, Registers,
-    ReturnedResult, TextFault, WholeType,
+    Declaration, EachArgument, EntryArguments, LaidLeaf, LaidType, Node, PlacedCall, PlacedPiece,
+    Registers, ReturnedResult, TextFault, WholeType,
 };
 use ffi3_handle::Handle;
 use ffi3_interface::{InterfaceSizes, Reason, ToldMove};
@@ -138,6 +139,61 @@ pub extern "C" fn ffi3_arguments(
         registers,
         stack,
         found,
+        values,
+    )
+}
+
+/// Each argument of the function that the text declares, as registers and stack have it where it begins.
+#[unsafe(no_mangle)]
+pub extern "C" fn ffi3_arguments_each(
+    alloc: Global,
+    target: u32,
+    text: &[u8],
+    registers: &Registers,
+    stack: &[u8],
+    found: &mut EntryArguments,
+    each: &mut [EachArgument],
+    values: &mut [u8],
+) -> u32
+    ensures { ReadsEach (Declares text.now) (IsFaultOf text.now) target (image_in registers.now stack.now) each.old values.old result found.new each.new values.new }
+{
+    let declaration = Declaration::Text(text);
+    ffi3_capi::tell_each(
+        alloc,
+        target,
+        declaration,
+        registers,
+        stack,
+        found,
+        each,
+        values,
+    )
+}
+
+/// The same of the function that the nodes declare.
+#[unsafe(no_mangle)]
+pub extern "C" fn ffi3_arguments_nodes(
+    alloc: Global,
+    target: u32,
+    nodes: &[Node],
+    fixed: u32,
+    registers: &Registers,
+    stack: &[u8],
+    found: &mut EntryArguments,
+    each: &mut [EachArgument],
+    values: &mut [u8],
+) -> u32
+    ensures { ReadsEach (AreNodesOf nodes.now fixed) (IsFaultOfNodes nodes.now fixed) target (image_in registers.now stack.now) each.old values.old result found.new each.new values.new }
+{
+    let declaration = Declaration::Nodes(nodes, fixed);
+    ffi3_capi::tell_each(
+        alloc,
+        target,
+        declaration,
+        registers,
+        stack,
+        found,
+        each,
         values,
     )
 }

@@ -7,3 +7,4 @@ pub mod ByNodes
 pub mod Offsets
 pub mod Differing
 pub mod Results
+pub mod OneByOne

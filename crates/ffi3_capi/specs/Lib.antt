@@ -14,3 +14,4 @@ pub mod Registers
 pub mod Refused
 pub mod Entry
 pub mod Returned
+pub mod Each

@@ -1,22 +1,25 @@
 // The arguments of a function, from registers and stack where it begins.
-ghost use Rattle.std.specs.Prelude.{◌≡◌, IfOk, IfErr};
+ghost use Rattle.std.specs.Prelude.{◌≡◌, ◌≤◌, IfOk, IfErr, length};
 ghost use Rattle.ffi3_type_rules.specs.Signature.{SignatureHasNoFault};
+ghost use Rattle.ffi3_place_rules.specs.Standard.{plan_of};
+ghost use Rattle.ffi3_explain_rules.specs.Arguments.{first_outside, least_stack};
 ghost use Rattle.ffi3_explain_rules.specs.Standards.{standard_of};
 ghost use Rattle.ffi3_transfer.specs.Stored.{image_in};
 ghost use Rattle.ffi3_capi.specs.DeclaredBy.{IsDeclaredBy, IsFaultBy};
 ghost use Rattle.ffi3_capi.specs.Entry.{AreFoundBy, AreNotReadBy, AreFound, AreNotRead, Reads, arguments_of, no_arguments, unread_status};
 
-use crate::bytes::bytes_of;
 use crate::codes::{NOT_IN_STACK, SHORT_STACK};
 use crate::declaration::{Declaration, declared};
+use crate::each::see_arguments;
 use crate::fault::{FaultKind, TextFault, fault_with};
 use crate::fill::{fill_bytes, room_status};
+use crate::held::outside_of;
 use crate::placing::target_numbered;
 use crate::status::Refusal;
 use ffi3_aapcs64::Aapcs64;
 use ffi3_amd64::Amd64;
 use ffi3_cif::Cif;
-use ffi3_explain::{Image, least_stack};
+use ffi3_explain::{Outside, least_stack};
 use ffi3_place::Abi;
 use ffi3_riscv::Riscv;
 use ffi3_transfer::Registers;
@@ -69,7 +72,7 @@ pub enum Unread {
 
 impl Unread {
     /// The number that C is answered.
-    fn status(self) -> u32
+    pub(crate) fn status(self) -> u32
         ensures { result ≡ unread_status self }
     {
         match self {
@@ -80,7 +83,7 @@ impl Unread {
     }
 
     /// What C is told beside it.
-    fn told(self) -> EntryArguments
+    pub(crate) fn told(self) -> EntryArguments
         ensures { result ≡ no_arguments self }
     {
         match self {
@@ -103,7 +106,7 @@ impl Unread {
 }
 
 /// No address is told.
-fn told(arguments: usize, size: usize, stack: usize, fault: TextFault) -> EntryArguments
+pub(crate) fn told(arguments: usize, size: usize, stack: usize, fault: TextFault) -> EntryArguments
     ensures { result ≡ arguments_of arguments size stack fault }
 {
     EntryArguments {
@@ -114,6 +117,23 @@ fn told(arguments: usize, size: usize, stack: usize, fault: TextFault) -> EntryA
         argument: 0,
         fault,
     }
+}
+
+/// The first argument whose address points outside.
+fn first_outside<A: Abi>(cif: &Cif<A>, registers: &Registers, stack: &[u8]) -> Option<Outside>
+    requires { least_stack A.standard cif.now ≤ length stack.now }
+    ensures { result ≡ first_outside (image_in registers.now stack.now) A.standard.link 0 cif.now.arguments (plan_of A.standard cif.now).places }
+{
+    let sig = cif.checked_sig();
+    let base = A::LINK;
+    let count = sig.count();
+    for i in 0..count {
+        match outside_of(registers, stack, base, i, &sig.arg(i), cif.place(i)) {
+            Some(outside) => return Some(outside),
+            None => {}
+        }
+    }
+    None
 }
 
 /// The arguments by a calling standard.
@@ -138,18 +158,8 @@ fn read_by<A: Abi>(
             stack: wanted,
         });
     }
-    let Ok(stack) = Bytes::from_slice(alloc, stack) else {
-        return Err(Unread::Call(Refusal::NoMemory));
-    };
-    let image = Image {
-        general: registers.general,
-        floating: registers.floating,
-        sp: registers.sp,
-        stack,
-    };
-    let values = match ffi3_explain::arguments(alloc, &image, &cif) {
-        Ok(values) => values,
-        Err(ffi3_explain::Unread::PointsOutside(outside)) => {
+    match first_outside(&cif, registers, stack) {
+        Some(outside) => {
             return Err(Unread::NotInStack {
                 arguments,
                 stack: wanted,
@@ -157,9 +167,9 @@ fn read_by<A: Abi>(
                 address: outside.address,
             });
         }
-        Err(ffi3_explain::Unread::NoMemory) => return Err(Unread::Call(Refusal::NoMemory)),
-    };
-    let Ok(bytes) = bytes_of(alloc, &cif.checked_sig(), &values) else {
+        None => {}
+    }
+    let Ok((_each, bytes)) = see_arguments(alloc, &cif, registers, stack) else {
         return Err(Unread::Call(Refusal::NoMemory));
     };
     Ok(Found {

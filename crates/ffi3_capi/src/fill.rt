@@ -1,5 +1,5 @@
 // Items into an array of the caller.
-ghost use Rattle.std.specs.Prelude.{◌≡◌, length};
+ghost use Rattle.std.specs.Prelude.{◌≡◌, ◌&&◌, length};
 ghost use Rattle.ffi3_capi.specs.Filled.{has_room, filled, room_status, with_end};
 
 use crate::codes::{DONE, TOO_SMALL};
@@ -38,6 +38,17 @@ pub fn room_status(fits: bool) -> u32
     ensures { result ≡ room_status fits }
 {
     if fits { DONE } else { TOO_SMALL }
+}
+
+/// The same of two arrays.
+pub(crate) fn room_status_of_both(first: bool, second: bool) -> u32
+    ensures { result ≡ room_status (first && second) }
+{
+    if first {
+        room_status(second)
+    } else {
+        TOO_SMALL
+    }
 }
 
 /// Writes the text and a 0 to the front of the array, if both have room there. Answers how long the text is.

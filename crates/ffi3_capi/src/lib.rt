@@ -5,9 +5,11 @@
 mod bytes;
 pub mod codes;
 pub mod declaration;
+mod each;
 mod entry;
 mod fault;
 pub mod fill;
+mod held;
 mod layouts;
 mod natural;
 mod nodes;
@@ -21,6 +23,7 @@ mod text;
 mod whole;
 
 pub use declaration::Declaration;
+pub use each::{EachArgument, EachArguments, Seen, see, tell_each};
 pub use entry::{EntryArguments, Found, Unread, arguments, find_arguments};
 pub use fault::{FaultKind, TextFault, fault_with};
 pub use ffi3_nodes::Node;

@@ -1,0 +1,287 @@
+// The arguments of a function, each by itself, from registers and stack where it begins.
+ghost use Rattle.std.specs.Prelude.{◌≡◌, ◌+◌, ◌≤◌, IfErr, IfOk, None, OnOk, [], ◌++◌, length, replicate};
+ghost use Rattle.ffi3_type_rules.specs.declared.limits.TheConstants.{LARGEST_TYPE};
+ghost use Rattle.ffi3_type_rules.specs.Signature.{SignatureHasNoFault};
+ghost use Rattle.ffi3_place_rules.specs.Standard.{plan_of};
+ghost use Rattle.ffi3_place_rules.specs.Sound.{PlaceHasAll};
+ghost use Rattle.ffi3_explain.specs.Places.{ArgumentIsThere};
+ghost use Rattle.ffi3_explain_rules.specs.Arguments.{least_stack, outside_of, value_by_standard};
+ghost use Rattle.ffi3_explain_rules.specs.Standards.{standard_of};
+ghost use Rattle.ffi3_transfer.specs.Stored.{image_in};
+ghost use Rattle.ffi3_capi.specs.DeclaredBy.{IsDeclaredBy, IsFaultBy};
+ghost use Rattle.ffi3_capi.specs.Entry.{HasOneMore};
+ghost use Rattle.ffi3_capi.specs.Each.{AreSeen, AreSeenBy, AreUnseen, AreUnseenBy, AreSeenOf, IsSeen, ReadsEach, each_argument};
+
+use crate::bytes::push_value;
+use crate::codes::{DONE, NOT_IN_STACK};
+use crate::declaration::{Declaration, declared};
+use crate::entry::{EntryArguments, Unread, told};
+use crate::fault::{FaultKind, fault_with};
+use crate::fill::{fill, fill_bytes, room_status_of_both};
+use crate::held::{outside_of, read_argument};
+use crate::placing::target_numbered;
+use crate::status::Refusal;
+use ffi3_aapcs64::Aapcs64;
+use ffi3_amd64::Amd64;
+use ffi3_cif::Cif;
+use ffi3_explain::{Outside, least_stack};
+use ffi3_place::{Abi, Place};
+use ffi3_place_rules::Listed;
+use ffi3_riscv::Riscv;
+use ffi3_transfer::Registers;
+use ffi3_type_rules::limits::LARGEST_TYPE;
+use ffi3_type_rules::round_up;
+use ffi3_types::{Bytes, CheckedSig, CheckedType, NoMemory, Sig, Target};
+use ffi3_values::value_from_bytes;
+use ffi3_win64::Win64;
+use std::alloc::Global;
+
+/// What is told of one argument: C's `struct ffi3_argument`.
+#[repr(C)]
+#[derive(Clone, Copy)]
+pub struct EachArgument {
+    /// `DONE`, or `NOT_IN_STACK`.
+    pub status: u32,
+    /// Nothing yet.
+    pub reserved: u32,
+    /// Where its bytes begin among those of all.
+    pub offset: usize,
+    /// How many it has.
+    pub size: usize,
+    /// The address that has them, if that points past the stack's bytes.
+    pub address: u64,
+}
+
+pub type EachArguments = Listed<EachArgument>;
+
+/// Arguments that were looked at, and the bytes of all.
+#[derive(Drop)]
+pub struct Seen {
+    pub told: EntryArguments,
+    pub each: EachArguments,
+    pub bytes: Bytes,
+}
+
+/// So many zeros more.
+fn push_zeros(n: usize, bytes: &mut Bytes) -> Result<(), NoMemory>
+    requires { n ≤ LARGEST_TYPE + 8 }
+    ensures { OnOk result (bytes.new ≡ bytes.old ++ replicate n 0) }
+{
+    let zeros = [0; LARGEST_TYPE as usize + 8];
+    bytes.extend(&zeros[..n])?;
+    Ok(())
+}
+
+/// What is told of an argument of so many bytes, which begin there.
+fn each_argument(size: usize, offset: usize, outside: Option<Outside>) -> EachArgument
+    ensures { result ≡ each_argument size offset outside }
+{
+    match outside {
+        Some(outside) => EachArgument {
+            status: NOT_IN_STACK,
+            reserved: 0,
+            offset,
+            size,
+            address: outside.address,
+        },
+        None => EachArgument {
+            status: DONE,
+            reserved: 0,
+            offset,
+            size,
+            address: 0,
+        },
+    }
+}
+
+/// The bytes of an argument whose address, if it has one, points inside, with padding of 0 in and behind it.
+fn push_argument(
+    alloc: Global,
+    registers: &Registers,
+    stack: &[u8],
+    base: u64,
+    ty: &CheckedType<'_>,
+    place: &Place,
+    bytes: &mut Bytes,
+) -> Result<(), NoMemory>
+    requires there { ArgumentIsThere (image_in registers.now stack.now) base place.now }
+    requires has_all { PlaceHasAll ty.now place.now }
+    requires inside { outside_of (image_in registers.now stack.now) base 0 ty.now place.now ≡ None }
+    ensures { OnOk result (HasOneMore ty.now (value_by_standard (image_in registers.now stack.now) base ty.now place.now) bytes.old bytes.new) }
+{
+    let mut room = [0; LARGEST_TYPE as usize];
+    let here = &mut room[..ty.size() as usize];
+    read_argument(registers, stack, base, ty, place, here);
+    let value = value_from_bytes(alloc, ty.as_type(), here)?;
+    push_value(ty, &value, bytes)
+}
+
+/// Argument `i`: its bytes behind the others, or zeros where its address points outside.
+fn see_argument(
+    alloc: Global,
+    registers: &Registers,
+    stack: &[u8],
+    base: u64,
+    i: u32,
+    ty: &CheckedType<'_>,
+    place: &Place,
+    bytes: &mut Bytes,
+) -> Result<EachArgument, NoMemory>
+    requires there { ArgumentIsThere (image_in registers.now stack.now) base place.now }
+    requires has_all { PlaceHasAll ty.now place.now }
+    ensures { IfOk result (λ one. IsSeen (image_in registers.now stack.now) base i ty.now place.now bytes.old bytes.new one) }
+{
+    let at = bytes.len();
+    let size = ty.size();
+    match outside_of(registers, stack, base, i, ty, place) {
+        Some(outside) => {
+            push_zeros(round_up(size, 8) as usize, bytes)?;
+            Ok(each_argument(size as usize, at, Some(outside)))
+        }
+        None => {
+            push_argument(alloc, registers, stack, base, ty, place, bytes)?;
+            Ok(each_argument(size as usize, at, None))
+        }
+    }
+}
+
+/// What is told of all arguments, and their bytes.
+pub(crate) fn see_arguments<A: Abi>(
+    alloc: Global,
+    cif: &Cif<A>,
+    registers: &Registers,
+    stack: &[u8],
+) -> Result<(EachArguments, Bytes), NoMemory>
+    requires { least_stack A.standard cif.now ≤ length stack.now }
+    ensures { IfOk result (λ r. AreSeen (image_in registers.now stack.now) A.standard.link 0 cif.now.arguments (plan_of A.standard cif.now).places [] r.1 r.0) }
+{
+    let sig = cif.checked_sig();
+    let base = A::LINK;
+    let count = sig.count();
+    let mut each = Listed::new(alloc);
+    let mut bytes = Bytes::new(alloc);
+    for i in 0..count {
+        let one = see_argument(
+            alloc,
+            registers,
+            stack,
+            base,
+            i,
+            &sig.arg(i),
+            cif.place(i),
+            &mut bytes,
+        )?;
+        each.push(one)?;
+    }
+    Ok((each, bytes))
+}
+
+/// The arguments by a calling standard.
+fn see_by<A: Abi>(
+    alloc: Global,
+    sig: Sig,
+    registers: &Registers,
+    stack: &[u8],
+) -> Result<Seen, Unread>
+    requires { SignatureHasNoFault sig }
+    ensures seen { IfOk result (λ f. AreSeenBy A.standard sig (image_in registers.now stack.now) f) }
+    ensures unseen { IfErr result (λ u. AreUnseenBy A.standard sig (image_in registers.now stack.now) u) }
+{
+    let arguments = CheckedSig::of(&sig).count() as usize;
+    let Ok(cif) = Cif::<A>::prepare(alloc, sig) else {
+        return Err(Unread::Call(Refusal::NoMemory));
+    };
+    let wanted = least_stack(&cif) as usize;
+    if stack.len() < wanted {
+        return Err(Unread::ShortStack {
+            arguments,
+            stack: wanted,
+        });
+    }
+    let Ok((each, bytes)) = see_arguments(alloc, &cif, registers, stack) else {
+        return Err(Unread::Call(Refusal::NoMemory));
+    };
+    Ok(Seen {
+        told: told(
+            arguments,
+            bytes.len(),
+            wanted,
+            fault_with(FaultKind::NoFault),
+        ),
+        each,
+        bytes,
+    })
+}
+
+/// The arguments by the target's calling standard.
+fn see_on(
+    alloc: Global,
+    target: Target,
+    sig: Sig,
+    registers: &Registers,
+    stack: &[u8],
+) -> Result<Seen, Unread>
+    requires { SignatureHasNoFault sig }
+    ensures seen { IfOk result (λ f. AreSeenBy (standard_of target) sig (image_in registers.now stack.now) f) }
+    ensures unseen { IfErr result (λ u. AreUnseenBy (standard_of target) sig (image_in registers.now stack.now) u) }
+{
+    match target {
+        Target::Amd64 => see_by::<Amd64>(alloc, sig, registers, stack),
+        Target::Aapcs64 => see_by::<Aapcs64>(alloc, sig, registers, stack),
+        Target::Riscv => see_by::<Riscv>(alloc, sig, registers, stack),
+        Target::Win64 => see_by::<Win64>(alloc, sig, registers, stack),
+    }
+}
+
+/// The arguments of the function that is declared, each by itself, as registers and stack have them where it begins, by
+/// the calling standard with this number alone: its bytes, or the address of those that are outside the stack's.
+pub fn see(
+    alloc: Global,
+    target: u32,
+    declaration: Declaration<'_>,
+    registers: &Registers,
+    stack: &[u8],
+) -> Result<Seen, Unread>
+    ensures seen { IfOk result (λ f. AreSeenOf (IsDeclaredBy declaration.entry) target (image_in registers.now stack.now) f) }
+    ensures unseen { IfErr result (λ u. AreUnseen (IsDeclaredBy declaration.entry) (IsFaultBy declaration.entry) target (image_in registers.now stack.now) u) }
+{
+    let Some(to) = target_numbered(target) else {
+        return Err(Unread::Call(Refusal::NoSuchTarget));
+    };
+    let sig = match declared(alloc, declaration) {
+        Ok(sig) => sig,
+        Err(Some(fault)) => return Err(Unread::Call(Refusal::Fault(fault))),
+        Err(None) => return Err(Unread::Call(Refusal::NoMemory)),
+    };
+    match see_on(alloc, to, sig, registers, stack) {
+        Ok(seen) => Ok(seen),
+        Err(unseen) => Err(unseen),
+    }
+}
+
+/// The same for a caller's struct and arrays. The number tells whether both had room, or why there are none.
+pub fn tell_each(
+    alloc: Global,
+    target: u32,
+    declaration: Declaration<'_>,
+    registers: &Registers,
+    stack: &[u8],
+    told: &mut EntryArguments,
+    each: &mut [EachArgument],
+    values: &mut [u8],
+) -> u32
+    ensures { ReadsEach (IsDeclaredBy declaration.entry) (IsFaultBy declaration.entry) target (image_in registers.now stack.now) each.old values.old result told.new each.new values.new }
+{
+    match see(alloc, target, declaration, registers, stack) {
+        Ok(seen) => {
+            *told = seen.told;
+            let has_each = fill(&seen.each, each);
+            let has_values = fill_bytes(seen.bytes.as_slice(), values);
+            room_status_of_both(has_each, has_values)
+        }
+        Err(unseen) => {
+            *told = unseen.told();
+            unseen.status()
+        }
+    }
+}
