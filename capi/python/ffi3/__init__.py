@@ -24,15 +24,16 @@ too; `headers` reads C headers, `drawing` and `page` show where things stand, `g
 import sys
 
 try:
-    from .library import (FRAME_AT, HIDDEN, MOVES, RESULT, TARGETS, VERSION, Call, Error, Interface, Layout, Move,
-                          NoAddress, NotInStack, Piece, ShortStack, Sizes, Type, VersionError, arguments, check_layout,
-                          layout, layout_nodes, place, place_nodes, result, result_nodes, scalars, version)
+    from .library import (FRAME_AT, HIDDEN, MOVES, RESULT, TARGETS, VERSION, Argument, Call, Error, Interface, Layout,
+                          Move, NoAddress, NotInStack, Piece, ShortStack, Sizes, Type, VersionError, arguments,
+                          arguments_each, arguments_nodes, check_layout, layout, layout_nodes, place, place_nodes,
+                          result, result_nodes, scalars, version)
 except (OSError, ImportError) as error:
     if sys.argv[:1] != ["-m"]:
         raise
     sys.exit(f"ffi3: {error}")  # to who runs the package as a program a line says enough
 
-__all__ = ["FRAME_AT", "HIDDEN", "MOVES", "RESULT", "TARGETS", "VERSION", "Call", "Error", "Interface", "Layout",
-           "Move", "NoAddress", "NotInStack", "Piece", "ShortStack", "Sizes", "Type", "VersionError", "arguments",
-           "check_layout", "layout", "layout_nodes", "place", "place_nodes", "result", "result_nodes", "scalars",
-           "version"]
+__all__ = ["FRAME_AT", "HIDDEN", "MOVES", "RESULT", "TARGETS", "VERSION", "Argument", "Call", "Error", "Interface",
+           "Layout", "Move", "NoAddress", "NotInStack", "Piece", "ShortStack", "Sizes", "Type", "VersionError",
+           "arguments", "arguments_each", "arguments_nodes", "check_layout", "layout", "layout_nodes", "place",
+           "place_nodes", "result", "result_nodes", "scalars", "version"]

@@ -15,7 +15,6 @@ reference to through gdb. The machine is amd64, aarch64 or riscv64, as gdb names
 """
 
 import re
-import struct
 import sys
 import tempfile
 from collections.abc import Iterator, Mapping, Sequence
@@ -30,7 +29,7 @@ sys.path.insert(0, str(Path(__file__).resolve().parents[1]))
 
 try:
     from ffi3 import headers, library
-    from ffi3.library import RESULT, Call, Node, Piece, Scalar, Type
+    from ffi3.library import RESULT, Call, Node, Scalar, Type
 except ModuleNotFoundError as error:
     if error.name != "pycparser":
         raise
@@ -227,71 +226,9 @@ def prototype_of(target: str, text: str) -> Prototype:
 
 # ---- values
 
-def text_of(nodes: Sequence[Node], name: str = "") -> tuple[str, int]:
-    """A declaration in C of what the nodes from the front are, and how many they are. The library reads arguments by a
-    text alone."""
-    first = nodes[0]
-    kind, count = (first, 0) if isinstance(first, str) else first
-    if kind == "struct":
-        members, used = [], 1
-        for i in range(count):
-            text, more = text_of(nodes[used:], f"m{i}")
-            members.append(f"{text};")
-            used += more
-        return f"struct {{ {' '.join(members)} }} {name}", used
-    if kind == "array":
-        text, used = text_of(nodes[1:], f"{name}[{count}]")
-        return text, used + 1
-    if kind.startswith("complex "):
-        real = kind.removeprefix("complex ")
-        return f"struct {{ {real} re; {real} im; }} {name}", 1
-    found = re.fullmatch(r"([us])int(\d+)", kind)
-    if found and found[2] == "128":
-        return f"{'unsigned ' * (found[1] == 'u')}__int128 {name}", 1
-    plain = f"{'u' * (found[1] == 'u')}int{found[2]}_t" if found else {"pointer": "void *"}.get(kind, kind)
-    return f"{plain} {name}", 1
-
-
-def declaration_of(prototype: Prototype) -> str:
-    """The function of a prototype with its named arguments, in the words that the library reads."""
-    function = prototype.function
-    result, _ = text_of(function.nodes[0], "f")
-    given = [text_of(kind)[0] for kind in function.nodes[1:]]
-    return f"{result}({', '.join([*given, *['...'] * function.is_variadic] or ['void'])})"
-
-
 def registers(stop: Stop, call: Call) -> dict[str, int]:
     """The registers that a call's places name."""
     return {piece.place: stop.register(piece.place) for piece in call.pieces if piece.place != "stack"}
-
-
-def first_argument(stop: Stop) -> int:
-    """How far above sp stack arguments begin at an entry: behind the return address, where that is on the stack."""
-    return 0 if stop.machine.link else 8
-
-
-def named_arguments(stop: Stop, prototype: Prototype) -> list[tuple[Scalar, ...]]:
-    """The named arguments by ffi3_arguments.
-
-    It reads the stack alone. So where it says that an argument is at an address elsewhere, the bytes there are put
-    behind the stack's, the place of the address has theirs, and it is asked again."""
-    call, text = prototype.function.place(), declaration_of(prototype)
-    held, sp, stack = registers(stop, call), stop.register("sp"), bytearray(stop.stack())
-    addresses = {piece.part: piece for piece in call.pieces[:call.passed] if piece.is_address}
-    while True:
-        try:
-            return library.arguments(stop.machine.target, text, held, sp, bytes(stack))
-        except library.NotInStack as missing:
-            size = prototype.function.layout(missing.argument).size
-            stack += bytes(-len(stack) % 16)
-            at = sp + len(stack)
-            stack += read_or_say(stop, missing.address, size, f"argument {missing.argument}")
-            piece = addresses.pop(missing.argument)
-            if piece.place == "stack":
-                start = first_argument(stop) + piece.number
-                stack[start:start + 8] = (at & WORD).to_bytes(8, "little")
-            else:
-                held[piece.place] = at & WORD
 
 
 def read_or_say(stop: Stop, at: int, size: int, what: str) -> bytes:
@@ -300,19 +237,6 @@ def read_or_say(stop: Stop, at: int, size: int, what: str) -> bytes:
         return stop.memory(at, size)
     except gdb.MemoryError:
         raise gdb.GdbError(f"{what} stands at the address {at:#x}, where no memory is") from None
-
-
-def by_pieces(stop: Stop, pieces: Sequence[Piece], kind: Type) -> tuple[Scalar, ...]:
-    """A value from its pieces, as place_nodes tells them: what stands for dots no call of the library reads."""
-    held = bytearray(kind.size)
-    sp = stop.register("sp") + first_argument(stop)
-    for piece in pieces:
-        found = (stop.memory(sp + piece.number, 8 if piece.is_address else piece.length) if piece.place == "stack"
-                 else stop.register(piece.place).to_bytes(8, "little"))
-        if piece.is_address:
-            return library.scalars(kind.leaves, read_or_say(stop, int.from_bytes(found, "little"), kind.size, "it"))
-        held[piece.offset:piece.offset + piece.length] = found[:piece.length]
-    return library.scalars(kind.leaves, bytes(held))
 
 
 def result_of(stop: Stop, function: headers.Function, kind: Type) -> bytes:
@@ -327,12 +251,15 @@ def result_of(stop: Stop, function: headers.Function, kind: Type) -> bytes:
 
 
 def all_arguments(stop: Stop, prototype: Prototype) -> Iterator[tuple[str, Type, tuple[Scalar, ...]]]:
-    """Each argument's name, type and scalars."""
-    call, named = prototype.place(), named_arguments(stop, prototype)
-    for i, (name, nodes) in enumerate(zip(prototype.names(), prototype.kinds)):
+    """Each argument's name, type and scalars, by ffi3_arguments_nodes, or by the bytes at the address that it tells."""
+    function = prototype.function
+    found = library.arguments_nodes(stop.machine.target, chain(*function.nodes, *prototype.more),
+                                    registers(stop, prototype.place()), stop.register("sp"), stop.stack(),
+                                    function.fixed)
+    for name, nodes, one in zip(prototype.names(), prototype.kinds, found):
         kind = library.layout_nodes(nodes)
-        value = named[i] if i < len(named) else by_pieces(stop, [each for each in call.pieces if each.part == i], kind)
-        yield name, kind, value
+        held = read_or_say(stop, one.address, one.size, name) if one.value is None else one.value
+        yield name, kind, library.scalars(kind.leaves, held)
 
 
 def shown(kind: Type, value: tuple[Scalar, ...]) -> str:

@@ -177,7 +177,7 @@ class Argument(NamedTuple):
     """One argument that was passed: its bytes, or None where they stand at an address that is not in the stack; and how
     many they are."""
 
-    value: object
+    value: bytes | None
     size: int
     address: int
 
@@ -526,10 +526,10 @@ def arguments(target: str, declaration: str | bytes, registers: Mapping[str, int
     return values
 
 
-def _each(target, registers, sp, stack, tell):
+def _each(target: str, registers: Mapping[str, int], sp: int, stack: bytes, tell) -> list[Argument]:
     """Each argument; tell makes the library's call, with the target's number and what the machine held."""
-    number, told = TARGETS.index(target), _Arguments()
-    held, stack = _named_registers(number, registers, sp), bytes(stack)
+    number, told = _target(target), _Arguments()
+    held, stack = _named_registers(number, registers, sp), bytes(memoryview(stack))
     each, capacity = (_Argument * 64)(), 256
     while True:
         values = ctypes.create_string_buffer(capacity)
@@ -539,24 +539,26 @@ def _each(target, registers, sp, stack, tell):
             break
         capacity = told.size
     if status == _SHORT_STACK:
-        raise LookupError(f"{told.stack} bytes of the stack are wanted, {len(stack)} are there")
+        raise ShortStack(told.stack, len(stack))
     if status != _OK:
         _refuse(status, told.fault)
     return [Argument(values.raw[one.offset:one.offset + one.size] if one.status == _OK else None, one.size, one.address)
             for one in each[:told.arguments]]
 
 
-def arguments_each(target, declaration, registers, sp=0, stack=b""):
+def arguments_each(target: str, declaration: str | bytes, registers: Mapping[str, int], sp: int = 0,
+                   stack: bytes = b"") -> list[Argument]:
     """As arguments, each by itself: the bytes of its value, or the address of those that are not in the stack."""
     text = _bytes_of(declaration)
     return _each(target, registers, sp, stack, lambda number, *given: _library.ffi3_arguments_each(
         number, text, len(text), *given))
 
 
-def arguments_nodes(target, nodes, registers, sp=0, stack=b"", fixed=None):
+def arguments_nodes(target: str, nodes: Iterable[Node], registers: Mapping[str, int], sp: int = 0, stack: bytes = b"",
+                    fixed: int | None = None) -> list[Argument]:
     """The same of the function whose result and arguments are these nodes, as place_nodes has them, with those that
     stand in the place of its dots."""
-    (array, count), named = _nodes_of(nodes), _NOT_VARIADIC if fixed is None else fixed
+    (array, count), named = _nodes_of(nodes), _named(fixed)
     return _each(target, registers, sp, stack, lambda number, *given: _library.ffi3_arguments_nodes(
         number, array, count, named, *given))
 
