@@ -1,6 +1,6 @@
 /* ffi3.h: where C's calling standards put the arguments and the result of a function.
  *
- * From a function's declaration to registers, stack offsets, sizes and alignments, by four calling standards, and from
+ * From a function's declaration to registers, stack offsets, sizes and alignments, by five calling standards, and from
  * the registers and the stack of a machine that entered the function back to its arguments. The code behind this header
  * is proved; docs/TRUSTED.md says what its proof rests on, this header and the caller's duties below among it.
  *
@@ -51,6 +51,7 @@ extern "C" {
                           there all that stands for `...`, and skips no register. Windows' has its own `...` too */
 #define FFI3_RISCV 2   /* RISC-V psABI, LP64D */
 #define FFI3_WIN64 3   /* Microsoft x64 */
+#define FFI3_APPLE 4   /* Apple's for arm64: macOS, iOS */
 
 /* ANSWERS of ffi3_place, ffi3_layout, ffi3_arguments, and of those that take nodes. */
 #define FFI3_OK 0
@@ -117,6 +118,7 @@ struct ffi3_fault {
 #define FFI3_REST_EXTENDED 1       /* the integer is sign- or zero-extended to 64 bits, by its type */
 #define FFI3_REST_EXTENDED_BY_32 2 /* so to 32 bits, and from there sign-extended to 64 */
 #define FFI3_REST_ONES 3           /* ones: the float is NaN-boxed */
+#define FFI3_REST_NONE 4           /* there is none: the bytes behind may be another argument's. By FFI3_APPLE alone */
 
 /* Where bytes of one value stand, or their address. */
 struct ffi3_piece {
@@ -199,7 +201,7 @@ struct ffi3_layout {
  *                      struct ffi3_layout *LAYOUT, struct ffi3_leaf *LEAVES, size_t CAPACITY)
  *
  * How the type of argument VALUE is laid out, or of the result where VALUE is FFI3_RESULT, of the function that the
- * LENGTH bytes at TEXT declare. All four standards lay out alike.
+ * LENGTH bytes at TEXT declare. All five standards lay out alike.
  *
  * LEAVES is an array of CAPACITY elements, and is given the type's scalars from the front.
  *

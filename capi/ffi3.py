@@ -12,8 +12,8 @@
 
 On the command line:
 
-    python3 ffi3.py TARGET "double f(..)"           one line a piece; TARGET is amd64, aapcs64, riscv or win64
-    python3 ffi3.py --svg FILE "double f(..)"       draws registers and stack of the four targets in colours
+    python3 ffi3.py TARGET "double f(..)"           one line a piece; TARGET is amd64, aapcs64, riscv, win64 or apple
+    python3 ffi3.py --svg FILE "double f(..)"       draws registers and stack of the five targets in colours
 
 The library is the one that FFI3_LIBRARY names, or out/libffi3.so beside this file, or that of the system.
 """
@@ -27,7 +27,7 @@ from operator import index
 from pathlib import Path
 from typing import NamedTuple
 
-TARGETS = ("amd64", "aapcs64", "riscv", "win64")
+TARGETS = ("amd64", "aapcs64", "riscv", "win64", "apple")
 RESULT = "result"
 HIDDEN = "hidden"
 
@@ -37,7 +37,7 @@ _RESULT, _HIDDEN = 0xFFFFFFFF, 0xFFFFFFFE
 _NOT_VARIADIC = 0xFFFFFFFF
 _ADDRESS = 1
 _GENERAL, _FLOATING, _STACK = range(3)
-_RESTS = ("free", "extended", "extended by 32", "ones")
+_RESTS = ("free", "extended", "extended by 32", "ones", "none")
 _KINDS = ("uint8", "sint8", "uint16", "sint16", "uint32", "sint32", "uint64", "sint64", "uint128", "sint128", "float",
           "double", "pointer")
 _SIZES = dict(zip(_KINDS, (1, 1, 2, 2, 4, 4, 8, 8, 16, 16, 4, 8, 8)))
@@ -74,7 +74,7 @@ class Piece(NamedTuple):
     part is an argument's number, "hidden" or "result"; place a register's name, or "stack". On the stack number is the
     offset from the first stack argument. Of an address, offset says where in the caller's frame the value stands. rest
     is what the rest of a register, or of the last eight bytes on the stack, holds: "free", "extended", "extended by 32"
-    or "ones", as ffi3.h says.
+    "ones" or "none", as ffi3.h says.
     """
 
     part: object
@@ -89,7 +89,7 @@ class Piece(NamedTuple):
         at = f"stack+{self.number}" if self.place == "stack" else self.place
         if self.is_address:
             return f"{self.part}: {at} has the address of frame+{self.offset}"
-        rest = "" if self.rest == "free" else f", the rest {self.rest}"
+        rest = "" if self.rest in ("free", "none") else f", the rest {self.rest}"
         return f"{self.part}: {at} has bytes {self.offset} to {self.offset + self.length - 1}{rest}"
 
 
@@ -513,7 +513,7 @@ def _draw_target(drawing, x, y, target, declaration, sizes):
 
 
 def svg(declaration):
-    """A drawing of registers and stack of the four targets, each argument in a colour of its own."""
+    """A drawing of registers and stack of the five targets, each argument in a colour of its own."""
     count = layout(declaration).arguments
     sizes = {i: layout(declaration, i).size for i in range(count)} | {HIDDEN: layout(declaration).size}
     drawing = _Drawing()
@@ -526,7 +526,7 @@ def svg(declaration):
         x += 150
     for column, target in enumerate(TARGETS):
         _draw_target(drawing, 16 + column * (_WIDTH + _GAP), 92, target, declaration, sizes)
-    width = max(32 + 4 * _WIDTH + 3 * _GAP, x)
+    width = max(32 + len(TARGETS) * _WIDTH + (len(TARGETS) - 1) * _GAP, x)
     return "\n".join([
         f'<svg xmlns="http://www.w3.org/2000/svg" width="{width:g}" height="{drawing.height + 16:g}" '
         f'font-family="sans-serif" fill="#111111">',

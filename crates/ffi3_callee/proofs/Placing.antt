@@ -21,7 +21,7 @@ use Rattle.ffi3_callee.specs.Loaded.{AreLoaded, HaveByte, IsRead, image_from}
 
 pub parts_within : (t : Tree) (pieces : List Piece) (size : ℕ) → size ≡ size_of t → HaveAll t pieces → AllByRecursion (IsWithin size) pieces
 parts_within t pieces size is all =
-    each_weaker (IsPieceOf t) (IsWithin size) (λ p h. (h.short, omega (arith, is, h.within))) pieces all.each
+    each_weaker (IsPieceOf t) (IsWithin size) (λ p h. (h.short, omega (arith, is, h.within), h.fits)) pieces all.each
 
 module _ (base room : ℕ) (m : State) (low : STACK ≤ base) where
   have_byte : (t : Tree) (o x : ℕ) (pieces : List Piece) → AllByRecursion (IsPieceOf t) pieces → AllByRecursion (IsPlace room) (piece_locs pieces) → AllByRecursion (λ p. Carries o p → byte_at (image_from base room m) 0 p.loc (o - p.off) ≡ x) pieces → HaveByte base m o x pieces
