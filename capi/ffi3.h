@@ -267,7 +267,7 @@ struct ffi3_type {
  * uint32_t ffi3_offsets_nodes(const struct ffi3_node *NODES, size_t COUNT, struct ffi3_type *TYPE,
  *                             size_t *OFFSETS, size_t CAPACITY)
  *
- * How the one type that the COUNT nodes at NODES are is laid out, by all four standards alike. It is one that can be a
+ * How the one type that the COUNT nodes at NODES are is laid out, by all five standards alike. It is one that can be a
  * result: void, a scalar, or a struct. An array stands in a struct.
  *
  * LEAVES is an array of CAPACITY elements, and is given the type's scalars from the front. OFFSETS is given where each

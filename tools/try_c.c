@@ -105,7 +105,7 @@ static int is_untouched(const void *made, size_t size)
 static int is_right_piece(const struct ffi3_call *call, size_t i, const struct ffi3_piece *p)
 {
     int part = i < call->passed ? p->part < call->arguments || p->part == FFI3_HIDDEN : p->part == FFI3_RESULT;
-    return part && p->holds <= FFI3_ADDRESS && p->place <= FFI3_STACK && p->length && p->rest <= FFI3_REST_ONES
+    return part && p->holds <= FFI3_ADDRESS && p->place <= FFI3_STACK && p->length && p->rest <= FFI3_REST_NONE
         && (p->place == FFI3_STACK ? p->number + p->length <= call->frame : p->number < 32 && p->length <= 8);
 }
 
@@ -241,7 +241,7 @@ static void try_text(const char *from, size_t length, int all_rooms)
     char *text = block(length);
     size_t arguments, none;
     memcpy(text, from, length);
-    for (uint32_t target = FFI3_AMD64; target <= FFI3_WIN64; target++) {
+    for (uint32_t target = FFI3_AMD64; target <= FFI3_APPLE; target++) {
         size_t wanted = place(target, text, length, 0);
         for (size_t room = all_rooms ? 1 : wanted; room <= wanted + 1; room++)
             place(target, text, length, room);
@@ -380,7 +380,7 @@ static void try_nodes(struct nodes from, int all_rooms)
     struct ffi3_node *exact = block(from.count * sizeof *exact);
     memcpy(exact, from.at, from.count * sizeof *exact);
     from.at = exact;
-    for (uint32_t target = FFI3_AMD64; target <= FFI3_WIN64; target++) {
+    for (uint32_t target = FFI3_AMD64; target <= FFI3_APPLE; target++) {
         size_t wanted = place_nodes(target, &from, 0);
         for (size_t room = all_rooms ? 1 : wanted; room <= wanted + 1; room++)
             place_nodes(target, &from, room);

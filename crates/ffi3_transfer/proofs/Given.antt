@@ -1,7 +1,7 @@
 -- A result that a callee gives, in registers or in the buffer whose address was passed.
 use Rattle.std.specs.Prelude.{Option, Some, None, true}
-use Rattle.std.proofs.Common.{◌≡◌, ◌⊎◌, inl, inr, ℕ, ◌+◌, ◌-◌, ◌<◌, ◌≤◌, List, [], ◌∷◌, take, drop, get_or, length, refl, ap, sym, ◌∙◌, subst, arith, length-drop}
-use Rattle.std.specs.List.{AllByRecursion}
+use Rattle.std.proofs.Common.{◌≡◌, ◌⊎◌, inl, inr, ℕ, ◌+◌, ◌-◌, ◌<◌, ◌≤◌, List, [], ◌∷◌, ◌++◌, take, drop, get_or, length, refl, ap, sym, ◌∙◌, subst, arith, length-drop}
+use Rattle.std.specs.List.{AllByRecursion, flat_map}
 use Rattle.std.proofs.lemmas.Bool.{cases_lt}
 use Rattle.std.proofs.lemmas.List.{ext_get_or, drop-drop}
 use Rattle.ffi3_type_rules.specs.Tree.{Tree}
@@ -17,23 +17,25 @@ use Rattle.ffi3_place_rules.specs.declared.Piece.{Piece}
 use Rattle.ffi3_place_rules.specs.declared.Res.TheVariants.{Direct as DirectRes, Hidden}
 use Rattle.ffi3_place_rules.specs.Isa.{to_list}
 use Rattle.ffi3_place_rules.specs.Image.{Image, byte_at, word_at}
-use Rattle.ffi3_place_rules.specs.Standard.{Standard, plan_of}
+use Rattle.ffi3_place_rules.specs.Standard.{Standard, frame_of, plan_of}
 use Rattle.ffi3_place_rules.specs.Holds.{FillsAs, FillsResult, OwnsHidden, OwnsResult, RegisterHolds}
-use Rattle.ffi3_place_rules.specs.Sound.{IsNoneOf, IsSound, piece_locs, result_locs}
+use Rattle.ffi3_place_rules.specs.Sound.{IsNoneOf, IsSound, LiesIn, argument_locs, buffer_locs, copy_locs, hidden_locs, piece_locs, place_locs, result_locs}
 use Rattle.ffi3_pieces.specs.Stored.{IsPlace}
-use Rattle.ffi3_pieces.proofs.Lawful.{machine_places}
-use Rattle.ffi3_explain_rules.specs.Arguments.{is_in_image}
+use Rattle.ffi3_pieces.proofs.Lawful.{each_first, machine_places}
+use Rattle.ffi3_explain_rules.specs.Arguments.{is_in_image, stack_end}
+use Rattle.ffi3_explain.specs.Places.{HasPlace}
+use Rattle.ffi3_explain.proofs.Ready.{places_reached}
 use Rattle.ffi3_transfer.specs.Stored.{KeepsAbove, SameAt, Stays, PieceStands}
 use Rattle.ffi3_transfer.specs.Calls.{IsBeside, IsGiven, IsGivenBy, ResultKeeps, at_return, given_locs}
 use Rattle.ffi3_transfer.proofs.Owning.{pieces_stand, pieces_filled}
 
 -- ---- registers alone
 
-none_of_registers : (ls : List Loc) (n : ℕ) → AllByRecursion (IsPlace 0) ls → IsNoneOf ls (S n)
-none_of_registers [] n h = tt
-none_of_registers (G r ∷ ls) n h = (tt, none_of_registers ls n h.1)
-none_of_registers (F r ∷ ls) n h = (tt, none_of_registers ls n h.1)
-none_of_registers (S k ∷ ls) n h = absurd (omega (arith, h.0))
+none_of_registers : (ls : List Loc) (n w : ℕ) → AllByRecursion (IsPlace 0) ls → IsNoneOf ls (S n w)
+none_of_registers [] n w h = tt
+none_of_registers (G r ∷ ls) n w h = (tt, none_of_registers ls n w h.1)
+none_of_registers (F r ∷ ls) n w h = (tt, none_of_registers ls n w h.1)
+none_of_registers (S k v ∷ ls) n w h = absurd (omega (arith, h.0.0, h.0.1))
 
 -- where registers alone are written the stack stays
 pub stack_same : (base : ℕ) (ls : List Loc) (a b : Image) → AllByRecursion (IsPlace 0) ls → Stays base ls a b → b.stack ≡ a.stack
@@ -46,24 +48,24 @@ stack_same base ls a b registers s =
           | inl low ↦ s.below i low
           | inr high ↦
               let there : base + (i - base) + 0 ≡ i = omega (arith, high) in
-              subst (λ k. get_or b.stack k 0 ≡ get_or a.stack k 0) there (s.others (S (i - base)) (none_of_registers ls (i - base) registers) 0 (omega arith))
+              subst (λ k. get_or b.stack k 0 ≡ get_or a.stack k 0) there (s.others (S (i - base) 1) (none_of_registers ls (i - base) 1 registers) 0 (omega arith))
         ]
 
 -- a register is the same whatever the stack's places count from
 register_same : (base : ℕ) (l : Loc) (a b : Image) → IsPlace 0 l → SameAt base l a b → SameAt 0 l a b
 register_same base (G r) a b h same = same
 register_same base (F r) a b h same = same
-register_same base (S n) a b h same = absurd (omega (arith, h))
+register_same base (S n w) a b h same = absurd (omega (arith, h.0, h.1))
 
 byte_moved : (std : Standard) (base : ℕ) (l : Loc) (m : Image) (k : ℕ) → IsPlace 0 l → byte_at (at_return std m) 0 l k ≡ byte_at m base l k
 byte_moved std base (G r) m k h = refl
 byte_moved std base (F r) m k h = refl
-byte_moved std base (S n) m k h = absurd (omega (arith, h))
+byte_moved std base (S n w) m k h = absurd (omega (arith, h.0, h.1))
 
 word_moved : (std : Standard) (base : ℕ) (l : Loc) (m : Image) → IsPlace 0 l → word_at (at_return std m) 0 l ≡ word_at m base l
 word_moved std base (G r) m h = refl
 word_moved std base (F r) m h = refl
-word_moved std base (S n) m h = absurd (omega (arith, h))
+word_moved std base (S n w) m h = absurd (omega (arith, h.0, h.1))
 
 pieces_moved : (std : Standard) (base : ℕ) (t : Tree) (bytes : List ℕ) (m : Image) (ps : List Piece) → AllByRecursion (IsPlace 0) (piece_locs ps) → AllByRecursion (PieceStands base m t bytes) ps → AllByRecursion (PieceStands 0 (at_return std m) t bytes) ps
 pieces_moved std base t bytes m [] lie stand = tt
@@ -79,7 +81,7 @@ pieces_moved std base t bytes m (p ∷ ps) lie stand = (
 from_base : (base : ℕ) (l : Loc) (m : Image) (k : ℕ) → IsPlace 0 l → byte_at m 0 l k ≡ byte_at m base l k
 from_base base (G r) m k h = refl
 from_base base (F r) m k h = refl
-from_base base (S n) m k h = absurd (omega (arith, h))
+from_base base (S n w) m k h = absurd (omega (arith, h.0, h.1))
 
 keeps_moved : (base : ℕ) (old new : Image) (ps : List Piece) → AllByRecursion (IsPlace 0) (piece_locs ps) → AllByRecursion (KeepsAbove base old new) ps → AllByRecursion (KeepsAbove 0 old new) ps
 keeps_moved base old new [] lie keep = tt
@@ -91,6 +93,14 @@ keeps_moved base old new (p ∷ ps) lie keep = (
 told_moved : (std : Standard) (o : Option Loc) (n : ℕ) (m : Image) → AllByRecursion (IsPlace 0) (to_list o) → RegisterHolds m o n → RegisterHolds (at_return std m) o n
 told_moved std None n m h told = tt
 told_moved std (Some at) n m h told = word_moved std 0 at m h.0 ∙ told
+
+-- the place of a hidden result's address is there, where the stack reaches so far
+pub hidden_there : (std : Standard) (s : Signature) → IsSound std s → (m : Image) (base : ℕ) (at : Loc) (buffer : ℕ) → (plan_of std s).res ≡ Hidden at buffer → base + stack_end (hidden_locs (plan_of std s).res) ≤ length m.stack → HasPlace m base at
+hidden_there std s sound m base at buffer is room =
+    let passed = each_first (LiesIn (isa_of std.target) (frame_of std s)) (argument_locs (plan_of std s)) (copy_locs s.arguments (plan_of std s).places ++ buffer_locs s.result_type (plan_of std s).res) sound.in_frame in
+    let lie = each_first (LiesIn (isa_of std.target) (frame_of std s)) (hidden_locs (plan_of std s).res) (flat_map place_locs (plan_of std s).places) passed in
+    let there = places_reached m base (isa_of std.target) (frame_of std s) (hidden_locs (plan_of std s).res) room lie in
+    (subst (λ r. AllByRecursion (HasPlace m base) (hidden_locs r)) is there).0
 
 module _ (std : Standard) (s : Signature) (sound : IsSound std s) (right : SignatureHasNoFault s) (bytes : List ℕ) (sized : length bytes ≡ size_of s.result_type) (old new : Image) where
   abbrev t : Tree
@@ -163,7 +173,7 @@ module _ (std : Standard) (s : Signature) (sound : IsSound std s) (right : Signa
         register_back : (l : Loc) → IsPlace 0 l → SameAt 0 l (record old { stack = mid }) new → SameAt 0 l old new
         register_back (G r) h same = same
         register_back (F r) h same = same
-        register_back (S n) h same = absurd (omega (arith, h))
+        register_back (S n w) h same = absurd (omega (arith, h.0, h.1))
 
         apart : (i : ℕ) → (old.sp + i < word_at old std.link at) ⊎ (word_at old std.link at + size_of s.result_type ≤ old.sp + i) → (i < from) ⊎ (from + length bytes ≤ i)
         apart i (inl below) = inl (omega (arith, below, address_is, from_is))
