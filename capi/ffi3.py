@@ -73,7 +73,7 @@ class Piece(NamedTuple):
 
     part is an argument's number, "hidden" or "result"; place a register's name, or "stack". On the stack number is the
     offset from the first stack argument. Of an address, offset says where in the caller's frame the value stands. rest
-    is what the rest of a register, or of the last eight bytes on the stack, holds: "free", "extended", "extended by 32"
+    is what the rest of a register, or of the last eight bytes on the stack, holds: "free", "extended", "extended by 32",
     "ones" or "none", as ffi3.h says.
     """
 

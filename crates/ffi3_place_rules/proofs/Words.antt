@@ -1,5 +1,5 @@
 -- The number that the bytes of a place make.
-use Rattle.std.proofs.Common.{◌≡◌, ℕ, zero, suc, ◌+◌, ◌<◌, ◌≤◌, List, [], ◌∷◌, map, get_or, refl, arith}
+use Rattle.std.proofs.Common.{◌≡◌, ℕ, zero, suc, ◌+◌, ◌<◌, ◌≤◌, List, ◌∷◌, map, get_or, refl, arith}
 use Rattle.std.specs.List.{range_with_len}
 use Rattle.std.specs.Int.{w64, byte_worth, from_le_bytes, sum_through}
 

@@ -1,5 +1,5 @@
 use Rattle.std.proofs.Common.{rules, ◌≡◌, ◌+◌, ◌-◌, ◌≤◌, false, length, ap, sym, ◌∙◌, subst, arith}
-use Rattle.ffi3_type_rules.specs.declared.limits.TheConstants.{STACK, STACK_TOP}
+use Rattle.ffi3_type_rules.specs.declared.limits.TheConstants.{STACK}
 use Rattle.ffi3_pieces.specs.Passing.{passing}
 use Rattle.ffi3_callee.specs.Moved.{IsPieceMoved, is_on_stack}
 use Rattle.ffi3_callee.proofs.Moving.{piece_moved}

@@ -1,5 +1,4 @@
 use Rattle.std.proofs.Common.{◌≡◌, ◌+◌, ◌-◌, ◌++◌, take, drop, subst, sym, ◌∙◌, arith}
-use Rattle.ffi3_place_rules.specs.declared.Loc.TheVariants.{S}
 use Rattle.ffi3_explain_rules.specs.Explain.{eight, place_byte}
 use Rattle.ffi3_explain.specs.Places.{HasPlace}
 use Rattle.ffi3_explain.proofs.Loops.{zeros}
