@@ -11,7 +11,8 @@ use Rattle.ffi3_place_rules.specs.Image.{Image, byte_at, word_at}
 use Rattle.ffi3_place_rules.specs.Sound.{IsWhole}
 use Rattle.ffi3_pieces.specs.Stored.{IsPlace}
 use Rattle.ffi3_explain_rules.specs.Explain.{eight, place_byte}
-use Rattle.ffi3_explain_rules.proofs.Words.{index_eight, place_byte_is, place_byte_behind, same_number}
+use Rattle.ffi3_place_rules.proofs.Words.{same_number}
+use Rattle.ffi3_explain_rules.proofs.Words.{index_eight, place_byte_is, place_byte_behind}
 use Rattle.ffi3_explain.specs.Places.{HasPlace}
 use Rattle.ffi3_explain.proofs.Loops.{zeros, zeros_all}
 
@@ -26,18 +27,23 @@ stack_eight m base n w part few room is =
       | inr past ↦ get_or-append_right part (drop w (zeros 8)) w k 0 long past ∙ get_or-drop w (zeros 8) (k - w) 0 ∙ zeros_all 8 (w + (k - w)) ∙ sym (place_byte_behind m base (S n w) k past) ∙ of_place
     ])
 
--- a byte of these eight is one that the word has
-number_byte : (m : Image) (base n w k : ℕ) → k < 8 → get_or (eight (place_byte m base (S n w))) k 0 ≡ get_or (map (byte_at m base (S n w)) (range_with_len 0 w)) k 0
-number_byte m base n w k h =
-    let first = index_eight (place_byte m base (S n w)) k h in
-    elim (cases_lt k w) [
-      | inl within ↦ first ∙ place_byte_is m base (S n w) k within ∙ sym (get_or-map-range_with_len (byte_at m base (S n w)) 0 w k k 0 within (omega arith))
-      | inr past ↦ first ∙ place_byte_behind m base (S n w) k past ∙ sym (get_or_past (map (byte_at m base (S n w)) (range_with_len 0 w)) k 0 (omega (arith, past, length-map-range_with_len (byte_at m base (S n w)) 0 w)))
+-- these eight bytes make the place's number
+number_byte : (m : Image) (base n w k : ℕ) → w ≤ 8 → get_or (eight (place_byte m base (S n w))) k 0 ≡ get_or (map (byte_at m base (S n w)) (range_with_len 0 w)) k 0
+number_byte m base n w k few =
+    let many = length-map-range_with_len (byte_at m base (S n w)) 0 w in
+    elim (cases_lt k 8) [
+      | inl h ↦
+          let first = index_eight (place_byte m base (S n w)) k h in
+          elim (cases_lt k w) [
+            | inl within ↦ first ∙ place_byte_is m base (S n w) k within ∙ sym (get_or-map-range_with_len (byte_at m base (S n w)) 0 w k k 0 within (omega arith))
+            | inr past ↦ first ∙ place_byte_behind m base (S n w) k past ∙ sym (get_or_past (map (byte_at m base (S n w)) (range_with_len 0 w)) k 0 (omega (arith, past, many)))
+          ]
+      | inr all ↦ get_or_past (eight (place_byte m base (S n w))) k 0 all ∙ sym (get_or_past (map (byte_at m base (S n w)) (range_with_len 0 w)) k 0 (omega (arith, all, few, many)))
     ]
 
-pub stack_number : (m : Image) (base n w : ℕ) → from_le_bytes w64 (eight (place_byte m base (S n w))) ≡ word_at m base (S n w)
-stack_number m base n w =
-    same_number (eight (place_byte m base (S n w))) (map (byte_at m base (S n w)) (range_with_len 0 w)) (number_byte m base n w)
+pub stack_number : (m : Image) (base n w : ℕ) → w ≤ 8 → from_le_bytes w64 (eight (place_byte m base (S n w))) ≡ word_at m base (S n w)
+stack_number m base n w few =
+    same_number (eight (place_byte m base (S n w))) (map (byte_at m base (S n w)) (range_with_len 0 w)) (λ k. number_byte m base n w k few)
 
 -- a whole place that is there is one of the memory's
 pub place_lies : (m : Image) (base : ℕ) (l : Loc) → base ≤ length m.stack → IsWhole l → HasPlace m base l → IsPlace (length m.stack - base) l
