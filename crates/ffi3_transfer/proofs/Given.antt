@@ -1,7 +1,7 @@
 -- A result that a callee gives, in registers or in the buffer whose address was passed.
 use Rattle.std.specs.Prelude.{Option, Some, None, true}
-use Rattle.std.proofs.Common.{◌≡◌, ◌⊎◌, inl, inr, ℕ, ◌+◌, ◌-◌, ◌<◌, ◌≤◌, List, [], ◌∷◌, ◌++◌, take, drop, get_or, length, refl, ap, sym, ◌∙◌, subst, arith, length-drop}
-use Rattle.std.specs.List.{AllByRecursion, flat_map}
+use Rattle.std.proofs.Common.{◌≡◌, ◌⊎◌, inl, inr, ℕ, ◌+◌, ◌-◌, ◌<◌, ◌≤◌, List, [], ◌∷◌, take, drop, get_or, length, refl, ap, sym, ◌∙◌, subst, arith, length-drop}
+use Rattle.std.specs.List.{AllByRecursion}
 use Rattle.std.proofs.lemmas.Bool.{cases_lt}
 use Rattle.std.proofs.lemmas.List.{ext_get_or, drop-drop}
 use Rattle.ffi3_type_rules.specs.Tree.{Tree}
@@ -17,14 +17,12 @@ use Rattle.ffi3_place_rules.specs.declared.Piece.{Piece}
 use Rattle.ffi3_place_rules.specs.declared.Res.TheVariants.{Direct as DirectRes, Hidden}
 use Rattle.ffi3_place_rules.specs.Isa.{to_list}
 use Rattle.ffi3_place_rules.specs.Image.{Image, byte_at, word_at}
-use Rattle.ffi3_place_rules.specs.Standard.{Standard, frame_of, plan_of}
+use Rattle.ffi3_place_rules.specs.Standard.{Standard, plan_of}
 use Rattle.ffi3_place_rules.specs.Holds.{FillsAs, FillsResult, OwnsHidden, OwnsResult, RegisterHolds}
-use Rattle.ffi3_place_rules.specs.Sound.{IsNoneOf, IsSound, LiesIn, argument_locs, buffer_locs, copy_locs, hidden_locs, piece_locs, place_locs, result_locs}
+use Rattle.ffi3_place_rules.specs.Sound.{IsNoneOf, IsSound, piece_locs, result_locs}
 use Rattle.ffi3_pieces.specs.Stored.{IsPlace}
-use Rattle.ffi3_pieces.proofs.Lawful.{each_first, machine_places}
-use Rattle.ffi3_explain_rules.specs.Arguments.{is_in_image, stack_end}
-use Rattle.ffi3_explain.specs.Places.{HasPlace}
-use Rattle.ffi3_explain.proofs.Ready.{places_reached}
+use Rattle.ffi3_pieces.proofs.Lawful.{machine_places}
+use Rattle.ffi3_explain_rules.specs.Arguments.{is_in_image}
 use Rattle.ffi3_transfer.specs.Stored.{KeepsAbove, SameAt, Stays, PieceStands}
 use Rattle.ffi3_transfer.specs.Calls.{IsBeside, IsGiven, IsGivenBy, ResultKeeps, at_return, given_locs}
 use Rattle.ffi3_transfer.proofs.Owning.{pieces_stand, pieces_filled}
@@ -93,14 +91,6 @@ keeps_moved base old new (p ∷ ps) lie keep = (
 told_moved : (std : Standard) (o : Option Loc) (n : ℕ) (m : Image) → AllByRecursion (IsPlace 0) (to_list o) → RegisterHolds m o n → RegisterHolds (at_return std m) o n
 told_moved std None n m h told = tt
 told_moved std (Some at) n m h told = word_moved std 0 at m h.0 ∙ told
-
--- the place of a hidden result's address is there, where the stack reaches so far
-pub hidden_there : (std : Standard) (s : Signature) → IsSound std s → (m : Image) (base : ℕ) (at : Loc) (buffer : ℕ) → (plan_of std s).res ≡ Hidden at buffer → base + stack_end (hidden_locs (plan_of std s).res) ≤ length m.stack → HasPlace m base at
-hidden_there std s sound m base at buffer is room =
-    let passed = each_first (LiesIn (isa_of std.target) (frame_of std s)) (argument_locs (plan_of std s)) (copy_locs s.arguments (plan_of std s).places ++ buffer_locs s.result_type (plan_of std s).res) sound.in_frame in
-    let lie = each_first (LiesIn (isa_of std.target) (frame_of std s)) (hidden_locs (plan_of std s).res) (flat_map place_locs (plan_of std s).places) passed in
-    let there = places_reached m base (isa_of std.target) (frame_of std s) (hidden_locs (plan_of std s).res) room lie in
-    (subst (λ r. AllByRecursion (HasPlace m base) (hidden_locs r)) is there).0
 
 module _ (std : Standard) (s : Signature) (sound : IsSound std s) (right : SignatureHasNoFault s) (bytes : List ℕ) (sized : length bytes ≡ size_of s.result_type) (old new : Image) where
   abbrev t : Tree

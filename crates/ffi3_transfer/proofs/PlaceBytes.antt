@@ -1,20 +1,27 @@
--- The bytes of a place on the stack, and the number that they make.
-use Rattle.std.proofs.Common.{◌≡◌, ℕ, ◌+◌, ◌-◌, ◌<◌, ◌≤◌, inl, inr, List, ◌++◌, map, take, drop, get_or, length, ap, sym, ◌∙◌, arith}
+-- The bytes of a place on the stack, and the number that they make; places that are there.
+use Rattle.std.proofs.Common.{◌≡◌, ℕ, ◌+◌, ◌-◌, ◌<◌, ◌≤◌, inl, inr, List, ◌++◌, map, subst, take, drop, get_or, length, ap, sym, ◌∙◌, arith}
 use Rattle.std.specs.Int.{w64, from_le_bytes}
-use Rattle.std.specs.List.{range_with_len}
+use Rattle.std.specs.List.{AllByRecursion, flat_map, range_with_len}
 use Rattle.std.proofs.lemmas.Bool.{cases_lt}
 use Rattle.std.proofs.lemmas.List.{ext_get_or, get_or-take, get_or-drop, get_or_append_left, get_or-append_right, get_or_past, length-append, length-take-le, length-drop}
 use Rattle.std.proofs.lemmas.List.FromFn.{length-map-range_with_len, get_or-map-range_with_len}
+use Rattle.ffi3_type_rules.specs.Isa.{isa_of}
+use Rattle.ffi3_type_rules.specs.Signature.{Signature}
 use Rattle.ffi3_place_rules.specs.declared.Loc.{Loc}
 use Rattle.ffi3_place_rules.specs.declared.Loc.TheVariants.{G, F, S}
+use Rattle.ffi3_place_rules.specs.declared.Res.TheVariants.{Hidden}
 use Rattle.ffi3_place_rules.specs.Image.{Image, byte_at, word_at}
-use Rattle.ffi3_place_rules.specs.Sound.{IsWhole}
+use Rattle.ffi3_place_rules.specs.Standard.{Standard, frame_of, plan_of}
+use Rattle.ffi3_place_rules.specs.Sound.{IsSound, IsWhole, LiesIn, argument_locs, buffer_locs, copy_locs, hidden_locs, place_locs}
 use Rattle.ffi3_pieces.specs.Stored.{IsPlace}
+use Rattle.ffi3_pieces.proofs.Lawful.{each_first}
+use Rattle.ffi3_explain_rules.specs.Arguments.{stack_end}
 use Rattle.ffi3_explain_rules.specs.Explain.{eight, place_byte}
 use Rattle.ffi3_place_rules.proofs.Words.{same_number}
 use Rattle.ffi3_explain_rules.proofs.Words.{index_eight, place_byte_is, place_byte_behind}
 use Rattle.ffi3_explain.specs.Places.{HasPlace}
 use Rattle.ffi3_explain.proofs.Loops.{zeros, zeros_all}
+use Rattle.ffi3_explain.proofs.Ready.{places_reached}
 
 -- its bytes, and zeros behind them
 pub stack_eight : (m : Image) (base n w : ℕ) (part : List ℕ) → w ≤ 8 → base + n + w ≤ length m.stack → part ≡ take w (drop (base + n) m.stack) → part ++ drop w (zeros 8) ≡ eight (place_byte m base (S n w))
@@ -50,3 +57,11 @@ pub place_lies : (m : Image) (base : ℕ) (l : Loc) → base ≤ length m.stack 
 place_lies m base (G r) low whole there = there
 place_lies m base (F r) low whole there = there
 place_lies m base (S n w) low whole there = (omega (arith, there.0), omega (arith, whole), there.1)
+
+-- the place of a hidden result's address is there, where the stack reaches so far
+pub hidden_there : (std : Standard) (s : Signature) → IsSound std s → (m : Image) (base : ℕ) (at : Loc) (buffer : ℕ) → (plan_of std s).res ≡ Hidden at buffer → base + stack_end (hidden_locs (plan_of std s).res) ≤ length m.stack → HasPlace m base at
+hidden_there std s sound m base at buffer is room =
+    let passed = each_first (LiesIn (isa_of std.target) (frame_of std s)) (argument_locs (plan_of std s)) (copy_locs s.arguments (plan_of std s).places ++ buffer_locs s.result_type (plan_of std s).res) sound.in_frame in
+    let lie = each_first (LiesIn (isa_of std.target) (frame_of std s)) (hidden_locs (plan_of std s).res) (flat_map place_locs (plan_of std s).places) passed in
+    let there = places_reached m base (isa_of std.target) (frame_of std s) (hidden_locs (plan_of std s).res) room lie in
+    (subst (λ r. AllByRecursion (HasPlace m base) (hidden_locs r)) is there).0

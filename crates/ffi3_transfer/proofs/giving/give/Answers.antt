@@ -15,7 +15,8 @@ use Rattle.ffi3_explain_rules.proofs.Pieces.{is_le}
 use Rattle.ffi3_explain.proofs.Standing.{found_inside}
 use Rattle.ffi3_transfer.specs.Stored.{image_in}
 use Rattle.ffi3_transfer.specs.Standing.{PiecesStand}
-use Rattle.ffi3_transfer.proofs.Given.{result_registers, direct_given, hidden_given, hidden_there}
+use Rattle.ffi3_transfer.proofs.PlaceBytes.{hidden_there}
+use Rattle.ffi3_transfer.proofs.Given.{result_registers, direct_given, hidden_given}
 use Rattle.ffi3_transfer.proofs.giving.give.Goals as goal
 
 pub store_pieces-requires-clause-lie : goal.store_pieces-requires-clause-lie
