@@ -1,8 +1,9 @@
 /* ffi3.h: where C's calling standards put the arguments and the result of a function.
  *
  * From a function's declaration to registers, stack offsets, sizes and alignments, by five calling standards, and from
- * the registers and the stack of a machine that entered the function back to its arguments. The code behind this header
- * is proved; docs/TRUSTED.md says what its proof rests on, this header and the caller's duties below among it.
+ * the registers and the stack of a machine that entered the function back to its arguments; and for whoever makes calls
+ * by an interface that is prepared once, values into registers and stack and back. The code behind this header is
+ * proved; docs/TRUSTED.md says what its proof rests on, this header and the caller's duties below among it.
  *
  *     const char *text = "double f(struct { int i; float x; } a)";
  *     struct ffi3_call call;
@@ -24,13 +25,15 @@
  * DUTIES OF A CALLER. Each pointer points to memory of its type that the caller may read, and, where it is not const,
  * write: to as many elements as the length or the capacity behind it says, else to one. Where that length or capacity
  * is 0, nothing is read or written there, and the pointer may be anything, also NULL; no other may be NULL. No two of
- * them overlap, and no other thread writes what a call reads, or touches what it writes. What is written need not be
- * initialized. Where malloc may not be called, no function may but ffi3_register_name and ffi3_version: not from a
- * signal handler, nor in the forked child of a process with threads.
+ * them overlap, and no other thread writes what a call reads, or touches what it writes. What is only written need not
+ * be initialized: a struct ffi3_interface is read too; ffi3_store reads sp of REGISTERS, and ffi3_give REGISTERS and
+ * STACK. Where malloc may not be called, as in a signal handler or in the forked child of a process with threads, these
+ * may: ffi3_sizes, ffi3_store, ffi3_load, ffi3_collect, ffi3_give, ffi3_register_name and ffi3_version. No other may.
  *
- * Nothing that the library makes outlives a call, so there is nothing to free, and any number of threads may call. It
- * takes memory from malloc and gives it back before it returns. No function ends the program: where memory is refused
- * it says so. A call takes less than 24 KiB of stack, what malloc takes among them: a thread with 64 KiB has enough.
+ * What the library makes does not outlive a call, but for the interfaces that ffi3_prepare and ffi3_share leave, each
+ * of which ffi3_release gives back. Any number of threads may call, each with interfaces of its own. Memory is taken
+ * from malloc. No function ends the program: where memory is refused it says so. A call takes less than 24 KiB of
+ * stack, what malloc takes among them: a thread with 64 KiB has enough.
  */
 #ifndef FFI3_H
 #define FFI3_H
@@ -53,15 +56,18 @@ extern "C" {
 #define FFI3_WIN64 3   /* Microsoft x64 */
 #define FFI3_APPLE 4   /* Apple's for arm64: macOS, iOS */
 
-/* ANSWERS of ffi3_place, ffi3_layout, ffi3_arguments, and of those that take nodes. */
+/* ANSWERS of all functions but the last three and ffi3_release. */
 #define FFI3_OK 0
 #define FFI3_TOO_SMALL 1      /* the array has no room: nothing is in it, and the count says how much is wanted */
 #define FFI3_NOT_DECLARED 2   /* text or nodes declare no function that can be called, or no type: `fault` says why */
 #define FFI3_UNKNOWN_TARGET 3 /* no calling standard has this number */
-#define FFI3_UNKNOWN_VALUE 4  /* the function has no argument of this number */
+#define FFI3_UNKNOWN_VALUE 4  /* the function has no argument of this number, or there is no such list of moves */
 #define FFI3_OUT_OF_MEMORY 5  /* malloc refused */
-#define FFI3_SHORT_STACK 6    /* of ffi3_arguments: arguments stand beyond the bytes of stack */
-#define FFI3_NOT_IN_STACK 7   /* of ffi3_arguments: an argument is passed by an address that is not in these bytes */
+#define FFI3_SHORT_STACK 6    /* what the call has on the stack stands beyond the bytes of stack */
+#define FFI3_NOT_IN_STACK 7   /* an argument is passed by an address that is not in these bytes, or a result's buffer */
+#define FFI3_WRONG_SIZE 8     /* values, or a result, in more or fewer bytes than they take */
+#define FFI3_HIGH_STACK 9     /* from the stack pointer on the bytes of stack reach the last address */
+#define FFI3_NOT_PREPARED 10  /* no interface is kept */
 
 /* VALUES of a function: its arguments by their numbers, from 0, and the result. */
 #define FFI3_RESULT UINT32_C(0xFFFFFFFF)
@@ -80,7 +86,7 @@ extern "C" {
 #define FFI3_LEFT_OUT_COMPLEX 7
 #define FFI3_LEFT_OUT_VECTOR 8
 #define FFI3_TOO_LARGE 9             /* a struct or an array of `number` bytes, more than 4,096 */
-#define FFI3_TOO_DEEP 10             /* structs and arrays more than 16 deep */
+#define FFI3_TOO_DEEP 10             /* structs and arrays more than 16 deep. A complex is a struct of two */
 #define FFI3_TOO_MANY 11             /* `number` arguments, more than 64 */
 #define FFI3_BAD_FIXED 12            /* of `number` arguments, `argument` are fixed */
 #define FFI3_BAD_VARIADIC 13         /* C would promote the type of variadic argument `argument` */
@@ -161,7 +167,7 @@ struct ffi3_call {
  * FFI3_TOO_SMALL: CALL is filled, and PIECES is as it was: it wants CALL->pieces elements. A CAPACITY of 0 asks for
  *     that number.
  * FFI3_NOT_DECLARED: CALL->fault says why; all else in CALL is 0, and PIECES is as it was.
- * FFI3_UNKNOWN_TARGET, FFI3_OUT_OF_MEMORY: CALL is 0, and PIECES as it was. An unknown target is told first.
+ * FFI3_UNKNOWN_TARGET, FFI3_OUT_OF_MEMORY: CALL is 0, and PIECES as it was. An unknown target is told before a fault.
  */
 uint32_t ffi3_place(uint32_t target, const char *text, size_t length, struct ffi3_call *call,
                     struct ffi3_piece *pieces, size_t capacity);
@@ -246,9 +252,10 @@ struct ffi3_node {
 /* uint32_t ffi3_place_nodes(uint32_t TARGET, const struct ffi3_node *NODES, size_t COUNT, uint32_t FIXED,
  *                           struct ffi3_call *CALL, struct ffi3_piece *PIECES, size_t CAPACITY)
  *
- * As ffi3_place, of the function that the COUNT nodes at NODES declare. Of a variadic one FIXED arguments are named.
- * All are placed and counted in CALL->arguments, those behind the named ones as variadic, whose types are those that C
- * promotes to. The answers are those of ffi3_place.
+ * As ffi3_place, of the function that the COUNT nodes at NODES declare. Of a variadic one FIXED arguments are named, at
+ * least 1: 0 is FFI3_BAD_FIXED, and says not that there are none behind. All are placed and counted in CALL->arguments,
+ * those behind the named ones as variadic, whose types are those that C promotes to. The answers are those of
+ * ffi3_place.
  */
 uint32_t ffi3_place_nodes(uint32_t target, const struct ffi3_node *nodes, size_t count, uint32_t fixed,
                           struct ffi3_call *call, struct ffi3_piece *pieces, size_t capacity);
@@ -289,7 +296,9 @@ uint32_t ffi3_offsets_nodes(const struct ffi3_node *nodes, size_t count, struct 
  *
  * Whether the type that the COUNT nodes at NODES are is laid out as its client has it, packed or over-aligned perhaps:
  * in SIZE bytes, aligned to ALIGN, its MEMBERS members at OFFSETS. The standards place no other layout than the natural
- * one, so a client with a layout of its own asks of each struct in it before it places one.
+ * one, so a client with a layout of its own asks of each struct in it before it places one: a call sees the direct
+ * members alone, and a struct among them that is laid out otherwise inside may have the size and alignment of one that
+ * is not.
  *
  * FFI3_OK: it is; FAULT is 0.
  * FFI3_NOT_DECLARED: FAULT says why not: FFI3_LAID_OUT_OTHERWISE, or what ffi3_layout_nodes says of the nodes.
@@ -298,7 +307,8 @@ uint32_t ffi3_offsets_nodes(const struct ffi3_node *nodes, size_t count, struct 
 uint32_t ffi3_check_layout(const struct ffi3_node *nodes, size_t count, size_t size, size_t align,
                            const size_t *offsets, size_t members, struct ffi3_fault *fault);
 
-/* What a machine holds at a function's entry: at its first instruction, before any of this changed. */
+/* What a machine holds at one moment. For ffi3_arguments that is a function's entry: its first instruction, before any
+ * of this changed. */
 struct ffi3_registers {
     uint64_t general[32];  /* by the numbers that ffi3_register_name takes; what is no register is not read */
     uint64_t floating[32]; /* of each the low 64 bits */
@@ -332,11 +342,205 @@ struct ffi3_arguments {
  * FFI3_SHORT_STACK: FOUND->stack says how many bytes of stack are wanted, at least; VALUES is as it was.
  * FFI3_NOT_IN_STACK: FOUND->argument and FOUND->address say which address; VALUES is as it was.
  * FFI3_NOT_DECLARED: FOUND->fault says why; all else in FOUND is 0, and VALUES is as it was.
- * FFI3_UNKNOWN_TARGET, FFI3_OUT_OF_MEMORY: FOUND is 0, and VALUES as it was. An unknown target is told first.
+ * FFI3_UNKNOWN_TARGET, FFI3_OUT_OF_MEMORY: FOUND is 0, and VALUES as it was. An unknown target is told before a fault.
  */
 uint32_t ffi3_arguments(uint32_t target, const char *text, size_t length, const struct ffi3_registers *registers,
                         const unsigned char *stack, size_t stack_length, struct ffi3_arguments *found,
                         unsigned char *values, size_t capacity);
+
+/* INTERFACES. Whoever calls a function often, or is called as one, prepares its interface once. Calls by it read no
+ * text and no nodes, and ffi3_sizes, ffi3_store, ffi3_load, ffi3_collect and ffi3_give take no memory.
+ *
+ *     struct ffi3_interface interface = FFI3_NO_INTERFACE;
+ *     struct ffi3_sizes sizes;
+ *     if (ffi3_prepare(FFI3_AMD64, nodes, count, FFI3_NOT_VARIADIC, &interface, &fault) == FFI3_OK)
+ *         ffi3_sizes(&interface, &sizes);
+ *     ...
+ *     ffi3_release(&interface);
+ *
+ * A struct ffi3_interface is FFI3_NO_INTERFACE, or what these functions made of it; it may be moved, but no copy of it
+ * may be used beside it: ffi3_share makes another. One call at a time has it, also one that only asks. So each thread
+ * has one of its own, and what they keep is shared beneath.
+ */
+struct ffi3_interface {
+    void *kept; /* the library's; NULL where nothing is kept */
+};
+#define FFI3_NO_INTERFACE {0}
+
+/* uint32_t ffi3_prepare(uint32_t TARGET, const struct ffi3_node *NODES, size_t COUNT, uint32_t FIXED,
+ *                       struct ffi3_interface *INTERFACE, struct ffi3_fault *FAULT)
+ *
+ * Prepares calls by the standard TARGET, of the function that the COUNT nodes at NODES declare, FIXED arguments of
+ * which are named: see ffi3_place_nodes. What INTERFACE kept before is released.
+ *
+ * FFI3_OK: INTERFACE keeps it; FAULT is 0.
+ * FFI3_NOT_DECLARED: FAULT says why; INTERFACE is as it was.
+ * FFI3_UNKNOWN_TARGET, FFI3_OUT_OF_MEMORY: FAULT is 0, and INTERFACE as it was. An unknown target is told before a
+ *     fault.
+ */
+uint32_t ffi3_prepare(uint32_t target, const struct ffi3_node *nodes, size_t count, uint32_t fixed,
+                      struct ffi3_interface *interface, struct ffi3_fault *fault);
+
+/* uint32_t ffi3_share(struct ffi3_interface *INTERFACE, struct ffi3_interface *OTHER)
+ * void ffi3_release(struct ffi3_interface *INTERFACE)
+ *
+ * ffi3_share lets OTHER keep what INTERFACE keeps; what OTHER kept before is released. ffi3_release leaves INTERFACE
+ * with nothing, and where no other keeps the same its memory is given back. One that keeps nothing stays so.
+ *
+ * FFI3_OK: both keep it.
+ * FFI3_NOT_PREPARED, FFI3_OUT_OF_MEMORY: OTHER is as it was.
+ */
+uint32_t ffi3_share(struct ffi3_interface *interface, struct ffi3_interface *other);
+void ffi3_release(struct ffi3_interface *interface);
+
+/* The sizes of a call, in bytes. */
+struct ffi3_sizes {
+    size_t values;        /* the arguments' values, packed: one after another, each from a multiple of 8 on. A uint128
+                             may so stand where C has none: copy it by memcpy */
+    size_t result;        /* the result */
+    size_t link;          /* the return address on the stack: 8 on AMD64 and Windows, else 0 */
+    size_t frame;         /* stack arguments, copies and a hidden result's buffer. A multiple of 16 */
+    uint64_t returned;    /* where in the exchange the address of a hidden result is given back, else FFI3_NOWHERE */
+    uint64_t reserved[3]; /* 0 */
+};
+#define FFI3_NOWHERE UINT64_C(0xFFFFFFFFFFFFFFFF)
+
+/* uint32_t ffi3_sizes(struct ffi3_interface *INTERFACE, struct ffi3_sizes *SIZES)
+ *
+ * FFI3_OK: SIZES is filled.
+ * FFI3_NOT_PREPARED: SIZES is 0.
+ */
+uint32_t ffi3_sizes(struct ffi3_interface *interface, struct ffi3_sizes *sizes);
+
+/* TRANSFERS. REGISTERS and STACK are a machine at one moment: STACK has STACK_LENGTH bytes, the memory from
+ * REGISTERS->sp on. They need not stand there yet: addresses are computed from sp alone.
+ *
+ * A caller stores its values, loads these registers and that stack, calls, and then loads its result. A callee keeps
+ * registers and stack as they are at its entry, collects its arguments, and gives its result. Values are packed: see
+ * ffi3_sizes; who has each at an address of its own copies it there, or back. Where a call is refused, registers,
+ * stack, values and result are as they were. An INTERFACE that keeps nothing is told first
+ * (FFI3_NOT_PREPARED), then FFI3_WRONG_SIZE, FFI3_SHORT_STACK, FFI3_HIGH_STACK and FFI3_NOT_IN_STACK in this order.
+ */
+
+/* uint32_t ffi3_store(struct ffi3_interface *INTERFACE, const unsigned char *VALUES, size_t SIZE,
+ *                     struct ffi3_registers *REGISTERS, unsigned char *STACK, size_t STACK_LENGTH)
+ *
+ * The caller's, before the call. The machine is that of the callee's first instruction: where the standard has the
+ * return address on the stack, STACK begins with its 8 bytes. sp is the caller's choice, and its alignment is not
+ * looked at; all five standards want sp + link to be a multiple of 16.
+ *
+ * Written are the places of the arguments, extended as ffi3_piece says; copies in the frame, and their addresses; the
+ * address of a hidden result's buffer, which is the one in the frame; and on AMD64 rax, which has the number of vector
+ * registers. All other registers, the return address and all other bytes of the stack stay, and so does the rest of a
+ * place that holds anything (FFI3_REST_FREE).
+ *
+ * FFI3_OK: done.
+ * FFI3_WRONG_SIZE: SIZE is not that of the values. FFI3_SHORT_STACK: STACK has fewer bytes than link and frame take.
+ * FFI3_HIGH_STACK.
+ */
+uint32_t ffi3_store(struct ffi3_interface *interface, const unsigned char *values, size_t size,
+                    struct ffi3_registers *registers, unsigned char *stack, size_t stack_length);
+
+/* uint32_t ffi3_load(struct ffi3_interface *INTERFACE, const struct ffi3_registers *REGISTERS,
+ *                    const unsigned char *STACK, size_t STACK_LENGTH, unsigned char *RESULT, size_t SIZE)
+ *
+ * The caller's, after the call. The machine is that of the return, and STACK is the memory from the frame's start on.
+ * Bytes of the result that stand in no register are 0. A hidden result is read from the frame's buffer: a caller that
+ * passed the address of another has it there.
+ *
+ * FFI3_OK: RESULT is filled.
+ * FFI3_WRONG_SIZE: SIZE is not that of the result. FFI3_SHORT_STACK: STACK has fewer bytes than the frame takes.
+ */
+uint32_t ffi3_load(struct ffi3_interface *interface, const struct ffi3_registers *registers,
+                   const unsigned char *stack, size_t stack_length, unsigned char *result, size_t size);
+
+/* What is told of a refusal beside the number. What that does not speak of is 0, and so is all where there is none. */
+struct ffi3_reason {
+    size_t wanted;     /* of FFI3_WRONG_SIZE and FFI3_SHORT_STACK: how many bytes are wanted */
+    uint64_t address;  /* of FFI3_NOT_IN_STACK: the address */
+    uint32_t argument; /* and of which argument it is, or FFI3_HIDDEN */
+    uint32_t reserved;
+};
+
+/* uint32_t ffi3_collect(struct ffi3_interface *INTERFACE, const struct ffi3_registers *REGISTERS,
+ *                       const unsigned char *STACK, size_t STACK_LENGTH, unsigned char *VALUES, size_t SIZE,
+ *                       struct ffi3_reason *REASON)
+ *
+ * The callee's, at its entry: the arguments, as ffi3_arguments finds them. What the standard leaves free is not looked
+ * at, an argument that is passed by an address is read where that points, and padding in values and between them is 0.
+ *
+ * FFI3_OK: VALUES is filled.
+ * FFI3_WRONG_SIZE: SIZE is not that of the values. FFI3_SHORT_STACK: arguments reach past STACK.
+ * FFI3_NOT_IN_STACK: REASON says which address is not in STACK.
+ */
+uint32_t ffi3_collect(struct ffi3_interface *interface, const struct ffi3_registers *registers,
+                      const unsigned char *stack, size_t stack_length, unsigned char *values, size_t size,
+                      struct ffi3_reason *reason);
+
+/* uint32_t ffi3_give(struct ffi3_interface *INTERFACE, const unsigned char *RESULT, size_t SIZE,
+ *                    struct ffi3_registers *REGISTERS, unsigned char *STACK, size_t STACK_LENGTH,
+ *                    struct ffi3_reason *REASON)
+ *
+ * The callee's, before its return. REGISTERS and STACK are as at the entry, and the places of a hidden result's address
+ * have what stood there. Written are the registers of the result, extended as ffi3_piece says; or the buffer that the
+ * address points to, and the register in which the standard gives that address back. All else stays, and so does sp,
+ * which at the return is link bytes higher. A caller that has its buffer where the return address stands has it
+ * overwritten.
+ *
+ * FFI3_OK: done.
+ * FFI3_WRONG_SIZE: SIZE is not that of the result. FFI3_SHORT_STACK: the return address, or the place of the buffer's
+ *     address, stands past STACK. FFI3_HIGH_STACK.
+ * FFI3_NOT_IN_STACK: REASON->address is the buffer's, and not all of it is in STACK.
+ */
+uint32_t ffi3_give(struct ffi3_interface *interface, const unsigned char *result, size_t size,
+                   struct ffi3_registers *registers, unsigned char *stack, size_t stack_length,
+                   struct ffi3_reason *reason);
+
+/* MOVES: the same as plain data, for whoever compiles calls, or plays them. Values are packed as above. An exchange is
+ * an array of bytes: general register R at 8 * R, floating register R at 256 + 8 * R, then 64 bytes that no move speaks
+ * of, and from FFI3_FRAME_AT on the frame. Whoever plays the first list, and the last of a hidden result, has an
+ * exchange from which the callee is entered; whoever plays the second from the exchange at the return has the result;
+ * the third and the fourth are the callee's. Any number of threads may read moves. */
+#define FFI3_FRAME_AT 576
+
+/* LISTS of moves. */
+#define FFI3_MOVES_TO_STORE 0   /* the caller's arguments: from the values to the exchange */
+#define FFI3_MOVES_TO_LOAD 1    /* the caller's result: from the exchange to the result. A hidden one is read from the
+                                   frame's buffer */
+#define FFI3_MOVES_TO_COLLECT 2 /* the callee's arguments: from the exchange to the values */
+#define FFI3_MOVES_TO_GIVE 3    /* the callee's result: from the result to the exchange. A hidden one has none: it goes
+                                   to where its address points, which is given back at `returned` of ffi3_sizes */
+#define FFI3_MOVES_OF_HIDDEN 4  /* the address of the frame's buffer for a hidden result, to the exchange; else none.
+                                   A caller with a buffer of its own writes the address of that there */
+
+/* KINDS OF MOVE: which bytes are written. They are played in the order of the list. */
+#define FFI3_MOVE_BYTES 0   /* `length` bytes from `from` on */
+#define FFI3_MOVE_ZERO 1    /* these, and zeros above them, eight in all */
+#define FFI3_MOVE_SIGN 2    /* these, and their highest bit above them, eight in all */
+#define FFI3_MOVE_ONES 3    /* these, and ones above them, eight in all */
+#define FFI3_MOVE_NUMBER 4  /* the number `from`, in eight bytes */
+#define FFI3_MOVE_ADDRESS 5 /* the address of byte `from` of the frame, in eight bytes */
+#define FFI3_MOVE_BEHIND 6  /* `length` bytes from where the address points that stands at `from` */
+
+struct ffi3_move {
+    uint32_t kind;   /* FFI3_MOVE_BYTES and so on */
+    uint32_t part;   /* the argument's number; 0 of a result, and of the number of vector registers */
+    uint64_t from;   /* see the kinds */
+    uint64_t to;     /* the first byte that is written */
+    uint64_t length; /* how many bytes are read; 8 of a number or an address */
+};
+
+/* uint32_t ffi3_moves(struct ffi3_interface *INTERFACE, uint32_t LIST, size_t *COUNT, struct ffi3_move *MOVES,
+ *                     size_t CAPACITY)
+ *
+ * The moves of a list. MOVES is an array of CAPACITY elements; the elements from *COUNT on stay as they were.
+ *
+ * FFI3_OK: COUNT and MOVES are filled.
+ * FFI3_TOO_SMALL: *COUNT is how many there are, and MOVES is as it was.
+ * FFI3_UNKNOWN_VALUE, told first, FFI3_NOT_PREPARED, FFI3_OUT_OF_MEMORY: *COUNT is 0, and MOVES as it was.
+ */
+uint32_t ffi3_moves(struct ffi3_interface *interface, uint32_t list, size_t *count, struct ffi3_move *moves,
+                    size_t capacity);
 
 /* size_t ffi3_fault_text(const struct ffi3_fault *FAULT, char *TEXT, size_t CAPACITY)
  *

@@ -10,6 +10,9 @@
 #define FEW_ARGUMENTS 8
 #define SMALL_SCRATCH 64 /* bytes of a closure's gathered arguments */
 
+/* Bytes of an exchange that are nobody's, where the result of a function without one may be written nevertheless. */
+#define RESULT_AT offsetof(struct exchange, floating[30])
+
 #define WIDEN(type, signs, to, from)               \
     do {                                           \
         type value;                                \
@@ -27,10 +30,12 @@ static inline void play(const struct move *move, void *to, const void *from)
     case MOVE_S16: WIDEN(int16_t, int64_t, to, from); break;
     case MOVE_U32: WIDEN(uint32_t, uint64_t, to, from); break;
     case MOVE_S32: WIDEN(int32_t, int64_t, to, from); break;
+    case MOVE_SHORT: memset(to, 0, 8), memcpy(to, from, move->length); break;
     case MOVE_4: memcpy(to, from, 4); break;
     case MOVE_8: memcpy(to, from, 8); break;
-    case MOVE_BYTES:
-    case MOVE_COPY: memcpy(to, from, move->length); break;
+    case MOVE_16: memcpy(to, from, 16); break;
+    case MOVE_ADDRESS: break;
+    case MOVE_BYTES: memcpy(to, from, move->length); break;
     }
 }
 
@@ -48,22 +53,18 @@ static inline void *address_at(const char *at)
 static inline void pass(const struct plan *plan, char *exchange, void **values)
 {
     const struct move *end = plan->moves + plan->moves_count;
-    for (const struct move *move = plan->moves; move < end; move++) {
-        const char *value = values[move->argument];
-        if (__builtin_expect(move->kind == MOVE_COPY, 0)) {
-            memcpy(exchange + move->from, value, move->length);
+    for (const struct move *move = plan->moves; move < end; move++)
+        if (__builtin_expect(move->kind == MOVE_ADDRESS, 0))
             put_address(exchange + move->to, exchange + move->from);
-        } else {
-            play(move, exchange + move->to, value + move->from);
-        }
-    }
+        else
+            play(move, exchange + move->to, (const char *)values[move->argument] + move->from);
+    memcpy(exchange + plan->number_at, &plan->number, sizeof plan->number);
 }
 
 ALWAYS_INLINE void call_with(struct exchange *registers, const struct plan *plan, void (*fn)(void), void *result,
                              void **values, void *chain)
 {
     char *exchange = (char *)registers;
-    registers->general[0] = plan->vectors; /* rax; where register 0 is an argument's, that comes after */
     pass(plan, exchange, values);
     if (plan->hidden != NO_PLACE)
         put_address(exchange + plan->hidden, result ? result : exchange + plan->buffer);
@@ -73,7 +74,7 @@ ALWAYS_INLINE void call_with(struct exchange *registers, const struct plan *plan
     make_call(registers, plan->stack);
     if (!result)
         return;
-    for (const struct move *move = plan->results, *end = move + plan->results_count; move < end; move++)
+    for (const struct move *move = plan->loads, *end = move + plan->loads_count; move < end; move++)
         play(move, (char *)result + move->to, exchange + move->from);
 }
 
@@ -117,37 +118,38 @@ static inline char *place(char *exchange, char *frame, uint32_t at)
     return at < FRAME_AT ? exchange + at : frame + (at - FRAME_AT);
 }
 
-static inline void *find(const struct plan *plan, const struct source *source, char *exchange, char *frame,
-                         char *scratch)
+#define ENTERED const struct plan *plan, char *exchange, char *frame, ffi_cif *cif, function *fun, void *user_data
+
+static void gather(const struct plan *plan, const struct source *source, char *exchange, char *frame, char *to)
 {
-    char *at = scratch + source->at;
-    if (source->kind == AT_PLACE)
-        return place(exchange, frame, source->at);
-    if (source->kind == AT_ADDRESS)
-        return address_at(place(exchange, frame, source->at));
     const struct move *move = &plan->gathers[source->first];
     for (uint32_t k = 0; k < source->count; k++, move++)
-        play(move, at + move->to, place(exchange, frame, move->from));
-    return at;
+        play(move, to + move->to, place(exchange, frame, move->from));
 }
-
-#define ENTERED const struct plan *plan, char *exchange, char *frame, ffi_cif *cif, function *fun, void *user_data
 
 ALWAYS_INLINE void serve(ENTERED, void **values, char *scratch)
 {
     _Alignas(16) uint64_t own_result[8]; /* as much as registers give back */
     void *result = own_result;
     own_result[0] = own_result[1] = 0;
-    for (uint32_t i = 0; i < plan->nargs; i++)
-        values[i] = find(plan, &plan->sources[i], exchange, frame, scratch);
+    const struct source *source = plan->sources;
+    for (void **value = values, **end = values + plan->nargs; value < end; value++, source++) {
+        char *at = place(exchange, frame, source->at);
+        if (source->kind == AT_ADDRESS) {
+            at = address_at(at);
+        } else if (scratch && source->kind == GATHERED) {
+            at = scratch + source->at;
+            gather(plan, source, exchange, frame, at);
+        }
+        *value = at;
+    }
     if (plan->hidden != NO_PLACE)
         result = address_at(place(exchange, frame, plan->hidden));
     fun(cif, result, values, user_data);
-    ((struct exchange *)(void *)exchange)->beside = plan->beside;
     if (plan->back != NO_PLACE)
         put_address(exchange + plan->back, result);
-    for (const struct move *move = plan->results, *end = move + plan->results_count; move < end; move++)
-        play(move, exchange + move->from, (char *)result + move->to);
+    for (const struct move *move = plan->gives, *end = move + plan->gives_count; move < end; move++)
+        play(move, exchange + move->to, (char *)result + move->from);
 }
 
 __attribute__((noinline)) static void serve_many(ENTERED)
@@ -156,24 +158,54 @@ __attribute__((noinline)) static void serve_many(ENTERED)
     serve(plan, exchange, frame, cif, fun, user_data, values, __builtin_alloca_with_align(plan->scratch, 128));
 }
 
-ALWAYS_INLINE void receive(ENTERED)
+__attribute__((noinline)) static void serve_few(ENTERED)
 {
     void *values[FEW_ARGUMENTS];
     _Alignas(16) char scratch[SMALL_SCRATCH];
-    if (plan->nargs <= FEW_ARGUMENTS && plan->scratch <= sizeof scratch)
-        serve(plan, exchange, frame, cif, fun, user_data, values, scratch);
-    else
+    serve(plan, exchange, frame, cif, fun, user_data, values, scratch);
+}
+
+__attribute__((noinline)) static void serve_at_places(ENTERED)
+{
+    void *values[FEW_ARGUMENTS];
+    serve(plan, exchange, frame, cif, fun, user_data, values, NULL);
+}
+
+/* What is called last needs no memory of this function's. */
+ALWAYS_INLINE void receive(ENTERED)
+{
+    ((struct exchange *)(void *)exchange)->beside = plan->beside;
+    if (plan->nargs > FEW_ARGUMENTS || plan->scratch > SMALL_SCRATCH)
         serve_many(plan, exchange, frame, cif, fun, user_data);
+    else if (plan->scratch)
+        serve_few(plan, exchange, frame, cif, fun, user_data);
+    else if (plan->nargs || plan->gives_count || plan->hidden != NO_PLACE)
+        serve_at_places(plan, exchange, frame, cif, fun, user_data);
+    else
+        fun(cif, exchange + RESULT_AT, (void **)(void *)(exchange + RESULT_AT), user_data);
+}
+
+__attribute__((noinline)) static void receive_anew(char *exchange, char *frame, ffi_cif *cif, function *fun,
+                                                   void *user_data)
+{
+    receive(planned_again(cif), exchange, frame, cif, fun, user_data);
+}
+
+ALWAYS_INLINE void receive_by(char *exchange, char *frame, ffi_cif *cif, function *fun, void *user_data)
+{
+    const struct plan *plan = plan_if_prepared(cif);
+    if (__builtin_expect(plan != NULL, 1))
+        receive(plan, exchange, frame, cif, fun, user_data);
+    else
+        receive_anew(exchange, frame, cif, fun, user_data);
 }
 
 void receive_closure(char *exchange, ffi_closure *closure, char *frame)
 {
-    ffi_cif *cif = closure->cif;
-    receive(plan_of(cif), exchange, frame, cif, closure->fun, closure->user_data);
+    receive_by(exchange, frame, closure->cif, closure->fun, closure->user_data);
 }
 
 void receive_go_closure(char *exchange, ffi_go_closure *closure, char *frame)
 {
-    ffi_cif *cif = closure->cif;
-    receive(plan_of(cif), exchange, frame, cif, closure->fun, closure);
+    receive_by(exchange, frame, closure->cif, closure->fun, closure);
 }

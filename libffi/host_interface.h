@@ -2,7 +2,6 @@
  *
  *     bool host_has_abi(ffi_abi abi, bool is_variadic);    whether there is such a convention
  *     uint32_t host_target(ffi_abi abi);                   the library's number of its standard
- *     uint32_t host_shadow_store(ffi_abi abi);             bytes in front of the stack arguments that have none
  *     entry *host_entry(ffi_abi abi);                      where a slot leads to
  *     entry *host_go_entry(ffi_abi abi);                   and a closure of Go's
  */
@@ -31,11 +30,8 @@ bool host_put_long_double(struct key *key, const ffi_type *type, ffi_abi abi, bo
 /* The nodes, at most three, that the library is told for `count` of them; answers how many nodes. */
 size_t host_tell_long_doubles(uint32_t count, bool is_result, struct ffi3_node *told);
 
-/* What follows for the places that the library told, and for the plan. */
+/* What follows for the moves that the library told, and for the plan. */
 void host_correct(const struct key *key, struct told *told);
 void host_complete(const struct key *key, struct plan *plan);
-
-/* A place of these, beside the library's FFI3_GENERAL and so on: `number` is from the start of the exchange. */
-#define PLACE_BESIDE 0x100u
 
 #endif

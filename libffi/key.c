@@ -7,7 +7,7 @@
 #define DEEPEST 16         /* structs in structs: the library's own limit */
 #define MOST_NODES 1000000 /* of a signature */
 
-static const uint8_t SCALARS[FFI_TYPE_LAST + 1] = {
+const uint8_t scalar_kinds[FFI_TYPE_LAST + 1] = {
     [FFI_TYPE_VOID] = FFI3_VOID,     [FFI_TYPE_INT] = FFI3_SINT32,    [FFI_TYPE_FLOAT] = FFI3_FLOAT,
     [FFI_TYPE_DOUBLE] = FFI3_DOUBLE, [FFI_TYPE_LONGDOUBLE] = FFI3_STRUCT, [FFI_TYPE_UINT8] = FFI3_UINT8,
     [FFI_TYPE_SINT8] = FFI3_SINT8,   [FFI_TYPE_UINT16] = FFI3_UINT16, [FFI_TYPE_SINT16] = FFI3_SINT16,
@@ -16,7 +16,7 @@ static const uint8_t SCALARS[FFI_TYPE_LAST + 1] = {
     [FFI_TYPE_COMPLEX] = FFI3_STRUCT,
 };
 
-static const uint8_t SIZES[FFI_TYPE_LAST + 1] = {
+const uint8_t scalar_sizes[FFI_TYPE_LAST + 1] = {
     [FFI_TYPE_INT] = 4,    [FFI_TYPE_FLOAT] = 4,  [FFI_TYPE_DOUBLE] = 8, [FFI_TYPE_LONGDOUBLE] = 16,
     [FFI_TYPE_UINT8] = 1,  [FFI_TYPE_SINT8] = 1,  [FFI_TYPE_UINT16] = 2, [FFI_TYPE_SINT16] = 2,
     [FFI_TYPE_UINT32] = 4, [FFI_TYPE_SINT32] = 4, [FFI_TYPE_UINT64] = 8, [FFI_TYPE_SINT64] = 8,
@@ -25,11 +25,9 @@ static const uint8_t SIZES[FFI_TYPE_LAST + 1] = {
 
 bool is_sized_otherwise(const ffi_type *type)
 {
-    size_t size = type->type <= FFI_TYPE_LAST ? SIZES[type->type] : 0;
+    size_t size = scalar_size(type->type);
     return size && (type->size != size || type->alignment != size);
 }
-
-uint32_t scalar_kind(unsigned short type) { return type <= FFI_TYPE_LAST ? SCALARS[type] : FFI3_STRUCT; }
 
 /* ---- Nodes */
 
@@ -143,6 +141,8 @@ static bool put_type(struct key *key, const ffi_type *type, int depth)
 static void put_value(struct key *key, const ffi_type *type, ffi_abi abi, bool is_result)
 {
     size_t before = key->length;
+    if (!is_result && type->type == FFI_TYPE_VOID)
+        key->kinds |= NODES_OF_OWN;
     if (put_type(key, type, 0) || key->status != FFI_OK)
         return;
     key->length = before;
@@ -160,9 +160,12 @@ void key_tell(struct key *key, const ffi_cif *cif, unsigned fixed)
     key->room = sizeof key->own_nodes / sizeof *key->own_nodes;
     key->length = 0;
     key->status = FFI_OK;
+    if (fixed != FFI3_NOT_VARIADIC && fixed > cif->nargs)
+        fixed = cif->nargs;
     key->fixed = fixed;
     key_put(key, NODE_SIGNATURE, cif->abi);
     key_put(key, NODE_FIXED, fixed);
+    key->kinds = 0;
     put_value(key, cif->rtype, cif->abi, true);
     for (unsigned i = 0; i < cif->nargs && key->status == FFI_OK; i++)
         put_value(key, cif->arg_types[i], cif->abi, false);

@@ -13,9 +13,13 @@
 #define NODE_LONG_DOUBLES 0x103u /* `count` long doubles that have registers of their own: long_double.c of the host */
 #define NODES_BEFORE_TYPES 2
 
+/* The bit of all these kinds, and of arguments that are void: the library is told other nodes than a key has. */
+#define NODES_OF_OWN 0x100u
+
 struct key {
     struct ffi3_node *nodes; /* own_nodes, or malloc's: the two, the result, the arguments, those that are void too */
     size_t length, room;
+    uint32_t kinds; /* all that the types have, by bits */
     unsigned fixed;
     ffi_status status; /* FFI_OK, or why there is none */
     struct ffi3_node own_nodes[40];
@@ -52,6 +56,7 @@ static inline void key_put(struct key *key, uint32_t kind, uint32_t count)
     struct ffi3_node *node = &key->nodes[key->length++];
     node->kind = kind;
     node->count = count;
+    key->kinds |= kind;
 }
 
 /* Where in nodes the type ends that begins at `at`. */
@@ -62,8 +67,15 @@ static inline bool is_aggregate(const ffi_type *type)
     return type->type == FFI_TYPE_STRUCT || type->type == FFI_TYPE_COMPLEX;
 }
 
-/* The library's kind of a scalar, or FFI3_STRUCT where it has none for it. */
-uint32_t scalar_kind(unsigned short type);
+/* By libffi's code of a scalar: the library's kind, or FFI3_STRUCT where it has none for it; and how many bytes. */
+extern const uint8_t scalar_kinds[FFI_TYPE_LAST + 1], scalar_sizes[FFI_TYPE_LAST + 1];
+
+static inline uint32_t scalar_kind(unsigned short type)
+{
+    return type <= FFI_TYPE_LAST ? scalar_kinds[type] : FFI3_STRUCT;
+}
+
+static inline size_t scalar_size(unsigned short type) { return type <= FFI_TYPE_LAST ? scalar_sizes[type] : 0; }
 
 /* Whether a scalar has another size or alignment than its type has. A plan is shared by all that have its key, which
  * has no sizes of scalars, so none may count. */

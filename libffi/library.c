@@ -1,15 +1,17 @@
-/* What the proved library is asked: places and layouts. */
+/* What the proved library is asked: the moves of a signature. */
+#include "heap.h"
 #include "host.h"
 #include "plan.h"
 #include <stdlib.h>
 #include <string.h>
 
-/* The nodes that the library is told for those of a key; answers how many. The room is enough: see has_asked_places. */
+#define OWN_MOVES (sizeof ((struct told *)NULL)->own_moves / sizeof(struct ffi3_move))
+
+/* The nodes that the library is told for those of a key; answers how many. The room is enough: see has_asked_moves. */
 static size_t told_nodes(const struct key *key, struct ffi3_node *told, uint32_t *fixed)
 {
     size_t count = 0, result_end = type_end(key->nodes, NODES_BEFORE_TYPES);
     uint32_t not_void = 0, position = 0;
-    *fixed = key->fixed;
     for (size_t at = NODES_BEFORE_TYPES; at < key->length;) {
         size_t end = type_end(key->nodes, at);
         bool is_result = at < result_end;
@@ -25,42 +27,88 @@ static size_t told_nodes(const struct key *key, struct ffi3_node *told, uint32_t
     }
     if (*fixed != FFI3_NOT_VARIADIC && *fixed > not_void)
         *fixed = not_void;
-    /* The library wants one that is fixed, and libffi none; all of these standards place it as if it were not. */
-    if (*fixed == 0)
-        *fixed = not_void ? 1 : FFI3_NOT_VARIADIC;
     return count;
 }
 
 void told_end(struct told *told)
 {
-    if (told->pieces != told->own_pieces)
-        free(told->pieces);
+    for (uint32_t list = 0; list < LISTS; list++)
+        free(told->lists[list].malloced);
 }
 
-bool has_asked_places(const struct key *key, struct told *told)
+/* One list: where there is room for it, or where malloc gives it. */
+static bool has_told(struct ffi3_interface *interface, uint32_t list, struct told *told)
 {
-    uint32_t fixed, status = FFI3_OUT_OF_MEMORY;
-    size_t room = sizeof told->own_pieces / sizeof *told->own_pieces;
+    struct moves *moves = &told->lists[list];
+    struct ffi3_move *room = told->own_moves + told->used;
+    uint32_t status = ffi3_moves(interface, list, &moves->count, room, OWN_MOVES - told->used);
+    if (status == FFI3_OK) {
+        moves->first = room;
+        told->used += moves->count;
+    } else if (status == FFI3_TOO_SMALL && (moves->malloced = malloc(moves->count * sizeof *room))) {
+        moves->first = moves->malloced;
+        status = ffi3_moves(interface, list, &moves->count, moves->first, moves->count);
+    }
+    return status == FFI3_OK;
+}
+
+/* Of the frame all is passed on the stack that stands before the first byte whose address is passed. */
+static uint64_t stack_of(const struct told *told)
+{
+    static const uint32_t LISTS_OF_ADDRESSES[] = {FFI3_MOVES_TO_STORE, FFI3_MOVES_OF_HIDDEN};
+    uint64_t stack = told->sizes.frame;
+    for (size_t k = 0; k < 2; k++) {
+        const struct moves *moves = &told->lists[LISTS_OF_ADDRESSES[k]];
+        for (size_t i = 0; i < moves->count; i++)
+            if (moves->first[i].kind == FFI3_MOVE_ADDRESS && moves->first[i].from < stack)
+                stack = moves->first[i].from;
+    }
+    return (stack + 15) / 16 * 16;
+}
+
+static bool has_told_all(struct ffi3_interface *interface, struct told *told)
+{
+    bool has = ffi3_sizes(interface, &told->sizes) == FFI3_OK && told->sizes.frame <= INT32_MAX;
+    for (uint32_t list = 0; list < LISTS && has; list++)
+        has = has_told(interface, list, told);
+    return has;
+}
+
+static bool has_asked(const struct key *key, const struct ffi3_node *nodes, size_t length, uint32_t fixed,
+                      struct told *told)
+{
+    struct ffi3_interface interface = FFI3_NO_INTERFACE;
+    struct ffi3_fault fault;
+    uint32_t target = host_target((ffi_abi)key->nodes[0].count);
+    /* The library wants one that is fixed, and libffi none; all of these standards place it as if it were not. */
+    if (fixed == 0)
+        fixed = length > type_end(nodes, 0) ? 1 : FFI3_NOT_VARIADIC;
+    memset(told, 0, offsetof(struct told, own_moves));
+    library_enter();
+    bool has = ffi3_prepare(target, nodes, length, fixed, &interface, &fault) == FFI3_OK &&
+               has_told_all(&interface, told);
+    ffi3_release(&interface);
+    library_leave();
+    if (has)
+        told->stack = stack_of(told);
+    else
+        told_end(told);
+    return has;
+}
+
+bool has_asked_moves(const struct key *key, struct told *told)
+{
+    uint32_t fixed = key->fixed;
     struct ffi3_node own_nodes[96], *nodes = own_nodes;
+    if (!(key->kinds & NODES_OF_OWN))
+        return has_asked(key, key->nodes + NODES_BEFORE_TYPES, key->length - NODES_BEFORE_TYPES, fixed, told);
     if (3 * key->length > sizeof own_nodes / sizeof *own_nodes)
         nodes = malloc(3 * key->length * sizeof *nodes);
-    told->pieces = nodes ? told->own_pieces : NULL;
     size_t length = nodes ? told_nodes(key, nodes, &fixed) : 0;
-    while (told->pieces) {
-        status = ffi3_place_nodes(host_target((ffi_abi)key->nodes[0].count), nodes, length, fixed, &told->call,
-                                  told->pieces, room);
-        if (status != FFI3_TOO_SMALL)
-            break;
-        told_end(told);
-        room = told->call.pieces;
-        told->pieces = malloc(room * sizeof *told->pieces);
-    }
+    bool has = length && has_asked(key, nodes, length, fixed, told);
+    if (has)
+        host_correct(key, told);
     if (nodes != own_nodes)
         free(nodes);
-    if (status != FFI3_OK || told->call.frame > INT32_MAX) {
-        told_end(told);
-        return false;
-    }
-    host_correct(key, told);
-    return true;
+    return has;
 }

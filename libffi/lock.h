@@ -1,10 +1,11 @@
-/* lock.h: the locks for what is made once. Both are held over a fork, so that a child has them free. */
+/* lock.h: the locks for what is made once. They are held over a fork, so that a child has them free. */
 #ifndef LOCK_H
 #define LOCK_H
 
 #include <pthread.h>
 
-extern pthread_mutex_t plans_lock; /* of the table of plans */
-extern pthread_mutex_t slots_lock; /* of the memory of closures */
+extern pthread_mutex_t library_lock; /* of the proved library, while it answers */
+extern pthread_mutex_t plans_lock;   /* of the tables of plans and of layouts */
+extern pthread_mutex_t slots_lock;   /* of the memory of closures */
 
 #endif

@@ -1,168 +1,302 @@
-/* From the pieces of a placement to the moves of a plan. Nothing here decides where a value stands: it turns each piece
- * into one move. What the proved library gives as lists of moves will stand in this file's place. */
+/* From the library's lists of moves to a plan. Nothing here decides where a value stands: each move is told again in
+ * fewer bytes, and reads from its own argument, while the library has the values of all of them one behind another. */
 #include "plan.h"
 #include "host.h"
 #include <stdlib.h>
 #include <string.h>
 
-static uint32_t place_of(const struct ffi3_piece *piece)
+static bool is_scalar(const ffi_type *type) { return !is_aggregate(type) && type->type != FFI_TYPE_LONGDOUBLE; }
+
+static bool is_integer(const ffi_type *type)
 {
-    switch (piece->place) {
-    case FFI3_GENERAL: return (uint32_t)offsetof(struct exchange, general) + 8 * piece->number;
-    case FFI3_FLOATING: return (uint32_t)offsetof(struct exchange, floating) + 8 * piece->number;
-    case PLACE_BESIDE: return piece->number;
-    default: return FRAME_AT + piece->number;
-    }
+    return is_scalar(type) && type->type != FFI_TYPE_FLOAT && type->type != FFI_TYPE_DOUBLE;
 }
 
-/* The move of a scalar, which fills its place. */
-static enum move_kind extending(const ffi_type *type)
+static bool is_signed(const ffi_type *type)
 {
-    switch (type->type) {
-    case FFI_TYPE_UINT8: return MOVE_U8;
-    case FFI_TYPE_SINT8: return MOVE_S8;
-    case FFI_TYPE_UINT16: return MOVE_U16;
-    case FFI_TYPE_SINT16: return MOVE_S16;
-    case FFI_TYPE_UINT32:
-    case FFI_TYPE_FLOAT: return MOVE_U32;
-    case FFI_TYPE_INT:
-    case FFI_TYPE_SINT32: return MOVE_S32;
-    default: return MOVE_8;
-    }
+    return type->type == FFI_TYPE_SINT8 || type->type == FFI_TYPE_SINT16 || type->type == FFI_TYPE_SINT32 ||
+           type->type == FFI_TYPE_INT;
 }
 
-static enum move_kind of_length(uint32_t length)
+/* Bytes as they are. */
+static uint16_t as_they_are(uint32_t length)
 {
     switch (length) {
-    case 1: return MOVE_U8;
-    case 2: return MOVE_U16;
-    case 4: return MOVE_U32;
+    case 4: return MOVE_4;
     case 8: return MOVE_8;
+    case 16: return MOVE_16;
     default: return MOVE_BYTES;
     }
 }
 
-static bool is_scalar(const ffi_type *type) { return !is_aggregate(type) && type->type != FFI_TYPE_LONGDOUBLE; }
+/* Bytes that fill eight. */
+static uint16_t filling(uint32_t length, bool is_signed)
+{
+    switch (length) {
+    case 1: return is_signed ? MOVE_S8 : MOVE_U8;
+    case 2: return is_signed ? MOVE_S16 : MOVE_U16;
+    case 4: return is_signed ? MOVE_S32 : MOVE_U32;
+    case 8: return MOVE_8;
+    default: return MOVE_SHORT;
+    }
+}
 
-/* How many bytes of the value a piece has: a stand-in may be longer than the type that it stands in for. What a client
+/* To a place. A register, or eight bytes of the frame, is one move's: where the library leaves the rest of it free it
+ * gets zeros. No standard of these hosts asks for ones. */
+static uint16_t kind_in(const struct ffi3_move *told, uint32_t length)
+{
+    return length <= 8 ? filling(length, told->kind == FFI3_MOVE_SIGN) : as_they_are(length);
+}
+
+/* How many bytes of the value a move has: a stand-in may be longer than the type that it stands in for. What a client
  * says of a scalar's size does not count. */
-static uint32_t length_of(const struct ffi3_piece *piece, const ffi_type *type)
+static uint32_t length_of(const struct ffi3_move *told, uint64_t offset, const ffi_type *type)
 {
-    size_t left = type->size > piece->offset ? type->size - piece->offset : 0;
-    return is_scalar(type) || piece->length < left ? piece->length : (uint32_t)left;
+    uint64_t left = type->size > offset ? type->size - offset : 0;
+    return (uint32_t)(is_scalar(type) || told->length < left ? told->length : left);
 }
 
-static struct move move_in(const struct ffi3_piece *piece, const ffi_type *type, uint16_t argument)
+/* Whether a move goes with the one before it: it goes on where that ended, in both memories, or ends where that began,
+ * or writes the same bytes, and so comes in its place. */
+static bool has_joined(struct move *last, const struct move *move)
 {
-    struct move move = {.argument = argument, .to = place_of(piece)};
-    if (piece->holds == FFI3_ADDRESS) {
-        move.kind = MOVE_COPY;
-        move.from = FRAME_AT + piece->offset;
-        move.length = (uint32_t)type->size;
-    } else {
-        move.length = length_of(piece, type);
-        move.kind = (uint16_t)(is_scalar(type) ? extending(type) : of_length(move.length));
-        move.from = piece->offset;
+    if (last->to == move->to) {
+        *last = *move;
+        return true;
     }
-    return move;
-}
-
-/* From a place to a value. A narrow integer of a result is widened to a word, where `widens`. */
-static struct move move_out(const struct ffi3_piece *piece, const ffi_type *type, bool widens)
-{
-    struct move move = {.from = place_of(piece), .to = piece->offset, .length = length_of(piece, type)};
-    bool is_integer = is_scalar(type) && type->type != FFI_TYPE_FLOAT && type->type != FFI_TYPE_DOUBLE;
-    move.kind = (uint16_t)(is_integer && widens ? extending(type)
-                           : move.length == 8   ? MOVE_8
-                           : move.length == 4   ? MOVE_4
-                                                : MOVE_BYTES);
-    return move;
-}
-
-/* Where a closure finds an argument, whose pieces are `count` from `piece` on. */
-static struct source source_of(struct plan *plan, const struct ffi3_piece *piece, uint32_t count, const ffi_type *type,
-                               uint32_t *gathers)
-{
-    struct source source = {AT_PLACE, place_of(piece), 0, 0};
-    if (piece->holds == FFI3_ADDRESS) {
-        source.kind = AT_ADDRESS;
-        return source;
+    bool goes_on = last->from + last->length == move->from && last->to + last->length == move->to;
+    bool is_before = move->from + move->length == last->from && move->to + move->length == last->to;
+    if ((!goes_on || last->length % 8) && (!is_before || move->length % 8))
+        return false;
+    if (is_before) {
+        last->from = move->from;
+        last->to = move->to;
     }
-    /* Where a piece repeats the bytes of the one before it, as Microsoft's variadic floats do, the first counts. */
-    if (count == 1 || (count == 2 && piece[1].offset == piece[0].offset))
-        return source;
-    source.kind = GATHERED;
-    source.at = plan->scratch;
-    source.first = *gathers;
-    source.count = count;
-    for (uint32_t k = 0; k < count; k++)
-        plan->gathers[(*gathers)++] = move_out(&piece[k], type, false);
-    plan->scratch += (uint32_t)(type->size + 15) / 16 * 16;
+    last->length += move->length;
+    last->kind = as_they_are(last->length);
+    return true;
+}
+
+/* Adds a move to the `count` of a value, and answers how many they are then. */
+static inline uint32_t add(struct move *moves, uint32_t count, const struct move *move)
+{
+    if (move->length == 0 || (count && has_joined(&moves[count - 1], move)))
+        return count;
+    moves[count] = *move;
+    return count + 1;
+}
+
+/* ---- Arguments
+ *
+ * The library numbers those that it was told of, which are all that are not void. Both lists have each one's moves side
+ * by side, by these numbers. */
+
+/* A reader of a list, and the argument that it is at. */
+struct reader {
+    const struct ffi3_move *next, *end;
+    uint32_t part;       /* the library's number */
+    uint16_t number;     /* the client's */
+    const ffi_type *type;
+    uint64_t start;      /* of the value, among those of all arguments */
+};
+
+static struct reader reader_of(const struct moves *moves)
+{
+    return (struct reader){.next = moves->first, .end = moves->first + moves->count};
+}
+
+static bool has_more(const struct reader *it)
+{
+    return it->next < it->end && it->next->part == it->part && it->next->kind != FFI3_MOVE_NUMBER;
+}
+
+/* Adds the caller's moves of an argument. The first of them reads its first byte. */
+static void fill_moves(struct plan *plan, struct reader *it)
+{
+    struct move *moves = plan->moves + plan->moves_count;
+    uint32_t count = 0;
+    it->start = it->next->from;
+    for (; has_more(it); it->next++) {
+        struct move move = {.argument = it->number, .to = (uint32_t)it->next->to};
+        if (it->next->kind == FFI3_MOVE_ADDRESS) {
+            move.kind = MOVE_ADDRESS;
+            move.from = FRAME_AT + (uint32_t)it->next->from;
+            moves[count++] = move;
+            continue;
+        }
+        move.from = (uint32_t)(it->next->from - it->start);
+        move.length = length_of(it->next, move.from, it->type);
+        move.kind = kind_in(it->next, move.length);
+        count = add(moves, count, &move);
+    }
+    plan->moves_count += count;
+}
+
+/* Where a closure finds an argument: where it stands, if that is one place. In registers nothing is aligned to 16. What
+ * stands in more is gathered by the callee's moves. */
+static struct source source_of(struct plan *plan, struct reader *it)
+{
+    struct move *moves = &plan->gathers[plan->gathers_count];
+    uint32_t count = 0, first = (uint32_t)it->next->from;
+    if (it->next->kind == FFI3_MOVE_BEHIND) {
+        it->next++;
+        return (struct source){AT_ADDRESS, first, 0, 0};
+    }
+    for (; has_more(it); it->next++) {
+        struct move move = {.from = (uint32_t)it->next->from, .to = (uint32_t)(it->next->to - it->start)};
+        move.length = length_of(it->next, move.to, it->type);
+        move.kind = as_they_are(move.length);
+        count = add(moves, count, &move);
+    }
+    if (count == 1 && (moves->from >= FRAME_AT || it->type->alignment <= 8))
+        return (struct source){AT_PLACE, moves->from, 0, 0};
+    struct source source = {GATHERED, plan->scratch, plan->gathers_count, count};
+    plan->gathers_count += count;
+    plan->scratch += (uint32_t)(it->type->size + 15) / 16 * 16;
     return source;
 }
 
-/* The library is not told of arguments that are void: which one of the interface is its `part`. */
-static uint16_t argument_of(const ffi_cif *cif, uint32_t part)
+/* Answers whether each argument has its moves. */
+static bool has_filled_arguments(struct plan *plan, const struct told *told, const ffi_cif *cif)
 {
-    uint16_t i = 0;
-    for (; cif->arg_types[i]->type == FFI_TYPE_VOID || part-- > 0; i++)
-        ;
-    return i;
+    struct reader in = reader_of(&told->lists[FFI3_MOVES_TO_STORE]);
+    struct reader out = reader_of(&told->lists[FFI3_MOVES_TO_COLLECT]);
+    for (uint16_t number = 0; number < cif->nargs; number++) {
+        plan->sources[number] = (struct source){AT_PLACE, 0, 0, 0};
+        if (cif->arg_types[number]->type == FFI_TYPE_VOID)
+            continue;
+        if (!has_more(&in) || !has_more(&out))
+            return false;
+        in.number = number;
+        in.type = out.type = cif->arg_types[number];
+        fill_moves(plan, &in);
+        out.start = in.start;
+        plan->sources[number] = source_of(plan, &out);
+        in.part++;
+        out.part++;
+    }
+    if (in.next < in.end) {
+        plan->number_at = (uint32_t)in.next->to;
+        plan->number = in.next->from;
+    }
+    return true;
 }
 
-static void fill(struct plan *plan, const struct told *told, const ffi_cif *cif)
+/* ---- Results */
+
+/* libffi widens an integer to a word. */
+static struct move load_of(const struct ffi3_move *told, const ffi_type *type)
 {
-    uint32_t end = host_shadow_store(cif->abi), gathers = 0;
+    struct move move = {.from = (uint32_t)told->from, .to = (uint32_t)told->to};
+    move.length = length_of(told, told->to, type);
+    move.kind = is_integer(type) ? filling(move.length, is_signed(type)) : as_they_are(move.length);
+    return move;
+}
+
+static struct move give_of(const struct ffi3_move *told, const ffi_type *type)
+{
+    struct move move = {.from = (uint32_t)told->from, .to = (uint32_t)told->to};
+    move.length = length_of(told, told->from, type);
+    move.kind = kind_in(told, move.length);
+    return move;
+}
+
+/* A hidden result is in the client's own buffer: there is no move for it. */
+static void fill_result(struct plan *plan, const struct told *told, const ffi_type *type)
+{
+    const struct moves *loads = &told->lists[FFI3_MOVES_TO_LOAD], *gives = &told->lists[FFI3_MOVES_TO_GIVE],
+                       *hidden = &told->lists[FFI3_MOVES_OF_HIDDEN];
     plan->hidden = plan->back = NO_PLACE;
-    for (size_t k = 0; k < told->call.passed;) {
-        const struct ffi3_piece *piece = &told->pieces[k];
-        uint32_t count = 1;
-        if (piece->part == FFI3_HIDDEN) {
-            plan->hidden = place_of(piece);
-            plan->buffer = FRAME_AT + piece->offset;
-        } else {
-            uint16_t argument = argument_of(cif, piece->part);
-            const ffi_type *type = cif->arg_types[argument];
-            while (k + count < told->call.passed && piece[count].part == piece->part)
-                count++;
-            for (uint32_t j = 0; j < count; j++)
-                plan->moves[plan->moves_count++] = move_in(&piece[j], type, argument);
-            plan->sources[argument] = source_of(plan, piece, count, type, &gathers);
-        }
-        for (uint32_t j = 0; j < count; j++)
-            if (piece[j].place == FFI3_STACK && piece[j].number + piece[j].length > end)
-                end = piece[j].number + piece[j].length;
-        k += count;
+    if (hidden->count) {
+        plan->hidden = (uint32_t)hidden->first->to;
+        plan->buffer = FRAME_AT + (uint32_t)hidden->first->from;
+        if (told->sizes.returned != FFI3_NOWHERE)
+            plan->back = (uint32_t)told->sizes.returned;
+        return;
     }
-    plan->stack = (end + 15) / 16 * 16;
-    for (size_t k = told->call.passed; k < told->call.pieces; k++)
-        if (plan->hidden == NO_PLACE)
-            plan->results[plan->results_count++] = move_out(&told->pieces[k], cif->rtype, true);
-        else
-            plan->back = place_of(&told->pieces[k]);
+    for (size_t k = 0; k < loads->count; k++) {
+        struct move move = load_of(&loads->first[k], type);
+        plan->loads_count = add(plan->loads, plan->loads_count, &move);
+    }
+    for (size_t k = 0; k < gives->count; k++) {
+        struct move move = give_of(&gives->first[k], type);
+        plan->gives_count = add(plan->gives, plan->gives_count, &move);
+    }
+}
+
+/* ---- The whole */
+
+/* What was stored in pieces is collected from them, and what was stored in a copy from where its address points. */
+void told_mirror(struct told *told)
+{
+    const struct moves *in = &told->lists[FFI3_MOVES_TO_STORE];
+    struct moves *out = &told->lists[FFI3_MOVES_TO_COLLECT];
+    out->count = 0;
+    for (size_t k = 0; k < in->count; k++) {
+        const struct ffi3_move *it = &in->first[k];
+        struct ffi3_move back = {FFI3_MOVE_BYTES, it->part, it->to, it->from, it->length};
+        if (it->kind == FFI3_MOVE_NUMBER)
+            continue;
+        if (k + 1 < in->count && it[1].kind == FFI3_MOVE_ADDRESS) {
+            back.kind = FFI3_MOVE_BEHIND;
+            back.from = it[1].to;
+            k++;
+        }
+        out->first[out->count++] = back;
+    }
+}
+
+/* The plan, whose moves and sources stand in `room`, in memory of its own that has no more than it wants. */
+static struct plan *kept(const struct plan *made, const struct key *key)
+{
+    size_t moves = made->moves_count, loads = made->loads_count, gives = made->gives_count;
+    size_t gathers = made->gathers_count, nargs = made->nargs, nodes = made->word ? 0 : key->length;
+    struct plan *plan = malloc(sizeof *plan + (moves + loads + gives + gathers) * sizeof(struct move) +
+                               nargs * sizeof(struct source) + nodes * sizeof *plan->nodes);
+    if (!plan)
+        return NULL;
+    *plan = *made;
+    plan->moves = (struct move *)(plan + 1);
+    plan->loads = plan->moves + moves;
+    plan->gives = plan->loads + loads;
+    plan->gathers = plan->gives + gives;
+    plan->sources = (struct source *)(plan->gathers + gathers);
+    memcpy(plan->moves, made->moves, moves * sizeof(struct move));
+    memcpy(plan->loads, made->loads, loads * sizeof(struct move));
+    memcpy(plan->gives, made->gives, gives * sizeof(struct move));
+    memcpy(plan->gathers, made->gathers, gathers * sizeof(struct move));
+    memcpy(plan->sources, made->sources, nargs * sizeof(struct source));
+    plan->nodes = memcpy(plan->sources + nargs, key->nodes, nodes * sizeof *plan->nodes);
+    plan->nodes_count = nodes;
+    return plan;
 }
 
 struct plan *plan_from(const struct key *key, uint64_t word, const struct told *told, const ffi_cif *cif)
 {
-    size_t pieces = told->call.pieces + 2, nargs = cif->nargs, nodes = word ? 0 : key->length;
-    size_t size = sizeof(struct plan) + 3 * pieces * sizeof(struct move) + nargs * sizeof(struct source);
-    struct plan *plan = calloc(1, size + nodes * sizeof *plan->nodes);
-    if (!plan)
-        return NULL;
-    plan->moves = (struct move *)(plan + 1);
-    plan->results = plan->moves + pieces;
-    plan->gathers = plan->results + pieces;
-    plan->sources = (struct source *)(plan->gathers + pieces);
-    struct ffi3_node *kept = (struct ffi3_node *)(plan->sources + nargs);
-    memcpy(kept, key->nodes, nodes * sizeof *kept);
-    plan->nodes = kept;
-    plan->nodes_count = nodes;
-    plan->word = word;
-    plan->abi = cif->abi;
-    plan->nargs = cif->nargs;
-    plan->frame = (uint32_t)told->call.frame;
-    plan->vectors = (uint32_t)told->call.vectors;
-    fill(plan, told, cif);
-    host_complete(key, plan);
+    size_t stores = told->lists[FFI3_MOVES_TO_STORE].count, collects = told->lists[FFI3_MOVES_TO_COLLECT].count;
+    size_t loads = told->lists[FFI3_MOVES_TO_LOAD].count + MOST_BESIDE;
+    size_t gives = told->lists[FFI3_MOVES_TO_GIVE].count + MOST_BESIDE;
+    size_t room = stores + loads + gives + collects;
+    struct move own_moves[64], *moves = own_moves;
+    struct source own_sources[16], *sources = own_sources;
+    if (room > sizeof own_moves / sizeof *own_moves)
+        moves = malloc(room * sizeof *moves);
+    if (cif->nargs > sizeof own_sources / sizeof *own_sources)
+        sources = malloc(cif->nargs * sizeof *sources);
+    struct plan *plan = NULL, made = {
+        .word = word, .abi = cif->abi, .nargs = cif->nargs,
+        .stack = (uint32_t)told->stack, .frame = (uint32_t)told->sizes.frame,
+        .number_at = offsetof(struct exchange, unused),
+        .moves = moves, .loads = moves + stores, .gives = moves + stores + loads,
+        .gathers = moves + stores + loads + gives, .sources = sources};
+    if (moves && sources && has_filled_arguments(&made, told, cif)) {
+        fill_result(&made, told, cif->rtype);
+        host_complete(key, &made);
+        plan = kept(&made, key);
+    }
+    if (moves != own_moves)
+        free(moves);
+    if (sources != own_sources)
+        free(sources);
     return plan;
 }

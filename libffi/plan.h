@@ -7,28 +7,30 @@
 #include "key.h"
 #include <stdatomic.h>
 
-/* ---- Moves
+/* ---- Moves: those of the library (ffi3.h), by which it says where values stand, in fewer bytes each.
  *
  * A place is a number of bytes from the start of the exchange; from FRAME_AT on it is in the caller's frame. */
 
 enum move_kind {
-    MOVE_U8, /* these six read so many bits of the value, and write 64, extended with zeros or by the sign */
+    MOVE_U8, /* these six read so many bits, and write 64, extended with zeros or by the sign */
     MOVE_S8,
     MOVE_U16,
     MOVE_S16,
     MOVE_U32,
     MOVE_S32,
-    MOVE_4, /* so many bytes */
+    MOVE_SHORT, /* `length` bytes, and zeros above them, eight in all */
+    MOVE_4,     /* so many bytes */
     MOVE_8,
-    MOVE_BYTES, /* `length` bytes */
-    MOVE_COPY   /* the value's `length` bytes to the place `from`, and the address of that to the place `to` */
+    MOVE_16,
+    MOVE_BYTES,  /* `length` bytes */
+    MOVE_ADDRESS /* the address of the place `from` */
 };
 
 struct move {
     uint16_t kind;
     uint16_t argument;
-    uint32_t from; /* of an argument's move the value's first byte, of a result's the place */
-    uint32_t to;   /* and the other way round */
+    uint32_t from; /* a place, or a byte of the value */
+    uint32_t to;   /* the other of them */
     uint32_t length;
 };
 
@@ -57,33 +59,53 @@ struct plan {
     ffi_abi abi;
     uint32_t nargs;
     uint32_t index;   /* of the table of plans */
-    uint32_t stack;   /* bytes of stack arguments, a multiple of 16 */
-    uint32_t frame;   /* these with copies and the result's buffer */
-    uint32_t vectors; /* on AMD64, what goes into al */
-    uint32_t beside;  /* goes into the exchange */
+    uint32_t stack;     /* bytes of stack arguments, a multiple of 16 */
+    uint32_t frame;     /* these with copies and the result's buffer */
+    uint32_t beside;    /* goes into the exchange */
+    uint32_t number_at; /* where the caller puts a number: on AMD64, how many vector registers there are */
+    uint64_t number;
     uint32_t hidden;  /* the place of the address of the result's buffer, or NO_PLACE */
     uint32_t back;    /* the place in which the callee gives it back, or NO_PLACE */
     uint32_t buffer;  /* the place of that buffer, where the client has none */
     uint32_t scratch; /* bytes for a closure's gathered arguments */
     uint32_t moves_count;
-    uint32_t results_count;
+    uint32_t loads_count;
+    uint32_t gives_count;
+    uint32_t gathers_count;
     struct move *moves;   /* the caller's, of the arguments */
-    struct move *results; /* the caller's of the result; a callee's are these the other way round */
-    struct move *gathers; /* a callee's, of arguments that stand in pieces */
+    struct move *loads;   /* the caller's, of the result */
+    struct move *gives;   /* the callee's, of the result */
+    struct move *gathers; /* the callee's, of arguments that stand in pieces */
     struct source *sources;
 };
 
-/* What ffi3_place_nodes told. */
-struct told {
-    struct ffi3_call call;
-    struct ffi3_piece *pieces; /* own_pieces, or malloc's */
-    struct ffi3_piece own_pieces[48];
+/* ---- What the proved library told of a signature */
+
+#define MOST_BESIDE 2 /* moves of a result that host_complete adds */
+
+struct moves {
+    struct ffi3_move *first;
+    size_t count;
+    struct ffi3_move *malloced; /* where they are not in own_moves */
 };
 
-/* Asks the proved library for the places of a key; answers false where it has none, or memory was refused. told_end
- * gives memory back. */
-bool has_asked_places(const struct key *key, struct told *told);
+#define LISTS 5 /* FFI3_MOVES_TO_STORE and so on */
+
+struct told {
+    struct ffi3_sizes sizes;
+    uint64_t stack; /* bytes of the frame that are passed on the stack: it begins with them */
+    struct moves lists[LISTS];
+    size_t used; /* of own_moves */
+    struct ffi3_move own_moves[64];
+};
+
+/* Asks the library for the moves of a key; answers false where it has none, or memory was refused. told_end gives
+ * memory back. */
+bool has_asked_moves(const struct key *key, struct told *told);
 void told_end(struct told *told);
+
+/* Makes the callee's moves of the arguments anew, from the caller's, where a host has placed a long double. */
+void told_mirror(struct told *told);
 
 /* Makes a plan of what was told: malloc's, or NULL. */
 struct plan *plan_from(const struct key *key, uint64_t word, const struct told *told, const ffi_cif *cif);
@@ -118,12 +140,16 @@ static inline const struct plan *plan_at(uint32_t flags)
     return leaf ? atomic_load_explicit(&leaf->plans[index % PLANS_OF_LEAF], memory_order_acquire) : NULL;
 }
 
-static inline const struct plan *plan_of(ffi_cif *cif)
+static inline const struct plan *plan_if_prepared(const ffi_cif *cif)
 {
     const struct plan *plan = plan_at(cif->flags);
-    if (__builtin_expect(plan && plan->nargs == cif->nargs && plan->abi == cif->abi && plan->stack == cif->bytes, 1))
-        return plan;
-    return planned_again(cif);
+    return plan && plan->nargs == cif->nargs && plan->abi == cif->abi && plan->stack == cif->bytes ? plan : NULL;
+}
+
+static inline const struct plan *plan_of(ffi_cif *cif)
+{
+    const struct plan *plan = plan_if_prepared(cif);
+    return __builtin_expect(plan != NULL, 1) ? plan : planned_again(cif);
 }
 
 #endif

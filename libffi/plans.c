@@ -100,7 +100,7 @@ static bool has_entered(struct plan *plan)
 static const struct plan *make(const struct key *key, uint64_t hash, uint64_t word, const ffi_cif *cif)
 {
     struct told told;
-    if (!has_asked_places(key, &told))
+    if (!has_asked_moves(key, &told))
         return NULL;
     struct plan *plan = plan_from(key, word, &told, cif);
     const struct plan *kept = NULL;

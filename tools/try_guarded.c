@@ -326,6 +326,59 @@ static void try_type(const struct ffi3_node *nodes, size_t count, int all, int a
     }
 }
 
+// A call by an interface, and its moves, in arrays of any size.
+static void try_interface(uint32_t target, const struct ffi3_node *nodes, size_t count, uint32_t fixed, int at_end)
+{
+    static unsigned char bytes[sizeof line], result[1 << 13];
+    static struct ffi3_move whole[MUCH / sizeof(struct ffi3_move)];
+    struct ffi3_registers none = {{0}, {0}, 0};
+    may_write(&registers, 1);
+    may_write(&stacks, 1);
+    struct ffi3_interface *it = memset(place_in(&calls, sizeof *it, at_end), 0, sizeof *it);
+    struct ffi3_fault *fault = place_in(&arrays, sizeof *fault, at_end);
+    struct ffi3_sizes sizes;
+    uint32_t told = ffi3_prepare(target, nodes, count, fixed, it, fault);
+    add(&told, sizeof told);
+    add(fault, sizeof *fault);
+    check((told == FFI3_OK) == (it->kept != NULL), "an interface is kept");
+    uint32_t asked = ffi3_sizes(it, &sizes);
+    add(&sizes, sizeof sizes);
+    check(asked == (told == FFI3_OK ? FFI3_OK : FFI3_NOT_PREPARED), "sizes of an interface");
+    for (uint32_t list = FFI3_MOVES_TO_STORE; asked == FFI3_OK && list <= FFI3_MOVES_OF_HIDDEN; list++) {
+        size_t wanted = 0;
+        ffi3_moves(it, list, &wanted, whole, sizeof whole / sizeof *whole);
+        add(whole, wanted * sizeof *whole);
+        for (size_t room = wanted ? wanted - 1 : 0; room <= wanted + 1; room++) {
+            size_t *number = place_in(&registers, sizeof *number, at_end);
+            struct ffi3_move *moves = place_in(&arrays, room * sizeof *moves, at_end);
+            uint32_t status = ffi3_moves(it, list, number, moves, room);
+            check(*number == wanted && status == (room < wanted ? FFI3_TOO_SMALL : FFI3_OK), "moves");
+            check_array(moves, whole, sizeof *moves, wanted, room, "moves");
+        }
+    }
+    size_t frame = sizes.link + sizes.frame;
+    if (asked == FFI3_OK && sizes.values < sizeof bytes && sizes.result < sizeof result && frame <= 1 << 16) {
+        const unsigned char *values = lend(&texts, bytes, sizes.values, at_end);
+        unsigned char *stack = place_in(&stacks, frame, at_end);
+        struct ffi3_registers *held = memcpy(place_in(&registers, sizeof none, at_end), &none, sizeof none);
+        check(ffi3_store(it, values, sizes.values, held, stack, frame) == FFI3_OK, "store");
+        add(held, sizeof *held);
+        add(stack, frame);
+        unsigned char *found = place_in(&arrays, sizes.values, at_end);
+        struct ffi3_reason reason;
+        check(ffi3_collect(it, held, stack, frame, found, sizes.values, &reason) == FFI3_OK &&
+                  (!sizes.values || !memcmp(found, bytes, sizes.values)), "collect");
+        const unsigned char *given = lend(&texts, result, sizes.result, at_end);
+        check(ffi3_give(it, given, sizes.result, held, stack, frame, &reason) == FFI3_OK, "give");
+        found = place_in(&arrays, sizes.result, at_end);
+        unsigned char *left = sizes.frame ? stack + sizes.link : NULL;
+        check(ffi3_load(it, held, left, sizes.frame, found, sizes.result) == FFI3_OK &&
+                  (!sizes.result || !memcmp(found, result, sizes.result)), "load");
+    }
+    ffi3_release(it);
+    check(!it->kept, "an interface is released");
+}
+
 // Nodes as those of a function, and those from each of them on as a type.
 static void try_nodes(const struct ffi3_node *from, size_t count, uint32_t fixed, int all)
 {
@@ -335,6 +388,10 @@ static void try_nodes(const struct ffi3_node *from, size_t count, uint32_t fixed
             try_place_nodes(target, nodes, count, fixed, all, at_end);
         for (size_t at = 0; at < count; at++)
             try_type(nodes + at, count - at, all, at_end);
+        for (uint32_t target = FFI3_AMD64; target <= FFI3_APPLE + 1; target++) {
+            const struct ffi3_node *again = lend(&texts, from, count * sizeof *from, at_end);
+            try_interface(target, again, count, fixed, at_end);
+        }
     }
 }
 

@@ -20,7 +20,7 @@
 #endif
 
 enum { THREADS = 8, DEPTH = 16, ARGUMENTS = 64 };
-enum { LINES = 4096, PIECES = 1024, LEAVES = 4096, VALUES = 1 << 19, PAINT = 0xA5 };
+enum { LINES = 4096, PIECES = 1024, LEAVES = 4096, VALUES = 1 << 19, FRAME = 1 << 15, MOVES = 4096, PAINT = 0xA5 };
 
 // What one thread has: nothing is shared but the texts.
 struct work {
@@ -37,6 +37,8 @@ struct work {
     struct ffi3_piece pieces[PIECES];
     struct ffi3_leaf leaves[LEAVES];
     unsigned char values[VALUES];
+    unsigned char frame[FRAME];
+    struct ffi3_move moves[MOVES];
 };
 
 static char *texts[LINES];
@@ -124,6 +126,40 @@ static void ask_of_nodes(struct work *work, uint32_t target)
     add(work, work->pieces, work->call.pieces * sizeof *work->pieces);
 }
 
+// Values by an interface that is prepared and shared: those that are stored are collected, and a result is loaded.
+static void ask_of_interface(struct work *work, uint32_t target)
+{
+    struct ffi3_interface first = FFI3_NO_INTERFACE, it = FFI3_NO_INTERFACE;
+    struct ffi3_registers registers = work->held;
+    struct ffi3_sizes sizes;
+    struct ffi3_reason reason;
+    unsigned char result[256];
+    size_t moved = 0, all = sizeof nodes / sizeof *nodes;
+    uint32_t told = ffi3_prepare(target, nodes, all, FFI3_NOT_VARIADIC, &first, &work->call.fault) |
+                    ffi3_share(&first, &it) | ffi3_sizes(&it, &sizes);
+    ffi3_release(&first);
+    if (told || sizes.values > VALUES || sizes.link + sizes.frame > FRAME || sizes.result > sizeof result)
+        abort();
+    memset(work->values, 0, sizes.values);
+    memset(work->frame, 0, sizeof work->frame);
+    memset(result, 0, sizeof result);
+    result[0] = work->values[0] = 1;
+    told = ffi3_store(&it, work->values, sizes.values, &registers, work->frame, FRAME) |
+           ffi3_collect(&it, &registers, work->frame, FRAME, work->values, sizes.values, &reason) |
+           ffi3_give(&it, result, sizes.result, &registers, work->frame, FRAME, &reason) |
+           ffi3_load(&it, &registers, work->frame + sizes.link, FRAME - sizes.link, result, sizes.result);
+    if (told || result[0] != 1 || work->values[0] != 1)
+        abort();
+    add(work, &sizes, sizeof sizes);
+    add(work, work->values, sizes.values);
+    for (uint32_t list = FFI3_MOVES_TO_STORE; list <= FFI3_MOVES_OF_HIDDEN; list++) {
+        if (ffi3_moves(&it, list, &moved, work->moves, MOVES) != FFI3_OK)
+            abort();
+        add(work, work->moves, moved * sizeof *work->moves);
+    }
+    ffi3_release(&it);
+}
+
 static void *ask_all(void *given)
 {
     struct work *work = given;
@@ -133,6 +169,7 @@ static void *ask_all(void *given)
     pthread_barrier_wait(&all_there);
     for (uint32_t target = FFI3_AMD64; target <= FFI3_APPLE; target++) {
         ask_of_nodes(work, target);
+        ask_of_interface(work, target);
         for (size_t i = 0; i < count; i++)
             ask(work, texts[i], strlen(texts[i]), target);
     }

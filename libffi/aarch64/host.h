@@ -17,12 +17,6 @@ static inline uint32_t host_target(ffi_abi abi)
     return FFI3_AAPCS64;
 }
 
-static inline uint32_t host_shadow_store(ffi_abi abi)
-{
-    (void)abi;
-    return 0;
-}
-
 /* stubs.S. x17 has the closure, of Go's x18. */
 void enter_closure(void);
 void enter_go_closure(void);

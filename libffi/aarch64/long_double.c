@@ -34,56 +34,89 @@ static bool has_long_doubles(const struct key *key)
     return false;
 }
 
-/* Whether an integer of 16 bytes stands in the type, which aligns it on the stack. */
-static bool has_wide(const struct key *key, size_t at)
+/* Of a vector register's place the one in which all of it stands. */
+static void make_whole(uint64_t *place)
 {
-    for (size_t end = type_end(key->nodes, at); at < end; at++)
-        if (key->nodes[at].kind == FFI3_UINT128)
-            return true;
-    return false;
+    uint64_t first = offsetof(struct exchange, floating);
+    if (*place >= first && *place < first + sizeof ((struct exchange *)NULL)->floating)
+        *place = WHOLE_REGISTERS_AT + 2 * (*place - first);
 }
 
-/* Of the type that begins at `at` of the key; `end` is that of the stack arguments before it. */
-static void correct_piece(const struct key *key, size_t at, struct ffi3_piece *piece, uint32_t *end)
+/* Bytes from `start` on of a value, which are doubles and stand in for long doubles. */
+static void make_long(uint64_t *byte, uint64_t start, uint64_t *length)
 {
-    bool is_long_double = key->nodes[at].kind == NODE_LONG_DOUBLES;
-    if (is_long_double && piece->holds == FFI3_BYTES) {
-        piece->offset *= 2;
-        piece->length *= 2;
-    }
-    if (piece->place == FFI3_FLOATING) {
-        piece->place = PLACE_BESIDE;
-        piece->number = WHOLE_REGISTERS_AT + 16 * piece->number;
-    } else if (piece->place == FFI3_STACK) {
-        if (is_long_double || (piece->holds == FFI3_BYTES && has_wide(key, at)))
+    *byte = start + 2 * (*byte - start);
+    *length *= 2;
+}
+
+/* The moves of one argument. What is passed on the stack stands behind `end`, which goes on. */
+static void correct_argument(struct ffi3_move *moves, size_t count, bool is_long_double, uint64_t *end)
+{
+    uint64_t start = moves->from;
+    bool is_copy = count > 1 && moves[1].kind == FFI3_MOVE_ADDRESS;
+    for (size_t k = is_copy; k < count; k++) {
+        struct ffi3_move *it = &moves[k];
+        if (is_long_double)
+            make_long(&it->from, start, &it->length);
+        make_whole(&it->to);
+        if (it->to < FRAME_AT)
+            continue;
+        if (is_long_double)
             *end = (*end + 15) / 16 * 16;
-        piece->number = *end;
-        *end += (piece->length + 7) / 8 * 8;
+        it->to = FRAME_AT + *end;
+        *end += (it->length + 7) / 8 * 8;
+    }
+}
+
+/* Copies and the buffer stand behind the stack arguments, which are now so much more. */
+static void move_addresses(struct moves *moves, uint64_t more)
+{
+    for (size_t k = 0; k < moves->count; k++)
+        if (moves->first[k].kind == FFI3_MOVE_ADDRESS) {
+            moves->first[k].from += more;
+            if (k > 0)
+                moves->first[k - 1].to += more;
+        }
+}
+
+static void correct_result(struct told *told, bool is_long_double)
+{
+    struct moves *loads = &told->lists[FFI3_MOVES_TO_LOAD], *gives = &told->lists[FFI3_MOVES_TO_GIVE];
+    for (size_t k = 0; k < loads->count; k++) {
+        make_whole(&loads->first[k].from);
+        if (is_long_double)
+            make_long(&loads->first[k].to, 0, &loads->first[k].length);
+    }
+    for (size_t k = 0; k < gives->count; k++) {
+        make_whole(&gives->first[k].to);
+        if (is_long_double)
+            make_long(&gives->first[k].from, 0, &gives->first[k].length);
     }
 }
 
 void host_correct(const struct key *key, struct told *told)
 {
-    uint32_t part = 0, end = 0;
+    struct moves *stores = &told->lists[FFI3_MOVES_TO_STORE];
     size_t k = 0, result = NODES_BEFORE_TYPES;
+    uint32_t part = 0;
+    uint64_t end = 0;
     if (!has_long_doubles(key))
         return;
     for (size_t at = type_end(key->nodes, result); at < key->length; at = type_end(key->nodes, at)) {
-        size_t type = key->nodes[at].kind == NODE_SIZED ? at + 1 : at;
+        size_t first = k;
         if (key->nodes[at].kind == FFI3_VOID)
             continue;
-        for (; k < told->call.passed && told->pieces[k].part == part; k++)
-            correct_piece(key, type, &told->pieces[k], &end);
+        while (k < stores->count && stores->first[k].part == part)
+            k++;
+        correct_argument(&stores->first[first], k - first, key->nodes[at].kind == NODE_LONG_DOUBLES, &end);
         part++;
     }
-    uint32_t more = (end + 15) / 16 * 16; /* copies and buffer stand behind the stack arguments */
-    for (k = 0; k < told->call.pieces; k++) {
-        if (k >= told->call.passed)
-            correct_piece(key, result, &told->pieces[k], &end);
-        if (told->pieces[k].holds == FFI3_ADDRESS)
-            told->pieces[k].offset += more;
-    }
-    told->call.frame += more;
+    told->stack = (end + 15) / 16 * 16;
+    move_addresses(stores, told->stack);
+    move_addresses(&told->lists[FFI3_MOVES_OF_HIDDEN], told->stack);
+    told->sizes.frame += told->stack;
+    correct_result(told, key->nodes[result].kind == NODE_LONG_DOUBLES);
+    told_mirror(told);
 }
 
 void host_complete(const struct key *key, struct plan *plan) { plan->beside = has_long_doubles(key); }

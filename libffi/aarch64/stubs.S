@@ -1,8 +1,8 @@
-/* The rows of the four stubs, between what a real processor and its stack need beside them. rows.inc has their
- * bytes, as they are proved.
+/* The four stubs, whole, between what a real processor and its stack need beside them. rows.inc has their bytes,
+ * whose effect is proved: they find the exchange in x0, x19, x9 and x9, and begin with x17 or x16 := that register.
+ * Where a long double is in a register, what moves it stands between the rows of a second Call and a second Exit.
  *
- * Of each stub one row is another here: x17 or x16 := the exchange. What stands below is trusted; docs/TRUSTED.md
- * counts it. Nothing that is still needed stands below sp. */
+ * What stands below is trusted; docs/TRUSTED.md counts it. Nothing that is still needed stands below sp. */
 
 #include "constants.h"
 
@@ -39,17 +39,18 @@ make_call:
 2:	mov	x9, sp
 	str	x9, [x0, #520]		/* sp at the call */
 	ldr	x18, [x0, #552]
-	mov	x17, x0
-	CALL_LOADS
-	ldr	w9, [x17, #560]
+	ldr	w9, [x0, #560]
 	cbz	w9, 3f
+	CALL_LOADS
 	ldp	q0, q1, [x17, #320]
 	ldp	q2, q3, [x17, #352]
 	ldp	q4, q5, [x17, #384]
 	ldp	q6, q7, [x17, #416]
-3:	CALL_CALLS
-	mov	x16, x19
-	RETURN_ROWS
+	CALL_CALLS
+	b	4f
+3:	CALL_LOADS
+	CALL_CALLS
+4:	RETURN_ROWS
 	stp	q0, q1, [x19, #320]
 	stp	q2, q3, [x19, #352]
 	ldr	x19, [sp, #16]
@@ -65,9 +66,22 @@ make_call:
 /* Entry, the call of a function in C, and Exit. The function is given the exchange, the closure, which is in x17,
  * and where the caller's stack arguments begin. The exchange is above the save area, so that Exit reads nothing
  * below sp. */
+	.macro	RESTORED
+	.irp	register, 19, 20, 21, 22, 23, 24, 25, 26, 27, 28, 29, 30, 72, 73, 74, 75, 76, 77, 78, 79
+	.cfi_restore \register
+	.endr
+	.endm
+
 	.macro	RECEIVE function
 	sub	sp, sp, #576
 	.cfi_def_cfa_offset 576
+	mov	x9, sp
+	sub	x10, sp, #176
+	str	x10, [x9, #528]		/* sp behind Entry */
+	stp	q0, q1, [x9, #320]
+	stp	q2, q3, [x9, #352]
+	stp	q4, q5, [x9, #384]
+	stp	q6, q7, [x9, #416]
 	ENTRY_MOVES_SP
 	.cfi_def_cfa_offset 752
 	ENTRY_SAVES
@@ -76,33 +90,30 @@ make_call:
 	.cfi_offset \register, saved_at
 	.set	saved_at, saved_at + 8
 	.endr
-	add	x16, sp, #176
-	mov	x9, sp
-	str	x9, [x16, #528]		/* sp behind Entry */
-	str	x9, [x16, #536]		/* the save area */
-	stp	q0, q1, [x16, #320]
-	stp	q2, q3, [x16, #352]
-	stp	q4, q5, [x16, #384]
-	stp	q6, q7, [x16, #416]
 	ENTRY_STORES
 	add	x0, sp, #176
 	mov	x1, x17
 	add	x2, sp, #752
 	bl	\function
-	add	x16, sp, #176
+	add	x9, sp, #176
+	ldr	w10, [x9, #560]
+	cbz	w10, 1f
+	.cfi_remember_state
 	EXIT_FINDS_SAVES
 	EXIT_RESTORES
+	RESTORED
 	EXIT_LOADS
-	ldr	w9, [x16, #560]
-	cbz	w9, 1f
 	ldp	q0, q1, [x16, #320]
 	ldp	q2, q3, [x16, #352]
-1:	.irp	register, 19, 20, 21, 22, 23, 24, 25, 26, 27, 28, 29, 30, 72, 73, 74, 75, 76, 77, 78, 79
-	.cfi_restore \register
-	.endr
 	EXIT_MOVES_SP
-	.cfi_def_cfa_offset 576
-	add	sp, sp, #576
+	.cfi_def_cfa_offset 0
+	EXIT_RETURNS
+	.cfi_restore_state
+1:	EXIT_FINDS_SAVES
+	EXIT_RESTORES
+	RESTORED
+	EXIT_LOADS
+	EXIT_MOVES_SP			/* over the save area and the exchange */
 	.cfi_def_cfa_offset 0
 	EXIT_RETURNS
 	.endm
@@ -141,8 +152,8 @@ make_call:
 	.balign	65536
 slots_code:
 	.rept	BLOCK_BYTES / 64
-	FAR_SLOT_ROWS BLOCK_BYTES
-	.skip	48
+	FAR_SLOT_ROWS
+	.skip	52
 	.endr
 	.size	slots_code, .-slots_code
 
@@ -153,6 +164,7 @@ slots_code:
 	.balign	4
 slot_code:
 	SLOT_ROWS
+	.skip	4
 	.size	slot_code, .-slot_code
 
 	.section .note.GNU-stack, "", %progbits

@@ -15,8 +15,6 @@ static inline bool host_has_abi(ffi_abi abi, bool is_variadic)
 
 static inline uint32_t host_target(ffi_abi abi) { return is_win64(abi) ? FFI3_WIN64 : FFI3_AMD64; }
 
-static inline uint32_t host_shadow_store(ffi_abi abi) { return is_win64(abi) ? 32 : 0; }
-
 /* stubs.S. r10 has the closure. */
 void enter_closure(void);
 void enter_closure_win64(void);

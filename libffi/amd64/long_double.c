@@ -50,28 +50,30 @@ size_t host_tell_long_doubles(uint32_t count, bool is_result, struct ffi3_node *
 /* What stands on the stack behind a long double stands 16 bytes earlier than the library told. */
 void host_correct(const struct key *key, struct told *told)
 {
+    struct moves *stores = &told->lists[FFI3_MOVES_TO_STORE];
     uint32_t part = 0, before = 0;
-    size_t piece = 0;
+    size_t k = 0;
     for (size_t at = type_end(key->nodes, NODES_BEFORE_TYPES); at < key->length; at = type_end(key->nodes, at)) {
-        bool is_long_double = key->nodes[at].kind == NODE_LONG_DOUBLES;
         if (key->nodes[at].kind == FFI3_VOID)
             continue;
-        for (; piece < told->call.passed && told->pieces[piece].part == part; piece++)
-            if (told->pieces[piece].place == FFI3_STACK) {
-                told->pieces[piece].number -= before;
-                if (is_long_double)
-                    told->pieces[piece].length = 16;
-            }
-        before += is_long_double ? 16 : 0;
+        for (; k < stores->count && stores->first[k].part == part; k++)
+            if (stores->first[k].to >= FRAME_AT)
+                stores->first[k].to -= before;
+        before += key->nodes[at].kind == NODE_LONG_DOUBLES ? 16 : 0;
         part++;
     }
+    told->stack -= before;
+    if (before)
+        told_mirror(told);
 }
 
 void host_complete(const struct key *key, struct plan *plan)
 {
     const struct ffi3_node *result = &key->nodes[NODES_BEFORE_TYPES];
     plan->beside = result->kind == NODE_LONG_DOUBLES ? result->count : 0;
-    for (uint32_t k = 0; k < plan->beside; k++)
-        plan->results[plan->results_count++] =
-            (struct move){.kind = MOVE_BYTES, .from = X87_AT + 16 * k, .to = 16 * k, .length = 10};
+    for (uint32_t k = 0; k < plan->beside; k++) {
+        uint32_t place = X87_AT + 16 * k, at = 16 * k;
+        plan->loads[plan->loads_count++] = (struct move){.kind = MOVE_BYTES, .from = place, .to = at, .length = 10};
+        plan->gives[plan->gives_count++] = (struct move){.kind = MOVE_BYTES, .from = at, .to = place, .length = 10};
+    }
 }

@@ -1,8 +1,8 @@
-/* The rows of the four stubs, between what a real processor and its stack need beside them. rows.inc has their
- * bytes, as they are proved.
+/* The four stubs, whole, between what a real processor and its stack need beside them. rows.inc has their bytes,
+ * whose effect is proved: they find the exchange in rdi, rbx, rax and rcx, and begin with r11 := that register.
  *
- * Of each stub one row is another here: r11 := the exchange. What stands below is trusted; docs/TRUSTED.md counts
- * it. Nothing that is still needed stands below sp, but in the red zone. */
+ * What stands below is trusted; docs/TRUSTED.md counts it. Nothing that is still needed stands below sp, but in the
+ * red zone. */
 
 #include "constants.h"
 
@@ -36,9 +36,7 @@ make_call:
 	jnz	1b
 2:	mov	%rsp, 520(%rdi)		/* sp at the call */
 	mov	552(%rdi), %r10
-	mov	%rdi, %r11
 	CALL_ROWS
-	mov	%rbx, %r11
 	RETURN_ROWS
 	mov	560(%rbx), %eax		/* results in x87 registers */
 	test	%eax, %eax
@@ -65,6 +63,9 @@ make_call:
 	endbr64
 	lea	-576(%rsp), %rsp
 	.cfi_def_cfa_offset 584
+	mov	%rsp, %rax
+	lea	-56(%rsp), %r11
+	mov	%r11, 528(%rax)		/* sp behind Entry */
 	ENTRY_MOVES_SP
 	.cfi_def_cfa_offset 640
 	ENTRY_SAVES
@@ -74,34 +75,29 @@ make_call:
 	.cfi_offset %r13, -616
 	.cfi_offset %r14, -608
 	.cfi_offset %r15, -600
-	lea	56(%rsp), %r11
-	mov	%rsp, 528(%r11)		/* sp behind Entry */
-	mov	%rsp, 536(%r11)		/* the save area */
 	ENTRY_STORES
 	lea	56(%rsp), %rdi
 	mov	%r10, %rsi
 	lea	640+\outer(%rsp), %rdx
 	call	\function
-	lea	56(%rsp), %r11
-	mov	560(%r11), %eax		/* results in x87 registers */
+	lea	56(%rsp), %rcx
+	mov	560(%rcx), %eax		/* results in x87 registers */
 	test	%eax, %eax
 	jz	2f
 	dec	%eax
 	jz	1f
-	fldt	144(%r11)
-1:	fldt	128(%r11)
+	fldt	144(%rcx)
+1:	fldt	128(%rcx)
 2:	EXIT_FINDS_SAVES
 	EXIT_RESTORES
-	EXIT_LOADS
 	.cfi_restore %rbx
 	.cfi_restore %rbp
 	.cfi_restore %r12
 	.cfi_restore %r13
 	.cfi_restore %r14
 	.cfi_restore %r15
-	EXIT_MOVES_SP
-	.cfi_def_cfa_offset 584
-	lea	576(%rsp), %rsp
+	EXIT_LOADS
+	EXIT_MOVES_SP			/* over the save area and the exchange */
 	.cfi_def_cfa_offset 8
 	EXIT_RETURNS
 	.cfi_endproc
@@ -198,7 +194,7 @@ make_call:
 	.balign	4096
 slots_code:
 	.rept	BLOCK_BYTES / 64
-	FAR_SLOT_ROWS BLOCK_BYTES
+	FAR_SLOT_ROWS
 	.balign	64, 0xcc
 	.endr
 	.size	slots_code, .-slots_code

@@ -146,6 +146,57 @@ static void pass_voids(void)
     EXPECT(ffi_prep_cif(&cif, FFI_DEFAULT_ABI, COUNT, &ffi_type_sint32, types) == FFI_BAD_TYPEDEF);
 }
 
+/* Offsets are the same when they are asked for again, of few members and of many. */
+static void tell_offsets(void)
+{
+    enum { MOST = 100 };
+    static ffi_type *members[MOST + 1], *floats[] = {&ffi_type_float, NULL};
+    size_t offsets[MOST + 1];
+    int wrong = 0;
+    for (int count = 1; count <= MOST; count++) {
+        members[count - 1] = count % 2 ? &ffi_type_double : &ffi_type_uint8;
+        for (int turn = 0; turn < 3; turn++) {
+            ffi_type type = {0, 0, FFI_TYPE_STRUCT, members};
+            memset(offsets, 0xFF, sizeof offsets);
+            wrong += ffi_get_struct_offsets(FFI_DEFAULT_ABI, &type, offsets) != FFI_OK;
+            wrong += type.size != (size_t)count * 8 || type.alignment != 8 || offsets[count] != (size_t)-1;
+            for (int i = 0; i < count; i++)
+                wrong += offsets[i] != (size_t)i * 8;
+        }
+    }
+    ffi_type complex = {0, 0, FFI_TYPE_COMPLEX, floats};
+    ffi_type *one[] = {&complex, NULL};
+    ffi_type holder = {0, 0, FFI_TYPE_STRUCT, one};
+    for (int turn = 0; turn < 2; turn++) {
+        wrong += ffi_get_struct_offsets(FFI_DEFAULT_ABI, &holder, offsets) != FFI_OK || offsets[0] != 0;
+        wrong += holder.size != 8 || holder.alignment != 4 || complex.size != 8 || complex.alignment != 4;
+    }
+    EXPECT(wrong == 0);
+}
+
+/* A closure of a function without arguments and result, in which both may be looked at nevertheless. */
+static int *seen;
+
+static void write_result(ffi_cif *cif, void *result, void **values, void *data)
+{
+    (void)cif;
+    memset(result, 0xFF, sizeof(ffi_arg));
+    seen = values ? data : NULL;
+}
+
+static void give_nothing(void)
+{
+    ffi_cif cif;
+    void *code;
+    int it;
+    ffi_closure *closure = ffi_closure_alloc(sizeof *closure, &code);
+    EXPECT(ffi_prep_cif(&cif, FFI_DEFAULT_ABI, 0, &ffi_type_void, NULL) == FFI_OK);
+    EXPECT(ffi_prep_closure_loc(closure, &cif, write_result, &it, code) == FFI_OK);
+    ((void (*)(void))code)();
+    EXPECT(seen == &it);
+    ffi_closure_free(closure);
+}
+
 /* What an interface said when it was prepared is what counts. */
 static void change_types(void)
 {
@@ -260,6 +311,8 @@ int main(int count, char **words)
     call_while_prepared();
     lay_out_in_threads();
     pass_voids();
+    tell_offsets();
+    give_nothing();
     change_types();
     meet_guard();
     prepare_many();

@@ -1,23 +1,30 @@
-//! The C library: each export calls the function of `ffi3_capi` that it is named after, and says its clauses again.
-//! `capi/ffi3.h` declares them for C.
+//! The C library: each export calls the function of `ffi3_capi` or of `ffi3_interface` that it is named after, and says
+//! its clauses again. `capi/ffi3.h` declares them for C.
 #![tactic(auto)]
 
-ghost use Rattle.std.specs.Prelude.{◌≡◌, ◌⊎◌, length};
+ghost use Rattle.std.specs.Prelude.{◌≡◌, ◌⊎◌, None, length};
 ghost use Rattle.ffi3_capi.specs.Faults.{Declares, IsFaultOf};
 ghost use Rattle.ffi3_capi.specs.ByNodes.{AreNodesOf, IsFaultOfNodes};
 ghost use Rattle.ffi3_capi.specs.Placed.{Places};
 ghost use Rattle.ffi3_capi.specs.Laid.{LaysOut};
 ghost use Rattle.ffi3_capi.specs.WholeType.{LaysOutNodes, TellsOffsets};
 ghost use Rattle.ffi3_capi.specs.NaturalLayout.{ChecksLayout};
-ghost use Rattle.ffi3_capi.specs.Entry.{Reads, image_in};
+ghost use Rattle.ffi3_transfer.specs.Stored.{image_in};
+ghost use Rattle.ffi3_capi.specs.Entry.{Reads};
 ghost use Rattle.ffi3_capi.specs.Filled.{filled, with_end};
 ghost use Rattle.ffi3_capi.specs.FaultText.{fault_text};
 ghost use Rattle.ffi3_capi.specs.Registers.{register_name};
+ghost use Rattle.ffi3_interface.specs.Keeping.{Prepares, Shares};
+ghost use Rattle.ffi3_interface.specs.Numbers.{TellsSizes};
+ghost use Rattle.ffi3_interface.specs.Transfers.{Collects, Gives, Loads, Stores};
+ghost use Rattle.ffi3_interface.specs.Listing.{TellsMoves};
 
 use ffi3_capi::{
     Declaration, EntryArguments, LaidLeaf, LaidType, Node, PlacedCall, PlacedPiece, Registers,
     TextFault, WholeType,
 };
+use ffi3_handle::Handle;
+use ffi3_interface::{InterfaceSizes, Reason, ToldMove};
 use std::alloc::Global;
 
 /// Where everything stands in a call of the function that the text declares.
@@ -132,6 +139,121 @@ pub extern "C" fn ffi3_arguments(
         found,
         values,
     )
+}
+
+/// Prepares calls of the function that the nodes declare, by an interface that the handle keeps.
+#[unsafe(no_mangle)]
+pub extern "C" fn ffi3_prepare(
+    alloc: Global,
+    target: u32,
+    nodes: &[Node],
+    fixed: u32,
+    interface: &mut Handle,
+    fault: &mut TextFault,
+) -> u32
+    ensures { Prepares (AreNodesOf nodes.now fixed) (IsFaultOfNodes nodes.now fixed) target interface.old.kept result fault.new interface.new.kept }
+{
+    let declaration = Declaration::Nodes(nodes, fixed);
+    ffi3_interface::prepare(alloc, target, declaration, interface, fault)
+}
+
+/// Lets another handle keep the same interface.
+#[unsafe(no_mangle)]
+pub extern "C" fn ffi3_share(alloc: Global, interface: &mut Handle, other: &mut Handle) -> u32
+    ensures same { interface.new.kept ≡ interface.old.kept }
+    ensures shared { Shares interface.old.kept other.old.kept result other.new.kept }
+{
+    ffi3_interface::share(alloc, interface, other)
+}
+
+/// Gives back what the handle keeps: an interface that no other handle keeps goes with its memory.
+#[unsafe(no_mangle)]
+pub extern "C" fn ffi3_release(alloc: Global, interface: &mut Handle)
+    ensures { interface.new.kept ≡ None }
+{
+    interface.release(alloc);
+}
+
+/// The sizes of an interface.
+#[unsafe(no_mangle)]
+pub extern "C" fn ffi3_sizes(interface: &mut Handle, sizes: &mut InterfaceSizes) -> u32
+    ensures same { interface.new.kept ≡ interface.old.kept }
+    ensures told { TellsSizes interface.old.kept result sizes.new }
+{
+    ffi3_interface::find_sizes(interface, sizes)
+}
+
+/// The moves of an interface, of one of the lists.
+#[unsafe(no_mangle)]
+pub extern "C" fn ffi3_moves(
+    alloc: Global,
+    interface: &mut Handle,
+    list: u32,
+    count: &mut usize,
+    moves: &mut [ToldMove],
+) -> u32
+    ensures same { interface.new.kept ≡ interface.old.kept }
+    ensures told { TellsMoves interface.old.kept list moves.old result count.new moves.new }
+{
+    ffi3_interface::tell_moves(alloc, interface, list, count, moves)
+}
+
+/// The caller's values, before the call, to registers and stack.
+#[unsafe(no_mangle)]
+pub extern "C" fn ffi3_store(
+    interface: &mut Handle,
+    values: &[u8],
+    registers: &mut Registers,
+    stack: &mut [u8],
+) -> u32
+    ensures same { interface.new.kept ≡ interface.old.kept }
+    ensures stored { Stores interface.old.kept values.now (image_in registers.old stack.old) result (image_in registers.new stack.new) }
+{
+    ffi3_interface::store(interface, values, registers, stack)
+}
+
+/// The caller's result, after the call, out of registers or stack.
+#[unsafe(no_mangle)]
+pub extern "C" fn ffi3_load(
+    interface: &mut Handle,
+    registers: &Registers,
+    stack: &[u8],
+    out: &mut [u8],
+) -> u32
+    ensures same { interface.new.kept ≡ interface.old.kept }
+    ensures loaded { Loads interface.old.kept (image_in registers.now stack.now) out.old result out.new }
+{
+    ffi3_interface::load(interface, registers, stack, out)
+}
+
+/// The callee's arguments, at its entry, out of registers and stack.
+#[unsafe(no_mangle)]
+pub extern "C" fn ffi3_collect(
+    interface: &mut Handle,
+    registers: &Registers,
+    stack: &[u8],
+    values: &mut [u8],
+    reason: &mut Reason,
+) -> u32
+    ensures same { interface.new.kept ≡ interface.old.kept }
+    ensures collected { Collects interface.old.kept (image_in registers.now stack.now) values.old result reason.new values.new }
+{
+    ffi3_interface::collect(interface, registers, stack, values, reason)
+}
+
+/// The callee's result, before its return, to registers or stack.
+#[unsafe(no_mangle)]
+pub extern "C" fn ffi3_give(
+    interface: &mut Handle,
+    value: &[u8],
+    registers: &mut Registers,
+    stack: &mut [u8],
+    reason: &mut Reason,
+) -> u32
+    ensures same { interface.new.kept ≡ interface.old.kept }
+    ensures given { Gives interface.old.kept value.now (image_in registers.old stack.old) result reason.new (image_in registers.new stack.new) }
+{
+    ffi3_interface::give(interface, value, registers, stack, reason)
 }
 
 /// The words of a fault.

@@ -1,5 +1,5 @@
 -- What nodes declare, or which type they are, and why they are none, as C sees it.
-use Rattle.std.specs.Prelude.{◌≡◌, ℕ, ◌≤◌, ◌^◌, ◌==◌, cond, List, length, Option, Some, None}
+use Rattle.std.specs.Prelude.{◌≡◌, ℕ, ◌<◌, ◌≤◌, ◌^◌, ◌==◌, cond, List, length, Option, Some, None}
 use Rattle.ffi3_type_rules.specs.declared.Role.TheVariants.{AsResult}
 use Rattle.ffi3_type_rules.specs.Tree.{Tree}
 use Rattle.ffi3_type_rules.specs.Fault.{Fault, IsFirstFault, IsResultType}
@@ -7,6 +7,7 @@ use Rattle.ffi3_type_rules.specs.Signature.{Signature, SignatureFault, Signature
 use Rattle.ffi3_nodes.specs.declared.Node.{Node}
 use Rattle.ffi3_nodes.specs.Nodes.{IsWritten, AreWritten, IsSignatureOf}
 use Rattle.ffi3_nodes.specs.Faults.{NodeFault, ended, unknown_kind, bad_count, too_deep, first_node_fault}
+use Rattle.ffi3_nodes.specs.Read.{AreNodesOfTypes}
 use Rattle.ffi3_capi.specs.declared.codes.TheConstants.{RESULT_PART, NOT_VARIADIC}
 use Rattle.ffi3_capi.specs.declared.fault.TextFault.{TextFault}
 use Rattle.ffi3_capi.specs.declared.fault.FaultKind.TheVariants.{NodesEnded, UnknownKind, BadCount, NodesTooDeep}
@@ -39,15 +40,17 @@ node_fault count (too_deep at) = fault_at NodesTooDeep at
 -- WHY NODES DECLARE NO FUNCTION: they are too many, none of a signature, or of one that has a fault, whose first is told
 pub data IsFaultOfNodes (ns : List Node) (fixed : ℕ) : TextFault → Type 0 where
   too_long : 2 ^ 32 ≤ length ns → IsFaultOfNodes ns fixed (fault_of_value 0 TooManyNodes (length ns))
-  no_nodes : (f : NodeFault) → first_node_fault ns ≡ Some f → IsFaultOfNodes ns fixed (node_fault (length ns) f)
-  not_called : (s : Signature) (f : SignatureFault) → IsSignatureOf ns (fixed_of fixed) s → IsFirstSignatureFault s f
-      → IsFaultOfNodes ns fixed (signature_fault f)
+  no_nodes : (f : NodeFault) → length ns < 2 ^ 32 → first_node_fault ns ≡ Some f
+      → IsFaultOfNodes ns fixed (node_fault (length ns) f)
+  not_called : AreNodesOfTypes ns → (s : Signature) (f : SignatureFault) → IsSignatureOf ns (fixed_of fixed) s
+      → IsFirstSignatureFault s f → IsFaultOfNodes ns fixed (signature_fault f)
 
 -- WHY NODES ARE NO TYPE: they are too many, none of types, those of several, or of one that has a fault as a result's
 pub data IsFaultOfType (ns : List Node) : TextFault → Type 0 where
   too_many : 2 ^ 32 ≤ length ns → IsFaultOfType ns (fault_of_value 0 TooManyNodes (length ns))
-  no_types : (f : NodeFault) → first_node_fault ns ≡ Some f → IsFaultOfType ns (node_fault (length ns) f)
-  several : (ts : List Tree) → AreWritten ts ns → (length ts ≡ 1 → ⊥)
+  no_types : (f : NodeFault) → length ns < 2 ^ 32 → first_node_fault ns ≡ Some f
+      → IsFaultOfType ns (node_fault (length ns) f)
+  several : AreNodesOfTypes ns → (ts : List Tree) → AreWritten ts ns → (length ts ≡ 1 → ⊥)
       → IsFaultOfType ns (fault_of_value 0 NotOneType (length ts))
-  no_result : (t : Tree) (path : List ℕ) (f : Fault) → IsWritten t ns → IsFirstFault 0 AsResult t path f
-      → IsFaultOfType ns (type_fault RESULT_PART f)
+  no_result : AreNodesOfTypes ns → (t : Tree) (path : List ℕ) (f : Fault) → IsWritten t ns
+      → IsFirstFault 0 AsResult t path f → IsFaultOfType ns (type_fault RESULT_PART f)

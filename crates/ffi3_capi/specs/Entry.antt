@@ -9,7 +9,6 @@ use Rattle.ffi3_place_rules.specs.Image.{Image}
 use Rattle.ffi3_place_rules.specs.Standard.{Standard, round8}
 use Rattle.ffi3_explain_rules.specs.Arguments.{are_values, points_outside, held_by_standard, least_stack}
 use Rattle.ffi3_capi.specs.declared.codes.TheConstants.{SHORT_STACK, NOT_IN_STACK}
-use Rattle.ffi3_capi.specs.declared.entry.Registers.{Registers}
 use Rattle.ffi3_capi.specs.declared.entry.EntryArguments.{EntryArguments}
 use Rattle.ffi3_capi.specs.declared.entry.Found.{Found}
 use Rattle.ffi3_capi.specs.declared.entry.Unread.{Unread}
@@ -22,11 +21,6 @@ use Rattle.ffi3_capi.specs.Filled.{has_room, filled, room_status}
 use Rattle.ffi3_explain_rules.specs.Standards.{standard_of}
 use Rattle.ffi3_capi.specs.Placed.{targets, IsPlaceRefusal}
 use Rattle.ffi3_capi.specs.Refused.{status_of, fault_in}
-
--- registers, and the stack's bytes from the stack pointer on
-abbrev pub image_in : Registers → List ℕ → Image
-image_in r stack =
-    record { general = r.general; floating = r.floating; sp = r.sp; stack = stack }
 
 -- zeros behind so many bytes, up to a multiple of 8
 abbrev pub filler : ℕ → List ℕ

@@ -8,14 +8,20 @@ pub const TOO_SMALL: u32 = 1;
 pub const NOT_DECLARED: u32 = 2;
 /// `FFI3_UNKNOWN_TARGET`: no calling standard has this number.
 pub const UNKNOWN_TARGET: u32 = 3;
-/// `FFI3_UNKNOWN_VALUE`: the function has no argument of this number.
+/// `FFI3_UNKNOWN_VALUE`: the function has no argument of this number, or there is no such list of moves.
 pub const UNKNOWN_VALUE: u32 = 4;
 /// `FFI3_OUT_OF_MEMORY`: an allocation was refused.
 pub const OUT_OF_MEMORY: u32 = 5;
-/// `FFI3_SHORT_STACK`: the arguments' places reach past the bytes of stack.
+/// `FFI3_SHORT_STACK`: what a call has on the stack reaches past the bytes of stack.
 pub const SHORT_STACK: u32 = 6;
-/// `FFI3_NOT_IN_STACK`: an argument's address points past the bytes of stack.
+/// `FFI3_NOT_IN_STACK`: the address of an argument, or of a result's buffer, points past the bytes of stack.
 pub const NOT_IN_STACK: u32 = 7;
+/// `FFI3_WRONG_SIZE`: the values, or the result, take more or fewer bytes than there are.
+pub const WRONG_SIZE: u32 = 8;
+/// `FFI3_HIGH_STACK`: the bytes of stack reach the last address.
+pub const HIGH_STACK: u32 = 9;
+/// `FFI3_NOT_PREPARED`: no interface is kept.
+pub const NOT_PREPARED: u32 = 10;
 
 /// `FFI3_RESULT`: the result, in place of an argument's number.
 pub const RESULT_PART: u32 = 0xFFFF_FFFF;

@@ -21,10 +21,7 @@ pub enum Declaration<'a> {
 }
 
 /// The signature of the function that is declared; otherwise the fault, or None for a want of memory.
-pub(crate) fn declared(
-    alloc: Global,
-    declaration: Declaration<'_>,
-) -> Result<Sig, Option<TextFault>>
+pub fn declared(alloc: Global, declaration: Declaration<'_>) -> Result<Sig, Option<TextFault>>
     ensures ok { IfOk result (λ s. IsDeclaredBy declaration.entry s) }
     ensures faultless { IfOk result (λ s. SignatureHasNoFault s) }
     ensures err { IfErr result (λ e. (f : TextFault) → e ≡ Some f → IsFaultBy declaration.entry f) }

@@ -2,8 +2,9 @@
 ghost use Rattle.std.specs.Prelude.{◌≡◌, IfOk, IfErr};
 ghost use Rattle.ffi3_type_rules.specs.Signature.{SignatureHasNoFault};
 ghost use Rattle.ffi3_explain_rules.specs.Standards.{standard_of};
+ghost use Rattle.ffi3_transfer.specs.Stored.{image_in};
 ghost use Rattle.ffi3_capi.specs.DeclaredBy.{IsDeclaredBy, IsFaultBy};
-ghost use Rattle.ffi3_capi.specs.Entry.{AreFoundBy, AreNotReadBy, AreFound, AreNotRead, Reads, arguments_of, image_in, no_arguments, unread_status};
+ghost use Rattle.ffi3_capi.specs.Entry.{AreFoundBy, AreNotReadBy, AreFound, AreNotRead, Reads, arguments_of, no_arguments, unread_status};
 
 use crate::bytes::bytes_of;
 use crate::codes::{NOT_IN_STACK, SHORT_STACK};
@@ -19,21 +20,10 @@ use ffi3_cif::Cif;
 use ffi3_explain::{Image, least_stack};
 use ffi3_place::Abi;
 use ffi3_riscv::Riscv;
+use ffi3_transfer::Registers;
 use ffi3_types::{Bytes, CheckedSig, Sig, Target};
 use ffi3_win64::Win64;
 use std::alloc::Global;
-
-/// What a machine's registers hold: C's `struct ffi3_registers`.
-#[repr(C)]
-#[derive(Clone, Copy)]
-pub struct Registers {
-    /// General registers, by their numbers.
-    pub general: [u64; 32],
-    /// The low 64 bits of floating registers.
-    pub floating: [u64; 32],
-    /// The stack pointer.
-    pub sp: u64,
-}
 
 /// What is told of arguments beside their bytes: C's `struct ffi3_arguments`.
 #[repr(C)]

@@ -136,7 +136,7 @@ pub struct TextFault {
 }
 
 /// A fault that nothing more is told of.
-pub(crate) fn fault_with(kind: FaultKind) -> TextFault
+pub fn fault_with(kind: FaultKind) -> TextFault
     ensures { result ≡ fault_with kind }
 {
     TextFault {

@@ -6,7 +6,7 @@ use crate::codes::{DONE, TOO_SMALL};
 use ffi3_place_rules::Listed;
 
 /// Writes the items to the front of the array, if all of them have room there. Answers whether they have.
-pub(crate) fn fill<T: Copy + Drop>(items: &Listed<T>, array: &mut [T]) -> bool
+pub fn fill<T: Copy + Drop>(items: &Listed<T>, array: &mut [T]) -> bool
     ensures fits { result ≡ has_room items.now array.old }
     ensures written { array.new ≡ filled items.now array.old }
 {
@@ -34,7 +34,7 @@ pub(crate) fn fill_bytes(bytes: &[u8], array: &mut [u8]) -> bool
 }
 
 /// The answer where items had room, or had none.
-pub(crate) fn room_status(fits: bool) -> u32
+pub fn room_status(fits: bool) -> u32
     ensures { result ≡ room_status fits }
 {
     if fits { DONE } else { TOO_SMALL }

@@ -4,10 +4,10 @@
 
 mod bytes;
 pub mod codes;
-mod declaration;
+pub mod declaration;
 mod entry;
 mod fault;
-mod fill;
+pub mod fill;
 mod layouts;
 mod natural;
 mod nodes;
@@ -20,13 +20,14 @@ mod text;
 mod whole;
 
 pub use declaration::Declaration;
-pub use entry::{EntryArguments, Found, Registers, Unread, arguments, find_arguments};
-pub use fault::{FaultKind, TextFault};
+pub use entry::{EntryArguments, Found, Unread, arguments, find_arguments};
+pub use fault::{FaultKind, TextFault, fault_with};
 pub use ffi3_nodes::Node;
+pub use ffi3_transfer::Registers;
 pub use layouts::{Laid, LaidLeaf, LaidType, find_layout, layout};
 pub use natural::check_layout;
 pub use pieces::{PlacedPiece, PlacedPieces};
-pub use placing::{PlacedCall, Placement, find_placement, place};
+pub use placing::{PlacedCall, Placement, find_placement, place, target_numbered};
 pub use registers::register_name;
 pub use status::Refusal;
 pub use text::fault_text;

@@ -54,7 +54,7 @@ const TARGETS: [Target; 5] = [
 ];
 
 /// The target of this number.
-pub(crate) fn target_numbered(n: u32) -> Option<Target>
+pub fn target_numbered(n: u32) -> Option<Target>
     ensures { result ≡ slice_get targets n }
 {
     TARGETS.get(n as usize).copied()

@@ -1,4 +1,3 @@
-pub mod Counts
 pub mod Owned
 pub mod Kept
 pub mod Lending

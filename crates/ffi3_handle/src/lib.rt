@@ -16,7 +16,7 @@ use std::ptr::null_mut;
 mod kept;
 mod loose;
 
-pub use kept::{Interface, Kept};
+pub use kept::Kept;
 use loose::Loose;
 
 /// What a handle points to, of which C knows nothing.
@@ -136,6 +136,3 @@ impl Handle {
         unsafe { &mut *(self.at as *mut Kept) }
     }
 }
-
-// What is kept goes to another thread with its handle.
-unsafe impl Send for Handle {}

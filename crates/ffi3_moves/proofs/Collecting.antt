@@ -1,8 +1,8 @@
 -- What the moves out of an exchange leave: the bytes of a value from its pieces, or from where an address points.
-use Rattle.std.specs.Prelude.{true}
+use Rattle.std.specs.Prelude.{◌&&◌, cond, nat_le, true}
 use Rattle.std.proofs.Common.{◌≡◌, ◌⊎◌, inl, inr, ℕ, zero, suc, ◌+◌, ◌-◌, ◌<◌, ◌≤◌, List, [], ◌∷◌, drop, length, get_or, refl, ap, sym, ◌∙◌, subst, arith, length-drop}
 use Rattle.std.specs.List.{AllByRecursion}
-use Rattle.std.proofs.lemmas.Bool.{cases_lt}
+use Rattle.std.proofs.lemmas.Bool.{cases_lt, le-leb}
 use Rattle.std.proofs.lemmas.List.{ext_get_or, length-append}
 use Rattle.ffi3_type_rules.specs.declared.Target.{Target}
 use Rattle.ffi3_type_rules.specs.Tree.{Tree}
@@ -22,7 +22,7 @@ use Rattle.ffi3_pieces.specs.Stored.{IsPlace}
 use Rattle.ffi3_pieces.specs.Standing.{IsReady, AreReady}
 use Rattle.ffi3_transfer.specs.Packed.{packed_size, values_packed, behind}
 use Rattle.ffi3_transfer.proofs.Packing.{behind_drop, in_room}
-use Rattle.ffi3_moves.specs.Play.{frame_at, play, word_from, written_over}
+use Rattle.ffi3_moves.specs.Play.{bytes_behind, frame_at, play, word_from, written_over}
 use Rattle.ffi3_moves.specs.Moves.{exchange_at, argument_out, arguments_out, piece_out, pieces_out}
 use Rattle.ffi3_moves.specs.Exchange.{AreBytes, image_at}
 use Rattle.ffi3_moves.proofs.Bytes.{over_inside, over_outside, over_size, over_part}
@@ -170,7 +170,12 @@ module _ (sp base : ℕ) (link : List ℕ) (linked : length link ≡ base) (x : 
         let same : part x (frame_at + (word_from x (exchange_at l) - (sp + base))) (size_of t) ≡ part m.stack (base + copy) (size_of t) = ap (λ n. part x n (size_of t)) there ∙ part_there copy (size_of t) fits in
         let bytes = part x (frame_at + (word_from x (exchange_at l) - (sp + base))) (size_of t) in
         let many : length (part x (frame_at + (word_from x (exchange_at l) - (sp + base))) (size_of t)) ≡ size_of t = length_part x (frame_at + (word_from x (exchange_at l) - (sp + base))) (size_of t) (omega (arith, there, fits)) in
-        whole_read (sp + base) i at t bytes v out many room (ap (value_in t) same ∙ owns.2)
+        let above : nat_le (sp + base) (word_from x (exchange_at l)) ≡ true = le-leb (sp + base) (word_from x (exchange_at l)) (omega (arith, word)) in
+        let inside : nat_le (frame_at + (word_from x (exchange_at l) - (sp + base)) + size_of t) (length x) ≡ true = le-leb (frame_at + (word_from x (exchange_at l) - (sp + base)) + size_of t) (length x) (omega (arith, there, fits)) in
+        let played : bytes_behind (sp + base) x (word_from x (exchange_at l)) (size_of t) ≡ bytes =
+        ap (λ b. cond (b && nat_le (frame_at + (word_from x (exchange_at l) - (sp + base)) + size_of t) (length x)) (part x (frame_at + (word_from x (exchange_at l) - (sp + base))) (size_of t)) []) above
+        ∙ ap (λ b. cond b (part x (frame_at + (word_from x (exchange_at l) - (sp + base))) (size_of t)) []) inside in
+        subst (λ bs. IsCollectedAs (sp + base) i at t v out (written_over at bs out)) (sym played) (whole_read (sp + base) i at t bytes v out many room (ap (value_in t) same ∙ owns.2))
 
     pub record AreCollectedAs (at : ℕ) (ts : List Tree) (vs : List ValueTree) (old new : List ℕ) : Type 0 where
       pub values : values_packed ts (drop at new) ≡ vs

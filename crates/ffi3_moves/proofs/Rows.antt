@@ -34,6 +34,10 @@ copied = refl
 addressed : play 4096 (row Number 0 258 0 8 ∷ row Address 0 16 8 8 ∷ []) [] (1 ∷ 1 ∷ 1 ∷ 1 ∷ 1 ∷ 1 ∷ 1 ∷ 1 ∷ 1 ∷ 1 ∷ 1 ∷ 1 ∷ 1 ∷ 1 ∷ 1 ∷ 1 ∷ []) ≡ 2 ∷ 1 ∷ 0 ∷ 0 ∷ 0 ∷ 0 ∷ 0 ∷ 0 ∷ 16 ∷ 16 ∷ 0 ∷ 0 ∷ 0 ∷ 0 ∷ 0 ∷ 0 ∷ []
 addressed = refl
 
+-- from an address below the frame nothing comes
+elsewhere : play 8 (row Behind 0 0 0 1 ∷ []) (7 ∷ 0 ∷ 0 ∷ 0 ∷ 0 ∷ 0 ∷ 0 ∷ 0 ∷ []) (5 ∷ []) ≡ 5 ∷ []
+elsewhere = refl
+
 -- ---- sint32(sint32,uint8) on AMD64: rdi, rsi and rax, which tells that no vector register is used
 amd64_store : store_moves amd64 (sig_of (scalar s32) (scalar s32 ∷ scalar u8 ∷ [])) ≡ row Sign 0 0 56 4 ∷ row Zero 1 8 48 1 ∷ row Number 0 0 0 8 ∷ []
 unfolding least_multiple

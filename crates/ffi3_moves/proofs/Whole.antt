@@ -193,6 +193,7 @@ module _ (std : Standard) (s : Signature) (sound : IsSound std s) (right : Signa
         let z = with_address (address_of frame res) res y in
         let is : play frame (store_moves std s ++ moves_of (hidden_move std s)) values x ≡ z = play_append frame (store_moves std s) (moves_of (hidden_move std s)) values x ∙ address_played frame res values y in
         let reaches : std.link + frame_of std s ≤ length (image_at sp link x).stack = image_long in
+        let low : sp + length (link ++ drop frame_at x) < 2 ^ 64 = image_low in
         let all : ArePassed std s values sp link x z = record {
           stored = record {
             holds = record {
@@ -206,6 +207,8 @@ module _ (std : Standard) (s : Signature) (sound : IsSound std s) (right : Signa
             };
             kept = played.kept;
             stays = played.stays;
+            sized = sized;
+            low = low;
           };
           keeps = played.keeps;
         } in
@@ -213,3 +216,6 @@ module _ (std : Standard) (s : Signature) (sound : IsSound std s) (right : Signa
       where
         image_long : std.link + frame_of std s ≤ length (link ++ drop frame_at x)
         image_long = omega (arith, linked, room, length-append link (drop frame_at x), length-drop frame_at x)
+
+        image_low : sp + length (link ++ drop frame_at x) < 2 ^ 64
+        image_low = omega (arith, linked, high, length-append link (drop frame_at x), length-drop frame_at x)

@@ -1,4 +1,4 @@
--- The moves of a call, by the places of its plan: those of its caller and of its callee, for arguments and for the result. Values stand one after another, each from a multiple of 8 on.
+-- The moves of a call, by the places of its plan: those of its caller and of its callee, for arguments and for the result. Values stand one after another, each from a multiple of 8 on. (No standard has moves: each place and what fills it are the standard's own, and `Laws` says of these lists, when they are played, what the standard asks for.)
 use Rattle.std.specs.Prelude.{ℕ, ◌+◌, ◌*◌, Bool, ◌||◌, ◌==◌, cond, List, [], ◌∷◌, ◌++◌, map, Option, Some, None, option_map}
 use Rattle.ffi3_type_rules.specs.Tree.{Tree, Scalar}
 use Rattle.ffi3_type_rules.specs.Layout.{size_of, scalar_size}
@@ -29,7 +29,7 @@ exchange_at (S n w) = frame_at + n
 abbrev pub by_sign : Bool → Kind
 by_sign signed = cond signed Sign Zero
 
--- how the rest of a piece's place is filled; on RISC-V an integer of 32 bits is extended by its upper bit, whatever its sign
+-- how the rest of a piece's place is filled; on RISC-V an integer of 32 bits is extended by its upper bit, whatever its sign (RISC-V ELF psABI, "Integer Calling Convention": "widened according to the sign of their type up to 32 bits, then sign-extended to XLEN bits"; "Hardware Floating-point Calling Convention": a narrower float is NaN-boxed)
 abbrev pub filling : Ext → Scalar → Kind
 filling Free s = Bytes
 filling Widen s = by_sign (is_signed s)
@@ -53,7 +53,7 @@ piece_out i at p = record { kind = Bytes; part = i; from = exchange_at p.loc; to
 abbrev pub pieces_in : ℕ → ℕ → Tree → List Piece → List Move
 pieces_in i at t ps = map (piece_in i at t) ps
 
--- from the last to the first: of two pieces that have a byte the first tells it
+-- from the last to the first: of two pieces that have a byte the first tells it, as of a variadic double, which stands in a vector register and in a general one (Microsoft, "Varargs")
 abbrev pub pieces_out : ℕ → ℕ → List Piece → List Move
 pieces_out i at [] = []
 pieces_out i at (p ∷ ps) = pieces_out i at ps ++ piece_out i at p ∷ []
@@ -86,7 +86,7 @@ abbrev pub arguments_out : ℕ → ℕ → List Tree → List Place → List Mov
 arguments_out i at (t ∷ ts) (p ∷ ps) = argument_out i at t p ++ arguments_out (i + 1) (at + round8 (size_of t)) ts ps
 arguments_out i at _ _ = []
 
--- the number of vector registers, where a register tells it
+-- the number of vector registers, where a register tells it (System V psABI AMD64 3.2.3, "Parameter Passing": %al)
 abbrev pub count_in : Option Loc → ℕ → List Move
 count_in (Some l) n = record { kind = Number; part = 0; from = n; to = exchange_at l; length = 8 } ∷ []
 count_in None n = []
@@ -135,7 +135,7 @@ abbrev pub moves_of : Option Move → List Move
 moves_of (Some m) = m ∷ []
 moves_of None = []
 
--- where its callee gives the address back, if the standard has a register for it
+-- where its callee gives the address back, if the standard has a register for it (System V psABI AMD64 3.2.3, "Returning of Values", step 2; Microsoft, "Return values": rax in both)
 abbrev pub given_back_at : Res → Option Loc → Option ℕ
 given_back_at Nothing l = None
 given_back_at (DirectRes pieces) l = None

@@ -1,12 +1,12 @@
 -- What moves do: bytes go from one memory to another, between the values of a call and an exchange, which has a place for each register and the frame's bytes behind them.
-use Rattle.std.specs.Prelude.{ℕ, ◌+◌, ◌-◌, ◌*◌, ◌/◌, List, [], ◌∷◌, ◌++◌, take, drop, length, replicate, get_or}
+use Rattle.std.specs.Prelude.{ℕ, ◌+◌, ◌-◌, ◌*◌, ◌/◌, ◌&&◌, cond, nat_le, List, [], ◌∷◌, ◌++◌, take, drop, length, replicate, get_or}
 use Rattle.std.specs.Int.{w64, to_le_bytes, from_le_bytes}
 use Rattle.ffi3_type_rules.specs.Value.{part}
 use Rattle.ffi3_moves.specs.declared.Kind.{Kind}
 use Rattle.ffi3_moves.specs.declared.Kind.TheVariants.{Bytes, Zero, Sign, Ones, Number, Address, Behind}
 use Rattle.ffi3_moves.specs.declared.Move.{Move}
 
--- where in an exchange the frame's bytes begin: behind those of the registers, and those in which stubs keep addresses
+-- where in an exchange the frame's bytes begin: behind those of the registers, and those in which stubs keep addresses, which end at 552; at a multiple of 64, so that the frame is aligned as the exchange is, up to that
 abbrev pub frame_at : ℕ
 frame_at = 576
 
@@ -22,6 +22,11 @@ to_eight above bytes = bytes ++ replicate (8 - length bytes) above
 abbrev pub sign_of : List ℕ → ℕ
 sign_of bytes = get_or bytes (length bytes - 1) 0 / 128 * 255
 
+-- n bytes from an address on, where they lie in the frame, which stands at an address of its own; else none: a copy that stands elsewhere is in no exchange, and whoever plays moves reads it from memory, of which nothing is said here
+abbrev pub bytes_behind : ℕ → List ℕ → ℕ → ℕ → List ℕ
+bytes_behind frame source address n =
+    cond (nat_le frame address && nat_le (frame_at + (address - frame) + n) (length source)) (part source (frame_at + (address - frame)) n) []
+
 -- the bytes that a move writes, where the frame stands at an address: n bytes of the source from an offset on, or these to eight, or a number, or the address of a place in the frame, or n bytes from the address on that stands in the source
 abbrev pub moved : Kind → ℕ → List ℕ → ℕ → ℕ → List ℕ
 moved Bytes frame source from n = part source from n
@@ -30,7 +35,7 @@ moved Sign frame source from n = to_eight (sign_of (part source from n)) (part s
 moved Ones frame source from n = to_eight 255 (part source from n)
 moved Number frame source from n = to_le_bytes w64 from
 moved Address frame source from n = to_le_bytes w64 (frame + from)
-moved Behind frame source from n = part source (frame_at + (word_from source from - frame)) n
+moved Behind frame source from n = bytes_behind frame source (word_from source from) n
 
 -- bytes are written over others from an offset on
 abbrev pub written_over : ℕ → List ℕ → List ℕ → List ℕ

@@ -43,7 +43,7 @@ pub enum Kind {
     Number,
     /// The address of the byte `from` of the frame.
     Address,
-    /// The bytes from the address on that stands at `from`.
+    /// The bytes from the address on that stands at `from`, wherever in memory that points.
     Behind,
 }
 

@@ -206,7 +206,7 @@ deep_if n ns (goes_on next e) =
 deep_if n ns (is_deep i e) =
     subst IsDeep (sym (sym (ap (fault_from [] 0) (append-nil ns)) ∙ e)) (deep i)
 
-no_types : (t : Tree) (ts : List Tree) → AreWritten (t ∷ ts) [] → ⊥
+pub no_types : (t : Tree) (ts : List Tree) → AreWritten (t ∷ ts) [] → ⊥
 no_types t ts (one_more t' ts' ls ks all (leaf k u h) ws e) = cc
 no_types t ts (one_more t' ts' ls ks all (structure us ms w) ws e) = cc
 no_types t ts (one_more t' ts' ls ks all (array u n ms w) ws e) = cc

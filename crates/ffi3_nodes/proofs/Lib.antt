@@ -4,3 +4,4 @@ pub mod Building
 pub mod Opening
 pub mod Taking
 pub mod OneType
+pub mod Shallow

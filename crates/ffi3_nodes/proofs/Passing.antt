@@ -48,11 +48,13 @@ leaf_fine k depth at h =
     ap (λ b. cond (not b) (Some (unknown_kind at)) (cond (not (has_count k) && not (0 == 0)) (Some (bad_count at)) (cond (has_count k && nat_le DEEPEST depth) (Some (too_deep at)) None))) (le-leb k ARRAY within)
     ∙ ap (λ b. cond (not b && not (0 == 0)) (Some (bad_count at)) (cond (b && nat_le DEEPEST depth) (Some (too_deep at)) None)) (lt-leb STRUCT k h)
 
+pub leaf_goes : (ks : List ℕ) (at k : ℕ) (rest : List Node) → k < STRUCT → fault_from ks at (node k 0 ∷ rest) ≡ fault_from (closed (begun ks)) (at + 1) rest
+leaf_goes ks at k rest h =
+    ap (λ f. or_else f (fault_from (open_after ks (node k 0)) (at + 1) rest)) (leaf_fine k (length ks) at h)
+    ∙ ap (λ l. fault_from (closed l) (at + 1) rest) (leaf_opens k (begun ks) h)
+
 leaf_passes : (ks : List ℕ) (at k : ℕ) (rest : List Node) → k < STRUCT → Passes ks at (node k 0 ∷ rest) (closed (begun ks)) rest
-leaf_passes ks at k rest h =
-    goes_on (at + 1)
-    (ap (λ f. or_else f (fault_from (open_after ks (node k 0)) (at + 1) rest)) (leaf_fine k (length ks) at h)
-    ∙ ap (λ l. fault_from (closed l) (at + 1) rest) (leaf_opens k (begun ks) h))
+leaf_passes ks at k rest h = goes_on (at + 1) (leaf_goes ks at k rest h)
 
 -- a struct or an array begins, unless it is too deep
 deep_or : (b : Bool) (at : ℕ) (later : Option NodeFault) → (or_else (cond b (Some (too_deep at)) None) later ≡ later) ⊎ (or_else (cond b (Some (too_deep at)) None) later ≡ Some (too_deep at))
@@ -80,7 +82,7 @@ abbrev pub after_types : ℕ → List ℕ → List ℕ
 after_types zero ks = ks
 after_types (suc n) ks = after_types n (closed (begun ks))
 
-one_fewer : (n : ℕ) (ks : List ℕ) → closed (begun (suc n ∷ ks)) ≡ closed (n ∷ ks)
+pub one_fewer : (n : ℕ) (ks : List ℕ) → closed (begun (suc n ∷ ks)) ≡ closed (n ∷ ks)
 one_fewer n ks =
     let less : suc n - 1 ≡ n = omega arith in
     ap (λ m. closed (m ∷ ks)) less

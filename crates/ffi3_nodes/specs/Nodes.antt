@@ -9,7 +9,7 @@ use Rattle.ffi3_nodes.specs.declared.TheConstants.{STRUCT, ARRAY}
 abbrev pub node : ℕ → ℕ → Node
 node kind count = record { kind = kind; count = count }
 
--- A complex number is passed as a struct of two, its real and its imaginary part. (System V psABI AMD64 3.2.3, "Classification": "as if they are implemented as struct complexT { T real; T imag; }"; Arm AAPCS64, "Arithmetic types": "Layout is struct {float re; float im;}"; RISC-V ELF psABI, "Hardware Floating-point Calling Convention": "as though it were a struct containing two floating-point reals")
+-- A complex number is passed as a struct of two, its real and its imaginary part. (System V psABI AMD64 3.2.3, "Classification": "as if they are implemented as struct complexT { T real; T imag; }"; Arm AAPCS64, "Arithmetic types": "Layout is struct {float re; float im;}"; RISC-V ELF psABI, "Hardware Floating-point Calling Convention": "as though it were a struct containing two floating-point reals"; Microsoft x64 has no complex type, and its C library's are structs of two, "C complex math support": `_Fcomplex`, `_Dcomplex`)
 abbrev pub pair : Tree → Tree
 pair part = struct_of (part ∷ part ∷ [])
 

@@ -1,6 +1,6 @@
 -- What the reader answers, in the words of the definitions.
-use Rattle.std.specs.Prelude.{◌≡◌, ℕ, ◌^◌, ◌<◌, ◌≤◌, ⊤, List, Option, Some, length}
-use Rattle.ffi3_type_rules.specs.Signature.{Signature, IsFirstSignatureFault}
+use Rattle.std.specs.Prelude.{◌≡◌, ℕ, ◌^◌, ◌<◌, ◌≤◌, ⊤, List, Option, Some, None, length}
+use Rattle.ffi3_type_rules.specs.Signature.{Signature, SignatureHasNoFault, IsFirstSignatureFault}
 use Rattle.ffi3_type_rules.specs.declared.Role.TheVariants.{AsResult}
 use Rattle.ffi3_type_rules.specs.Fault.{IsFirstFault}
 use Rattle.ffi3_types.specs.FaultOf.{path_of, fault_of}
@@ -23,11 +23,16 @@ node_fault_of (UnknownKind at) = unknown_kind at
 node_fault_of (BadCount at) = bad_count at
 node_fault_of (TooDeep at) = too_deep at
 
--- WHY NODES ARE NO SIGNATURE THAT CAN BE CALLED: too many, none of a signature, or of one that has this first fault. Memory alone is free.
+-- they are not too many, and have no fault as nodes of types, so that one of those types is told
+abbrev pub AreNodesOfTypes : List Node → Type 0
+AreNodesOfTypes ns = (length ns < 2 ^ 32) × (first_node_fault ns ≡ None)
+
+-- WHY NODES ARE NO SIGNATURE THAT CAN BE CALLED: too many, none of a signature, or of one that has this first fault. The first of these that is so is told. Memory alone is free.
 abbrev pub IsRefused : List Node → Option ℕ → Refused → Type 0
 IsRefused ns fixed TooLong = 2 ^ 32 ≤ length ns
-IsRefused ns fixed (Nodes f) = first_node_fault ns ≡ Some (node_fault_of f)
-IsRefused ns fixed (Sig f) = (s : Signature) × IsSignatureOf ns fixed s × IsFirstSignatureFault s (signature_fault_of f)
+IsRefused ns fixed (Nodes f) = (length ns < 2 ^ 32) × (first_node_fault ns ≡ Some (node_fault_of f))
+IsRefused ns fixed (Sig f) =
+    AreNodesOfTypes ns × ((s : Signature) × IsSignatureOf ns fixed s × IsFirstSignatureFault s (signature_fault_of f))
 IsRefused ns fixed NoMemory = ⊤
 
 -- Each refusal of nodes but that they are too deep says that no signature has them.
@@ -40,6 +45,14 @@ IsOfNone ns (Nodes (TooDeep at)) = ⊤
 IsOfNone ns (Sig f) = ⊤
 IsOfNone ns NoMemory = ⊤
 
+-- Refused nodes are those of no signature that can be called: each that has them has this first fault, or none has them, or each has some fault. Of too many nodes, and of want of memory, nothing is said.
+abbrev pub IsUncallable : List Node → Option ℕ → Refused → Type 0
+IsUncallable ns fixed TooLong = ⊤
+IsUncallable ns fixed (Nodes f) = (s : Signature) → IsSignatureOf ns fixed s → SignatureHasNoFault s → ⊥
+IsUncallable ns fixed (Sig f) =
+    (s : Signature) → IsSignatureOf ns fixed s → IsFirstSignatureFault s (signature_fault_of f)
+IsUncallable ns fixed NoMemory = ⊤
+
 -- the nodes of so many types, and not of one
 pub record AreOfOthers (ns : List Node) (count : ℕ) : Type 0 where
   pub types : List Tree
@@ -47,15 +60,16 @@ pub record AreOfOthers (ns : List Node) (count : ℕ) : Type 0 where
   pub counted : count ≡ length types
   pub others : count ≡ 1 → ⊥
 
--- WHY NODES ARE NO TYPE THAT HAS A LAYOUT: too many, none of any types, those of several, or of one that has this first fault as a result's. Memory alone is free.
+-- WHY NODES ARE NO TYPE THAT HAS A LAYOUT: too many, none of any types, those of several, or of one that has this first fault as a result's. The first of these that is so is told. Memory alone is free.
 abbrev pub IsRefusedType : List Node → RefusedType → Type 0
 IsRefusedType ns of_type.TooLong = 2 ^ 32 ≤ length ns
-IsRefusedType ns (of_type.Nodes f) = first_node_fault ns ≡ Some (node_fault_of f)
-IsRefusedType ns (of_type.NotOne count) = AreOfOthers ns count
-IsRefusedType ns (of_type.Fault e) = (t : Tree) × IsWritten t ns × IsFirstFault 0 AsResult t (path_of e) (fault_of e)
+IsRefusedType ns (of_type.Nodes f) = (length ns < 2 ^ 32) × (first_node_fault ns ≡ Some (node_fault_of f))
+IsRefusedType ns (of_type.NotOne count) = AreNodesOfTypes ns × AreOfOthers ns count
+IsRefusedType ns (of_type.Fault e) =
+    AreNodesOfTypes ns × ((t : Tree) × IsWritten t ns × IsFirstFault 0 AsResult t (path_of e) (fault_of e))
 IsRefusedType ns of_type.NoMemory = ⊤
 
--- a node before these types, in nodes without a fault
+-- what the reader's own steps know, and no refusal speaks of: a node before these types, in nodes without a fault
 pub record Fits (n : Node) (ts : List Tree) : Type 0 where
   pub known : n.kind ≤ ARRAY
   pub plain : n.kind < STRUCT → n.count ≡ 0

@@ -7,6 +7,7 @@ mod scan;
 mod signature;
 mod single;
 
+use ffi3_type_rules::limits::DEEPEST_NESTING;
 pub use scan::NodeFault;
 pub use signature::{Refused, read_signature};
 pub use single::{RefusedType, read_type};
@@ -15,7 +16,7 @@ pub use single::{RefusedType, read_type};
 #[repr(C)]
 #[derive(Clone, Copy, Debug)]
 pub struct Node {
-    /// A scalar's kind, or one of those below.
+    /// A scalar's kind, from `FFI3_UINT8`, 0, to `FFI3_POINTER`, 12, or one of those below.
     pub kind: u32,
     /// Of a struct how many elements follow; of an array how many it has of the one type that follows; of another 0.
     pub count: u32,
@@ -40,3 +41,6 @@ pub const ARRAY: u32 = 20;
 
 /// Structs and arrays stand at most so many deep in one another.
 pub const DEEPEST: u32 = 16;
+
+// as any type's
+const _: () = prove!(DEEPEST as u64 == DEEPEST_NESTING);

@@ -3,7 +3,7 @@ ghost use Rattle.std.specs.Prelude.{◌≡◌, ◌<◌, ◌^◌, IfOk, IfErr, le
 ghost use Rattle.ffi3_type_rules.specs.Signature.{Signature, SignatureHasNoFault};
 ghost use Rattle.ffi3_nodes.specs.Faults.{first_node_fault};
 ghost use Rattle.ffi3_nodes.specs.Nodes.{IsSignatureOf};
-ghost use Rattle.ffi3_nodes.specs.Read.{IsOfNone, IsRefused};
+ghost use Rattle.ffi3_nodes.specs.Read.{IsOfNone, IsRefused, IsUncallable};
 
 use crate::Node;
 use crate::build::build;
@@ -46,6 +46,7 @@ pub fn read_signature(alloc: Global, nodes: &[Node], fixed: Option<u32>) -> Resu
     ensures only { IfOk result (λ s. (other : Signature) → IsSignatureOf nodes.now fixed other → other ≡ s) }
     ensures err { IfErr result (λ r. IsRefused nodes.now fixed r) }
     ensures none { IfErr result (λ r. IsOfNone nodes.now r) }
+    ensures uncallable { IfErr result (λ r. IsUncallable nodes.now fixed r) }
 {
     if nodes.len() > 0xFFFF_FFFF {
         return Err(Refused::TooLong);

@@ -2,6 +2,7 @@
 #![tactic(auto)]
 
 ghost use Rattle.std.specs.Prelude.{◌≡◌, IfErr, IfOk, OnErr, OnOk};
+ghost use Rattle.ffi3_type_rules.specs.Signature.{SignatureHasNoFault};
 ghost use Rattle.ffi3_transfer.specs.Stored.{image_in};
 ghost use Rattle.ffi3_transfer.specs.Calls.{IsCallStored, IsNotStored, IsLoaded, IsNotLoaded, IsGiven, IsNotGiven};
 ghost use Rattle.ffi3_transfer.specs.Collected.{IsCollected, IsNotCollected};
@@ -15,7 +16,7 @@ use ffi3_nodes::{Node, Refused, read_signature};
 use ffi3_place::Abi;
 use ffi3_riscv::Riscv;
 use ffi3_transfer::{Registers, Uncollected, Ungiven, Unstored};
-use ffi3_types::Target;
+use ffi3_types::{NoMemory, Sig, Target};
 use ffi3_win64::Win64;
 use std::alloc::Global;
 
@@ -38,6 +39,36 @@ pub enum Unprepared {
     NoMemory,
 }
 
+/// Prepares calls by the target's standard, of a function whose signature has no fault.
+pub fn prepare_signature(alloc: Global, target: Target, sig: Sig) -> Result<Prepared, NoMemory>
+    requires { SignatureHasNoFault sig }
+    ensures target { IfOk result (λ p. target_in p ≡ target) }
+    ensures signature { IfOk result (λ p. signature_in p ≡ sig) }
+{
+    match target {
+        Target::Amd64 => match Cif::prepare(alloc, sig) {
+            Ok(cif) => Ok(Prepared::Amd64(cif)),
+            Err(_) => Err(NoMemory),
+        },
+        Target::Aapcs64 => match Cif::prepare(alloc, sig) {
+            Ok(cif) => Ok(Prepared::Aapcs64(cif)),
+            Err(_) => Err(NoMemory),
+        },
+        Target::Riscv => match Cif::prepare(alloc, sig) {
+            Ok(cif) => Ok(Prepared::Riscv(cif)),
+            Err(_) => Err(NoMemory),
+        },
+        Target::Win64 => match Cif::prepare(alloc, sig) {
+            Ok(cif) => Ok(Prepared::Win64(cif)),
+            Err(_) => Err(NoMemory),
+        },
+        Target::Apple => match Cif::prepare(alloc, sig) {
+            Ok(cif) => Ok(Prepared::Apple(cif)),
+            Err(_) => Err(NoMemory),
+        },
+    }
+}
+
 /// Prepares calls by the target's standard, of the function whose signature nodes tell.
 pub fn prepare(
     alloc: Global,
@@ -53,27 +84,9 @@ pub fn prepare(
         Ok(sig) => sig,
         Err(refused) => return Err(Unprepared::Nodes(refused)),
     };
-    match target {
-        Target::Amd64 => match Cif::prepare(alloc, sig) {
-            Ok(cif) => Ok(Prepared::Amd64(cif)),
-            Err(_) => Err(Unprepared::NoMemory),
-        },
-        Target::Aapcs64 => match Cif::prepare(alloc, sig) {
-            Ok(cif) => Ok(Prepared::Aapcs64(cif)),
-            Err(_) => Err(Unprepared::NoMemory),
-        },
-        Target::Riscv => match Cif::prepare(alloc, sig) {
-            Ok(cif) => Ok(Prepared::Riscv(cif)),
-            Err(_) => Err(Unprepared::NoMemory),
-        },
-        Target::Win64 => match Cif::prepare(alloc, sig) {
-            Ok(cif) => Ok(Prepared::Win64(cif)),
-            Err(_) => Err(Unprepared::NoMemory),
-        },
-        Target::Apple => match Cif::prepare(alloc, sig) {
-            Ok(cif) => Ok(Prepared::Apple(cif)),
-            Err(_) => Err(Unprepared::NoMemory),
-        },
+    match prepare_signature(alloc, target, sig) {
+        Ok(prepared) => Ok(prepared),
+        Err(_) => Err(Unprepared::NoMemory),
     }
 }
 

@@ -1,6 +1,6 @@
 -- A result that an image owns is what is loaded from it.
 use Rattle.std.specs.Prelude.{true}
-use Rattle.std.proofs.Common.{◌≡◌, ℕ, ◌+◌, ◌≤◌, List, [], ◌∷◌, refl, ap, sym, ◌∙◌, subst, arith}
+use Rattle.std.proofs.Common.{◌≡◌, ℕ, ◌+◌, ◌≤◌, List, [], ◌∷◌, length, refl, ap, sym, ◌∙◌, subst, arith}
 use Rattle.std.specs.List.{AllByRecursion}
 use Rattle.ffi3_type_rules.specs.Tree.{Tree, void}
 use Rattle.ffi3_type_rules.specs.Layout.{size_of}
@@ -66,8 +66,9 @@ result_loaded std s m (Hidden at buffer) all v fit owns =
     let none : buffer ≡ 0 + buffer = omega arith in
     ap (λ n. value_in s.result_type (part m.stack n (size_of s.result_type))) none ∙ owns
 
-pub is_loaded : (std : Standard) (s : Signature) (m : Image) (r : Res) (bytes : List ℕ) → IsSound std s → r ≡ (plan_of std s).res → bytes ≡ result_bytes m s.result_type r → IsLoaded std s m bytes
-is_loaded std s m r bytes sound res_is is = record {
+pub is_loaded : (std : Standard) (s : Signature) (m : Image) (r : Res) (bytes : List ℕ) → IsSound std s → r ≡ (plan_of std s).res → bytes ≡ result_bytes m s.result_type r → frame_of std s ≤ length m.stack → IsLoaded std s m bytes
+is_loaded std s m r bytes sound res_is is room = record {
   is = is ∙ ap (result_bytes m s.result_type) res_is;
   value = λ v own. ap (value_in s.result_type) (is ∙ ap (result_bytes m s.result_type) res_is) ∙ result_loaded std s m (plan_of std s).res sound.result_has_all v own.fitting own.stands;
+  room = room;
 }

@@ -1,6 +1,6 @@
 -- The arguments of a call, then the hidden result's address, then the number of vector registers.
-use Rattle.std.specs.Prelude.{Option}
-use Rattle.std.proofs.Common.{◌≡◌, ℕ, ◌+◌, ◌≤◌, List, ◌++◌, length, subst, ◌∙◌, arith}
+use Rattle.std.specs.Prelude.{Option, ◌^◌}
+use Rattle.std.proofs.Common.{◌≡◌, ℕ, ◌+◌, ◌<◌, ◌≤◌, List, ◌++◌, length, subst, ◌∙◌, arith}
 use Rattle.std.specs.List.{AllByRecursion}
 use Rattle.ffi3_type_rules.specs.Signature.{Signature, SignatureHasNoFault}
 use Rattle.ffi3_type_rules.proofs.Right.{argument_is_laid_out}
@@ -31,8 +31,8 @@ hidden_stays base Nothing ls a b none s stands = tt
 hidden_stays base (DirectRes pieces) ls a b none s stands = tt
 
 module _ (std : Standard) (s : Signature) (sound : IsSound std s) (right : SignatureHasNoFault s) (agrees : AgreesWithMachine std) (bytes : List ℕ) (o a b d : Image) where
-  stored : length bytes ≡ packed_size s.arguments → std.link + frame_of std s ≤ length o.stack → AllStand std.link a s.arguments (plan_of std s).places bytes → PlacesKeep std.link o a s.arguments (plan_of std s).places → Stays std.link (all_uses s.arguments (plan_of std s).places) o a → OwnsHidden b std.link (plan_of std s).res → Stays std.link (hidden_locs (plan_of std s).res) a b → RegisterHolds d std.vector_count (plan_of std s).vectors → Stays std.link (to_list std.vector_count) b d → IsCallStored std s bytes o d
-  stored sized room stand keep first hidden second told third =
+  stored : length bytes ≡ packed_size s.arguments → std.link + frame_of std s ≤ length o.stack → o.sp + length o.stack < 2 ^ 64 → AllStand std.link a s.arguments (plan_of std s).places bytes → PlacesKeep std.link o a s.arguments (plan_of std s).places → Stays std.link (all_uses s.arguments (plan_of std s).places) o a → OwnsHidden b std.link (plan_of std s).res → Stays std.link (hidden_locs (plan_of std s).res) a b → RegisterHolds d std.vector_count (plan_of std s).vectors → Stays std.link (to_list std.vector_count) b d → IsCallStored std s bytes o d
+  stored sized room low stand keep first hidden second told third =
       let ts = s.arguments in
       let ps = (plan_of std s).places in
       let ready = ready_all std s sound right agrees in
@@ -50,11 +50,13 @@ module _ (std : Standard) (s : Signature) (sound : IsSound std s) (right : Signa
         };
         stays = stays_then std.link (hidden_locs (plan_of std s).res ++ all_uses s.arguments (plan_of std s).places) (to_list std.vector_count) o b d (stays_then std.link (all_uses s.arguments (plan_of std s).places) (hidden_locs (plan_of std s).res) o a b first second) third;
         kept = places_keep std.link (to_list std.vector_count) o b d ts ps (count_clear std s sound (count_is_register std agrees)) third (places_keep std.link (hidden_locs (plan_of std s).res) o a b ts ps (hidden_clear std s sound) second keep);
+        sized = sized;
+        low = low;
       }
 
-  pub call_stored : (base : ℕ) (r : Res) (k : Option Loc) (n : ℕ) → base ≡ std.link → r ≡ (plan_of std s).res → k ≡ std.vector_count → n ≡ (plan_of std s).vectors → length bytes ≡ packed_size s.arguments → std.link + frame_of std s ≤ length o.stack → AllStand std.link a s.arguments (plan_of std s).places bytes → PlacesKeep std.link o a s.arguments (plan_of std s).places → Stays std.link (all_uses s.arguments (plan_of std s).places) o a → OwnsHidden b base r → Stays base (hidden_locs r) a b → RegisterHolds d k n → Stays base (to_list k) b d → IsCallStored std s bytes o d
-  call_stored base r k n base_is res_is count_is number_is sized room stand keep first hidden second told third =
-      stored sized room stand keep first
+  pub call_stored : (base : ℕ) (r : Res) (k : Option Loc) (n : ℕ) → base ≡ std.link → r ≡ (plan_of std s).res → k ≡ std.vector_count → n ≡ (plan_of std s).vectors → length bytes ≡ packed_size s.arguments → std.link + frame_of std s ≤ length o.stack → o.sp + length o.stack < 2 ^ 64 → AllStand std.link a s.arguments (plan_of std s).places bytes → PlacesKeep std.link o a s.arguments (plan_of std s).places → Stays std.link (all_uses s.arguments (plan_of std s).places) o a → OwnsHidden b base r → Stays base (hidden_locs r) a b → RegisterHolds d k n → Stays base (to_list k) b d → IsCallStored std s bytes o d
+  call_stored base r k n base_is res_is count_is number_is sized room low stand keep first hidden second told third =
+      stored sized room low stand keep first
       (subst (λ x. OwnsHidden b std.link x) res_is (subst (λ x. OwnsHidden b x r) base_is hidden))
       (subst (λ x. Stays std.link (hidden_locs x) a b) res_is (subst (λ x. Stays x (hidden_locs r) a b) base_is second))
       (subst (λ x. RegisterHolds d std.vector_count x) number_is (subst (λ x. RegisterHolds d x n) count_is told))

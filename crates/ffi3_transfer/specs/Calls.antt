@@ -11,7 +11,7 @@ use Rattle.ffi3_place_rules.specs.declared.Res.TheVariants.{Nothing, Direct as D
 use Rattle.ffi3_place_rules.specs.Isa.{to_list}
 use Rattle.ffi3_place_rules.specs.Image.{Image, word_at}
 use Rattle.ffi3_place_rules.specs.Standard.{Standard, frame_of, plan_of}
-use Rattle.ffi3_place_rules.specs.Holds.{Holds, HoldsResult, OwnResult, OwnsHidden, OwnsResult, FillsResult, RegisterHolds}
+use Rattle.ffi3_place_rules.specs.Holds.{Holds, HoldsResult, Kept, OwnResult, OwnsHidden, OwnsResult, FillsResult, RegisterHolds}
 use Rattle.ffi3_place_rules.specs.Sound.{IsNoneOf, hidden_locs, result_locs}
 use Rattle.ffi3_pieces.specs.Stored.{IsPlace}
 use Rattle.ffi3_pieces.specs.Standing.{all_uses}
@@ -39,6 +39,9 @@ pub record IsCallStored (std : Standard) (s : Signature) (bytes : List ℕ) (old
   pub holds : Holds std s (values_packed s.arguments bytes) new
   pub stays : Stays std.link (stored_locs std s) old new
   pub kept : PlacesKeep std.link old new s.arguments (plan_of std s).places
+  -- nor was a refusal due: that the stack is long enough is in `holds`
+  pub sized : length bytes ≡ packed_size s.arguments
+  pub low : old.sp + length old.stack < 2 ^ 64
 
 -- OR WHY NOT: the first of these that is so
 abbrev pub IsNotStored : Standard → Signature → List ℕ → Image → Unstored → Type 0
@@ -60,8 +63,10 @@ result_bytes m t (Hidden at buffer) = part m.stack buffer (size_of t)
 pub record IsLoaded (std : Standard) (s : Signature) (m : Image) (bytes : List ℕ) : Type 0 where
   pub is : bytes ≡ result_bytes m s.result_type (plan_of std s).res
   pub value : (v : ValueTree) → OwnResult std s v m → value_in s.result_type bytes ≡ v
+  -- nor was a refusal due: the frame is there, also where the result is in registers
+  pub room : frame_of std s ≤ length m.stack
 
--- OR WHY NOT
+-- OR WHY NOT: the first of these that is so
 abbrev pub IsNotLoaded : Standard → Signature → Image → List ℕ → Unstored → Type 0
 IsNotLoaded std s m old (WrongSize wanted) = (wanted ≡ size_of s.result_type) × (length old ≢ wanted)
 IsNotLoaded std s m old (ShortStack wanted) =
@@ -93,7 +98,7 @@ ResultKeeps old new Nothing = ⊤
 ResultKeeps old new (DirectRes pieces) = AllByRecursion (KeepsAbove 0 old new) pieces
 ResultKeeps old new (Hidden at buffer) = ⊤
 
--- by the standard alone: in its registers, or wherever the address that was passed points to
+-- by the standard alone: in its registers, or wherever the address that was passed points to, be that the return address or the place of the address itself (AAPCS64, "Result return"; psABI AMD64 3.2.3, "Returning of Values"; RISC-V psABI, "Integer Calling Convention"; Microsoft x64, "Return values")
 abbrev pub IsGivenBy : Standard → Tree → Res → List ℕ → Image → Image → Type 0
 IsGivenBy std t Nothing bytes old new = ⊤
 IsGivenBy std t (DirectRes pieces) bytes old new =
@@ -103,6 +108,10 @@ IsGivenBy std t (Hidden at buffer) bytes old new =
     (is_in_image old (word_at old std.link at) (size_of t) ≡ true)
     × (part new.stack (word_at old std.link at - old.sp) (size_of t) ≡ bytes)
     × RegisterHolds (at_return std new) std.returned_address (word_at old std.link at)
+
+-- the bytes of the stack that tell where the buffer is, and the return address
+abbrev pub giving_bytes : Standard → Signature → ℕ
+giving_bytes std s = std.link + stack_end (hidden_locs (plan_of std s).res)
 
 -- THE CALLEE HAS GIVEN ITS RESULT. `old` is the entry's image, `new` the same memory after, with sp as before.
 pub record IsGiven (std : Standard) (s : Signature) (bytes : List ℕ) (old new : Image) : Type 0 where
@@ -114,12 +123,14 @@ pub record IsGiven (std : Standard) (s : Signature) (bytes : List ℕ) (old new 
   pub size : length new.stack ≡ length old.stack
   pub registers : (l : Loc) → IsPlace 0 l → IsNoneOf (given_locs std (plan_of std s).res) l → SameAt 0 l old new
   pub kept : ResultKeeps old new (plan_of std s).res
+  -- what a callee preserves is as it was
+  pub preserved : Kept std old (at_return std new)
   pub beside : (i : ℕ) → IsBeside std s.result_type (plan_of std s).res old i
       → get_or new.stack i 0 ≡ get_or old.stack i 0
-
--- the bytes of the stack that tell where the buffer is, and the return address
-abbrev pub giving_bytes : Standard → Signature → ℕ
-giving_bytes std s = std.link + stack_end (hidden_locs (plan_of std s).res)
+  -- nor was a refusal due, also where the result is in registers, or there is none
+  pub sized : length bytes ≡ size_of s.result_type
+  pub room : giving_bytes std s ≤ length old.stack
+  pub low : old.sp + length old.stack < 2 ^ 64
 
 abbrev pub PointsPast : Standard → Tree → Res → Image → ℕ → Type 0
 PointsPast std t Nothing m address = ⊥
@@ -127,7 +138,7 @@ PointsPast std t (DirectRes pieces) m address = ⊥
 PointsPast std t (Hidden at buffer) m address =
     (address ≡ word_at m std.link at) × (is_in_image m address (size_of t) ≡ false)
 
--- OR WHY NOT
+-- OR WHY NOT: the first of these that is so
 abbrev pub IsNotGiven : Standard → Signature → List ℕ → Image → Ungiven → Type 0
 IsNotGiven std s bytes m (WrongValue wanted) = (wanted ≡ size_of s.result_type) × (length bytes ≢ wanted)
 IsNotGiven std s bytes m (ShortEntry wanted) =
@@ -135,4 +146,5 @@ IsNotGiven std s bytes m (ShortEntry wanted) =
 IsNotGiven std s bytes m HighEntry =
     (length bytes ≡ size_of s.result_type) × (giving_bytes std s ≤ length m.stack) × (2 ^ 64 ≤ m.sp + length m.stack)
 IsNotGiven std s bytes m (NotInStack address) =
-    (length bytes ≡ size_of s.result_type) × PointsPast std s.result_type (plan_of std s).res m address
+    (length bytes ≡ size_of s.result_type) × (giving_bytes std s ≤ length m.stack)
+    × (m.sp + length m.stack < 2 ^ 64) × PointsPast std s.result_type (plan_of std s).res m address

@@ -1,4 +1,4 @@
--- The arguments that a callee collects from registers and stack.
+-- The arguments that a callee collects from registers and stack. (System V psABI AMD64 3.2.3, "Parameter Passing"; AAPCS64, "Parameter passing"; RISC-V ELF psABI, "Integer Calling Convention" and "Hardware Floating-point Calling Convention"; Microsoft, "Parameter passing": `Own` has them)
 use Rattle.std.specs.Prelude.{◌≡◌, ◌≢◌, ℕ, ◌<◌, ◌≤◌, List, length}
 use Rattle.ffi3_type_rules.specs.Signature.{Signature}
 use Rattle.ffi3_type_rules.specs.Value.{ValueTree}
@@ -16,8 +16,11 @@ pub record IsCollected (std : Standard) (s : Signature) (m : Image) (bytes : Lis
   -- so they are the values that the image owns
   pub owned : (vs : List ValueTree) → Own std s vs m → values_packed s.arguments bytes ≡ vs
   pub padding : HaveZeroPadding s.arguments bytes
+  -- nor was a refusal due
+  pub sized : length bytes ≡ packed_size s.arguments
+  pub room : least_stack std s ≤ length m.stack
 
--- OR WHY NOT
+-- OR WHY NOT: the first of these that is so
 abbrev pub IsNotCollected : Standard → Signature → Image → List ℕ → Uncollected → Type 0
 IsNotCollected std s m old (WrongSize wanted) = (wanted ≡ packed_size s.arguments) × (length old ≢ wanted)
 IsNotCollected std s m old (ShortStack wanted) =

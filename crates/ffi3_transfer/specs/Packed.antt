@@ -1,4 +1,4 @@
--- Values in one buffer, argument after argument, each from a multiple of 8 on.
+-- Values in one buffer, argument after argument, each from a multiple of 8 on. (No standard has such a buffer: it is this library's.)
 use Rattle.std.specs.Prelude.{◌≡◌, ℕ, ◌+◌, ◌<◌, ⊤, List, [], ◌∷◌, take, drop, get_or, length}
 use Rattle.ffi3_type_rules.specs.Tree.{Tree}
 use Rattle.ffi3_type_rules.specs.Layout.{size_of}

@@ -1,4 +1,4 @@
--- Arguments whose bytes stand at their places in an image.
+-- Arguments whose bytes stand at their places in an image, as steps towards `Holds`, which says it in the standards' words; and what a store keeps of those places: `PlacesKeep`.
 use Rattle.std.specs.Prelude.{◌≡◌, ℕ, ◌+◌, ◌*◌, ◌/◌, ◌<◌, ◌≤◌, ⊤, List, [], ◌∷◌, get_or, length}
 use Rattle.std.specs.List.{AllByRecursion}
 use Rattle.ffi3_type_rules.specs.Tree.{Tree}

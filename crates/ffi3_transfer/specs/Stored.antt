@@ -1,4 +1,4 @@
--- Places of an image that a store changes, and those that it leaves.
+-- Places of an image that a store changes, and those that it leaves. (Where the places are, each standard says: `plan_of`. What none of them asks to be written stays, by this library's promise.)
 use Rattle.std.specs.Prelude.{◌≡◌, ℕ, ◌+◌, ◌^◌, ◌<◌, ◌≤◌, List, [], ◌∷◌, get_or, length}
 use Rattle.std.specs.Int.{w64, to_le_bytes}
 use Rattle.ffi3_type_rules.specs.Tree.{Tree}

@@ -123,6 +123,7 @@ fn collect_arguments<A: Abi>(cif: &Cif<A>, registers: &Registers, stack: &[u8], 
     requires sized { length values.old ≡ packed_size cif.now.arguments }
     ensures values { values_packed cif.now.arguments values.new ≡ values_by_standard (image_in registers.now stack.now) A.standard.link cif.now.arguments (plan_of A.standard cif.now).places }
     ensures padding { HaveZeroPadding cif.now.arguments values.new }
+    ensures sized { length values.new ≡ packed_size cif.now.arguments }
 {
     let sig = cif.checked_sig();
     let base = A::LINK;

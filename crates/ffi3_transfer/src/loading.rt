@@ -9,7 +9,8 @@ use ffi3_cif::Cif;
 use ffi3_place::{Abi, Res};
 
 /// Loads the result of a call that has returned, as registers and memory are then: `stack` is the memory from
-/// `registers.sp` on, where the frame starts.
+/// `registers.sp` on, where the frame starts. A hidden result is read from the frame's buffer, whose address `store`
+/// passes: a caller that passed another has it there.
 pub fn load<A: Abi>(
     cif: &Cif<A>,
     registers: &Registers,

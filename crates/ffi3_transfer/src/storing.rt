@@ -171,7 +171,7 @@ pub fn packed_size<A: Abi>(cif: &Cif<A>) -> usize
 
 /// Stores the values of a call for its callee, in registers and memory as they will be at the callee's first
 /// instruction: `stack` is the memory from `registers.sp` on, where the return address will stand, if the standard has
-/// it on the stack.
+/// it on the stack. The alignment of `registers.sp` is the caller's: it is not looked at.
 pub fn store<A: Abi>(
     cif: &Cif<A>,
     values: &[u8],

@@ -1,6 +1,6 @@
 use Rattle.std.proofs.Common.{List, ℕ, ap, ◌∙◌}
+use Rattle.ffi3_transfer.specs.Stored.{image_in}
 use Rattle.ffi3_capi.specs.DeclaredBy.{IsDeclaredBy, IsFaultBy}
-use Rattle.ffi3_capi.specs.Entry.{image_in}
 use Rattle.ffi3_capi.specs.Filled.{has_room, filled}
 use Rattle.ffi3_capi.proofs.Answering.{reads, reads_nothing}
 use Rattle.ffi3_capi.proofs.entry.arguments.Goals as goal

@@ -1,6 +1,6 @@
 use Rattle.std.proofs.Common.{sym, ◌∙◌}
+use Rattle.ffi3_transfer.specs.Stored.{image_in}
 use Rattle.ffi3_capi.specs.DeclaredBy.{IsDeclaredBy, IsFaultBy}
-use Rattle.ffi3_capi.specs.Entry.{image_in}
 use Rattle.ffi3_capi.proofs.Answering.{are_found, are_not_read}
 use Rattle.ffi3_capi.proofs.entry.find_arguments.Goals as goal
 

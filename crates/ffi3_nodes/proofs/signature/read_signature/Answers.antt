@@ -1,4 +1,5 @@
 use Rattle.ffi3_nodes.proofs.Building.{one_signature, of_none}
+use Rattle.ffi3_nodes.proofs.Shallow.{uncallable_nodes, uncallable_signature}
 use Rattle.ffi3_nodes.proofs.signature.read_signature.Goals as goal
 
 pub returns-in-Err-clause-none : goal.returns-in-Err-clause-none
@@ -6,3 +7,10 @@ returns-in-Err-clause-none c = of_none c.args.nodes.now c.in-Err.fault c.in-Err.
 
 pub returns-in-Ok-check_sig-clause-only : goal.returns-in-Ok-check_sig-clause-only
 returns-in-Ok-check_sig-clause-only c = λ other is. one_signature c.args.nodes.now c.args.fixed c.in-Ok.sig other c.in-Ok.ensures is
+
+pub returns-in-Err-clause-uncallable : goal.returns-in-Err-clause-uncallable
+returns-in-Err-clause-uncallable c = uncallable_nodes c.args.nodes.now c.args.fixed c.in-Err.fault c.in-Err.ensures.err
+
+pub returns-in-Err-check_sig-clause-uncallable : goal.returns-in-Err-check_sig-clause-uncallable
+returns-in-Err-check_sig-clause-uncallable c =
+    uncallable_signature c.args.nodes.now c.args.fixed c.in-Ok.sig c.in-Err-check_sig.fault c.in-Ok.ensures c.in-Err-check_sig.ensures.err

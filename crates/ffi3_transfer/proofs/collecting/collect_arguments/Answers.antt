@@ -101,3 +101,6 @@ pub returns-clause-padding : goal.returns-clause-padding
 returns-clause-padding g c =
     let s = c.args.cif.now in
     all_clear (image_in c.args.registers.now c.args.stack.now) g.A.Abi.standard.link s.arguments (plan_of g.A.Abi.standard s).places (length c.args.values.now) c.loop-i.i c.loop-i.at c.loop-i.values (omega arith) c.requires.sized c.loop-i.invariant
+
+pub returns-clause-sized : goal.returns-clause-sized
+returns-clause-sized g c = c.loop-i.invariant.sized ∙ c.requires.sized

@@ -28,4 +28,4 @@ returns-in-Direct-clause-ok g c =
     let s = c.args.cif.now in
     let m = image_in c.args.registers.now c.args.stack.now in
     let sized : length c.args.out.now ≡ size_of s.result_type = omega (arith, c.if-out-wanted.false, c.size-wanted.ensures.value, ap size_of c.ret.ensures, ap (λ r. size_of r.result_type) c.checked_sig.ensures.value) in
-    is_loaded g.A.Abi.standard s m (Direct c.in-Direct.pieces) c.read_pieces.new.out (g.met.A.Abi.sound s) (sym c.in-Direct.is ∙ c.result_place.ensures) (c.read_pieces.ensures ∙ ap (first_bytes m 0 c.in-Direct.pieces 0) sized)
+    is_loaded g.A.Abi.standard s m (Direct c.in-Direct.pieces) c.read_pieces.new.out (g.met.A.Abi.sound s) (sym c.in-Direct.is ∙ c.result_place.ensures) (c.read_pieces.ensures ∙ ap (first_bytes m 0 c.in-Direct.pieces 0) sized) (omega (arith, c.if-stack-frame.false, c.frame-frame.ensures))

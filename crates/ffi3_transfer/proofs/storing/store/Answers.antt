@@ -30,5 +30,5 @@ returns-clause-ok g c =
     let base_is : c.LINK-base.result ≡ std.link = c.LINK-base.ensures ∙ sym g.met.A.Abi.link_is in
     call_stored std s (g.met.A.Abi.sound s) c.sig-sig.ensures.faultless g.met.A.Abi.agrees c.args.values.now (image_in c.args.registers.now c.args.stack.now) (image_in c.store_arguments.new.registers c.store_arguments.new.stack) (image_in c.store_hidden.new.registers c.store_hidden.new.stack) (image_in c.store_count.new.registers c.store_count.new.stack)
     c.LINK-base.result c.result_place.result.now c.vector_count.result c.vectors.result base_is c.result_place.ensures c.vector_count.ensures c.vectors.ensures
-    (omega (arith, c.if-values-wanted.false, c.packed_size-wanted.ensures)) (omega (arith, base_is, c.frame.ensures, c.if-stack-wanted.false))
+    (omega (arith, c.if-values-wanted.false, c.packed_size-wanted.ensures)) (omega (arith, base_is, c.frame.ensures, c.if-stack-wanted.false)) (omega (arith, c.if-registers-stack.false))
     c.store_arguments.ensures.stand c.store_arguments.ensures.kept c.store_arguments.ensures.stays c.store_hidden.ensures.stands c.store_hidden.ensures.stays c.store_count.ensures.told c.store_count.ensures.stays

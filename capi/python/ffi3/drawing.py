@@ -1,0 +1,197 @@
+"""Drawings of registers and stack, each argument in a colour of its own.
+
+    from ffi3 import drawing, headers
+    drawing.svg("double f(struct { int i; float x; } a)")           # the text of an SVG, of the five targets
+    [entry] = headers.survey("zlib.h", [headers.compiler_for("riscv")], ["crc32"])
+    drawing.drawn(drawing.of_entry(entry))
+"""
+
+from collections.abc import Iterable, Iterator, Mapping, Sequence
+from typing import TYPE_CHECKING, NamedTuple
+
+from .library import HIDDEN, RESULT, TARGETS, Call, Part, Piece, layout, place
+
+if TYPE_CHECKING:
+    from .headers import Entry
+
+# Colours that differ also for those who see few of them (Okabe and Ito), then the same paler.
+_COLOURS = ("#56B4E9", "#E69F00", "#009E73", "#F0E442", "#CC79A7", "#D55E00", "#0072B2", "#A3D5F2", "#F3CC80",
+            "#80CEB9", "#F8F2A1", "#E6BCD3", "#EAAF80", "#80B9D9")
+_RESULT_COLOUR = "#BBBBBB"
+_BYTE, _ROW, _NAME, _GAP = 18, 24, 62, 34
+_WIDTH = _NAME + 8 * _BYTE
+
+
+class Subject(NamedTuple):
+    """What is drawn: a function, its arguments' names, and on each target the call and the sizes of its values."""
+
+    title: str
+    names: tuple[str, ...]
+    calls: dict[str, Call]
+    sizes: dict[str, dict[Part, int]]
+
+
+def of_text(declaration: str | bytes, targets: Iterable[str] = TARGETS) -> Subject:
+    """The function that a text declares, its arguments by their numbers."""
+    count = layout(declaration).arguments
+    sizes = {i: layout(declaration, i).size for i in range(count)} | {HIDDEN: layout(declaration).size}
+    title = declaration if isinstance(declaration, str) else declaration.decode()
+    calls = {target: place(target, declaration) for target in targets}
+    return Subject(title, tuple(map(str, range(count))), calls, dict.fromkeys(calls, sizes))
+
+
+def of_entry(entry: "Entry") -> Subject:
+    """A function of a header, on the targets on which it is read."""
+    read = {target: each for target, each in entry.by_target.items() if each.is_read}
+    sizes = {target: {i: each.layout(i).size for i in range(len(each.arguments))} | {HIDDEN: each.layout(RESULT).size}
+             for target, each in read.items()}
+    names = tuple(name or str(i) for i, name in enumerate(entry.first.names))
+    return Subject(entry.first.declaration, names, {target: each.place() for target, each in read.items()}, sizes)
+
+
+def colour(part: Part) -> str:
+    """Of an argument its own; results and their buffers are grey."""
+    return _RESULT_COLOUR if part in (RESULT, HIDDEN) else _COLOURS[part % len(_COLOURS)]
+
+
+def label(names: tuple[str, ...], part: Part) -> str:
+    """What a value is called in a drawing: an argument's name, result, or buffer."""
+    return {RESULT: "result", HIDDEN: "buffer"}.get(part) or names[part]
+
+
+def escaped(text: str) -> str:
+    """A text as XML has it."""
+    return text.replace("&", "&amp;").replace("<", "&lt;").replace(">", "&gt;").replace('"', "&quot;")
+
+
+class _Drawing:
+    """Lines of an SVG, and how far down they go."""
+
+    def __init__(self, names: tuple[str, ...]):
+        self.names = names
+        self.lines: list[str] = []
+        self.height = 0.0
+
+    def text(self, x: float, y: float, words: str, size: int = 11, anchor: str = "start", style: str = "") -> None:
+        self.lines.append(f'<text x="{x:g}" y="{y:g}" font-size="{size}" text-anchor="{anchor}"{style}>'
+                          f"{escaped(words)}</text>")
+        self.height = max(self.height, y + 6)
+
+    def box(self, x: float, y: float, width: float, height: float, fill: str, dashes: str = "") -> None:
+        self.lines.append(f'<rect x="{x:g}" y="{y:g}" width="{width:g}" height="{height:g}" fill="{fill}" '
+                          f'stroke="#444444"{dashes}/>')
+        self.height = max(self.height, y + height)
+
+    def row(self, x: float, y: float, name: str) -> None:
+        """Eight bytes with a name, none of which has anything."""
+        self.text(x + _NAME - 6, y + 16, name, anchor="end", style=' font-family="monospace"')
+        self.box(x + _NAME, y, 8 * _BYTE, _ROW - 4, "none", ' stroke-dasharray="2 2"')
+
+    def bytes(self, x: float, y: float, first: int, count: int, piece: Piece, value: int) -> None:
+        """So many of the eight bytes of a row, the lowest at the left: a piece's, from a byte of the value on."""
+        words = self.words(piece, value, count)
+        self.box(x + _NAME + first * _BYTE, y, count * _BYTE, _ROW - 4, colour(piece.part))
+        if count > 1 or len(words) < 3:
+            self.text(x + _NAME + (first + count / 2) * _BYTE, y + 15, words, 10, "middle")
+
+    def words(self, piece: Piece, first: int, count: int) -> str:
+        """What stands in a box, as much of it as has room."""
+        name = label(self.names, piece.part)
+        if piece.is_address:
+            return f"@ of {name}" if len(name) < 18 else f"@ of {name[:16]}.."
+        behind = f": {first}" if count == 1 else f": {first}-{first + count - 1}"
+        most = max(1, count * _BYTE // 6 - len(behind))
+        return (name if len(name) <= most else name[:max(1, most - 2)] + "..") + behind
+
+
+def _draw_registers(drawing: _Drawing, x: float, y: float, pieces: Sequence[Piece]) -> float:
+    names = list(dict.fromkeys(piece.place for piece in pieces if piece.place != "stack"))
+    for name in names:
+        drawing.row(x, y, name)
+        for piece in pieces:
+            if piece.place == name:
+                drawing.bytes(x, y, 0, piece.length, piece, piece.offset)
+        y += _ROW
+    return y
+
+
+Stretch = tuple[int, Piece, int, int]
+
+
+def stretches(call: Call, sizes: Mapping[Part, int]) -> Iterator[Stretch]:
+    """What stands in the frame: of each stretch its first byte, piece, length and first byte of the value."""
+    for piece in call.pieces[:call.passed]:
+        if piece.place == "stack":
+            yield piece.number, piece, piece.length, 0 if piece.is_address else piece.offset
+        if piece.is_address:
+            yield piece.offset, piece._replace(is_address=False), sizes[piece.part], 0
+
+
+def stack_rows(call: Call, sizes: Mapping[Part, int]) -> dict[int, list[tuple[int, int, Piece, int]]]:
+    """The frame in rows of eight bytes, those that have any: what begins at which byte, its length, its piece, and its
+    first byte of the value."""
+    used: dict[int, list[tuple[int, int, Piece, int]]] = {}
+    for start, piece, length, value in sorted(stretches(call, sizes), key=lambda stretch: stretch[0]):
+        at = start
+        while at < start + length:
+            count = min(8 - at % 8, start + length - at)
+            used.setdefault(at // 8, []).append((at % 8, count, piece, value + at - start))
+            at += count
+    return used
+
+
+def _draw_stack(drawing: _Drawing, x: float, y: float, call: Call, sizes: Mapping[Part, int]) -> float:
+    """The frame from its lowest address, where the first stack argument stands. Long stretches are cut."""
+    used, last = stack_rows(call, sizes), None
+    for row in sorted(used):
+        shown = sum(1 for other in used if other <= row)
+        if shown > 24:
+            drawing.text(x + _NAME, y + 14, f"and so on, to frame+{8 * max(used) + 7}")
+            return y + _ROW
+        if last is not None and row > last + 1:
+            drawing.text(x + _NAME + 4 * _BYTE, y + 10, "...", anchor="middle")
+            y += _ROW / 2
+        drawing.row(x, y, f"+{8 * row}")
+        for first, count, piece, value in used[row]:
+            drawing.bytes(x, y, first, count, piece, value)
+        y, last = y + _ROW, row
+    return y
+
+
+def _draw_target(drawing: _Drawing, x: float, y: float, target: str, call: Call, sizes: Mapping[Part, int]) -> None:
+    passed, returned = call.pieces[:call.passed], call.pieces[call.passed:]
+    drawing.text(x, y, target, 15, style=' font-weight="bold"')
+    y = _draw_registers(drawing, x, y + 12, passed)
+    if call.frame:
+        drawing.text(x, y + 16, f"stack, {call.frame} bytes")
+        y = _draw_stack(drawing, x, y + 24, call, sizes)
+    if returned:
+        drawing.text(x, y + 16, "and back")
+        _draw_registers(drawing, x, y + 24, returned)
+
+
+def drawn(subject: Subject) -> str:
+    """A drawing of registers and stack of each target, each argument in a colour of its own."""
+    drawing = _Drawing(subject.names)
+    drawing.text(16, 28, subject.title, 14, style=' font-family="monospace"')
+    sizes = next(iter(subject.sizes.values()), {})
+    x = 16
+    for i, name in enumerate(subject.names):
+        words = f"{name if name != str(i) else f'argument {i}'}, {sizes[i]} bytes"
+        drawing.box(x, 44, 14, 14, colour(i))
+        drawing.text(x + 19, 55, words)
+        x += max(150, 30 + 6 * len(words))
+    for column, (target, call) in enumerate(subject.calls.items()):
+        _draw_target(drawing, 16 + column * (_WIDTH + _GAP), 92, target, call, subject.sizes[target])
+    columns = len(subject.calls)
+    width = max(32 + columns * _WIDTH + (columns - 1) * _GAP, x, 32 + 8.5 * len(subject.title))
+    return "\n".join([
+        f'<svg xmlns="http://www.w3.org/2000/svg" width="{width:g}" height="{drawing.height + 16:g}" '
+        f'font-family="sans-serif" fill="#111111">',
+        f'<rect width="{width:g}" height="{drawing.height + 16:g}" fill="#FFFFFF"/>',
+        *drawing.lines, "</svg>", ""])
+
+
+def svg(declaration: str | bytes, targets: Iterable[str] = TARGETS) -> str:
+    """A drawing of the function that a text declares, on these targets."""
+    return drawn(of_text(declaration, targets))

@@ -1,0 +1,410 @@
+"""Commands of gdb that print what a function was called with, and what it gave back, without debug information.
+
+    (gdb) source capi/python/ffi3/gdb.py
+    (gdb) break *(long)&deflateInit2_
+    (gdb) run
+    (gdb) ffi3-args deflateInit2_ in zlib.h             the prototype is that of the header
+    (gdb) ffi3-args double weigh(struct { int id; float weight; } item, const char *label, double scale)
+    (gdb) ffi3-args printf in stdio.h : int, double     with the types of what stands in the place of the dots
+    (gdb) finish
+    (gdb) ffi3-result deflateInit2_ in zlib.h
+
+Types are read as the target's compiler reads them (headers.py), so a prototype may have typedefs and enums in front.
+Arguments are read from registers and stack by the library (ffi3_arguments), and memory that an argument is passed by
+reference to through gdb. The machine is amd64, aarch64 or riscv64, as gdb names it.
+"""
+
+import re
+import struct
+import sys
+import tempfile
+from collections.abc import Iterator, Mapping, Sequence
+from dataclasses import dataclass
+from pathlib import Path
+from typing import NamedTuple
+
+import gdb
+
+sys.path.insert(0, str(Path(__file__).resolve().parents[1]))
+
+try:
+    from ffi3 import headers, library
+    from ffi3.library import RESULT, Call, Node, Piece, Scalar, Type
+except ModuleNotFoundError as error:
+    if error.name != "pycparser":
+        raise
+    raise gdb.GdbError("ffi3 reads prototypes with pycparser, which gdb's own Python, "
+                       f"{sys.version.split()[0]} of {sys.prefix}, does not find") from None
+except (OSError, ImportError) as error:
+    raise gdb.GdbError(f"ffi3: {error}") from None
+
+MOST_STACK = 64 * 1024
+PAGE = 4096
+WORD = (1 << 64) - 1
+
+
+class Machine(NamedTuple):
+    """A machine as gdb names it: the calling standard, and gdb's names of the registers that it calls otherwise."""
+
+    target: str
+    renamed: Mapping[str, str]
+    link: str  # the register with the return address, or nothing where it is on the stack
+    jump: re.Pattern  # the words of a call in gdb's instructions
+
+
+MACHINES = {
+    "i386:x86-64": Machine("amd64", {}, "", re.compile(r"\bcallq?\b")),
+    "aarch64": Machine("aapcs64", {}, "x30", re.compile(r"\bblr?[a-z]*\b")),
+    "riscv:rv64": Machine("riscv", {"s0": "fp"}, "ra", re.compile(r"\bc?\.?jalr?\b|\bcall\b")),
+}
+
+
+# ---- the machine that stopped
+
+@dataclass
+class Stop:
+    """The machine at a stop: registers and memory, read through gdb."""
+
+    frame: gdb.Frame
+    machine: Machine
+
+    @classmethod
+    def now(cls) -> "Stop":
+        try:
+            frame = gdb.newest_frame()
+        except gdb.error as error:
+            raise gdb.GdbError(str(error)) from None
+        name = frame.architecture().name()
+        if name not in MACHINES:
+            raise gdb.GdbError(f"no calling standard for {name}")
+        return cls(frame, MACHINES[name])
+
+    def register(self, name: str) -> int:
+        """The lowest 64 bits of a register."""
+        return low_bits(self.frame.read_register(self.machine.renamed.get(name, name)))
+
+    def memory(self, at: int, count: int) -> bytes:
+        return gdb.selected_inferior().read_memory(at, count).tobytes()
+
+    def stack(self) -> bytes:
+        """The bytes from sp on to the stack's end, or as many as are of use."""
+        at, found = self.register("sp"), b""
+        while len(found) < MOST_STACK:
+            count = PAGE - (at + len(found)) % PAGE
+            try:
+                found += self.memory(at + len(found), count)
+            except gdb.MemoryError:
+                break
+        return found
+
+
+def low_bits(value: gdb.Value) -> int:
+    """The lowest 64 bits of a register: of a vector or of a union, those of its first part."""
+    kind = value.type.strip_typedefs()
+    while kind.code in (gdb.TYPE_CODE_UNION, gdb.TYPE_CODE_ARRAY, gdb.TYPE_CODE_STRUCT):
+        if kind.code == gdb.TYPE_CODE_ARRAY:
+            value = value[kind.range()[0]]
+        else:
+            fields = {field.name: field for field in kind.fields()}
+            value = value[next(name for name in ("v2_int64", "d", "u", "double", *fields) if name in fields)]
+        kind = value.type.strip_typedefs()
+    return int(value.format_string(format="z"), 16) & WORD
+
+
+# ---- where it stopped
+
+def doubts(stop: Stop) -> Iterator[str]:
+    """Why what is told may not be what was passed: the stop is not at an entry, or the function is local."""
+    pc = stop.frame.pc()
+    said = gdb.execute(f"info symbol {pc:#x}", to_string=True)
+    known = re.match(r"(\S+)(?: \+ (\d+))? in section", said)
+    name, behind = known.groups() if known else ("", None)
+    if behind:
+        yield f"the stop is {behind} bytes behind the first instruction of {name}: registers may have changed"
+    elif not is_behind_a_call(stop, return_address(stop)):
+        yield "no call stands before the address to which this returns: the stop may not be at a function's entry"
+    if name and not behind and is_local(name, pc):
+        yield f"{name} is local to its file: a compiler may have changed how it is called"
+    elif not name:
+        yield "no symbol has this address: if the function is local, a compiler may have changed how it is called"
+
+
+def return_address(stop: Stop) -> int:
+    """Where a function that begins here would return to; 0 where its place has no memory."""
+    if stop.machine.link:
+        return stop.register(stop.machine.link)
+    try:
+        return int.from_bytes(stop.memory(stop.register("sp"), 8), "little")
+    except gdb.MemoryError:
+        return 0
+
+
+def is_behind_a_call(stop: Stop, back: int) -> bool:
+    """Whether a call stands before an address."""
+    try:
+        for length in (5, 2, 3, 4, 6, 7) if stop.machine.target == "amd64" else (4, 2):
+            [found] = stop.frame.architecture().disassemble(back - length, count=1)
+            if found["length"] == length and stop.machine.jump.search(found["asm"]):
+                return True
+    except (gdb.MemoryError, gdb.error):
+        pass
+    return False
+
+
+def is_local(name: str, pc: int) -> bool:
+    """Whether a symbol at an address is known as one of its file alone, by debug information or by the symbol table."""
+    if gdb.lookup_static_symbol(name) is not None:
+        return True
+    file = gdb.solib_name(pc) or gdb.current_progspace().filename
+    said = gdb.execute(f"maintenance print msymbols -objfile {file}", to_string=True)
+    return re.search(rf"^\[ *\d+\] t {pc:#x} {re.escape(name)}\b", said, re.M) is not None
+
+
+# ---- the function
+
+class Prototype(NamedTuple):
+    """A function as its header has it, and the types that stand in the place of its dots."""
+
+    function: headers.Function
+    more: tuple[tuple[Node, ...], ...]
+
+    @property
+    def kinds(self) -> list[tuple[Node, ...]]:
+        return [*self.function.nodes[1:], *self.more]
+
+    def place(self) -> Call:
+        return self.function.place(self.more)
+
+    def names(self) -> list[str]:
+        named = self.function.names
+        return [named[i] if i < len(named) and named[i] else f"argument {i}" for i in range(len(self.kinds))]
+
+
+def one_of(found: Sequence[headers.Function], where: str) -> headers.Function:
+    """The last function, where it is read."""
+    if not found:
+        raise gdb.GdbError(f"not declared in {where}")
+    if not found[-1].is_read:
+        raise gdb.GdbError(f"{found[-1].name}: {found[-1].reason}")
+    return found[-1]
+
+
+def compiler_of(target: str, flags: Sequence[str]) -> headers.Compiler:
+    """The target's compiler with more words. What it has otherwise than the target's own is told."""
+    own = headers.compiler_for(target)
+    if own.note:
+        print(f"note: {own.note}")
+    return headers.Compiler(target, (*own.words, *flags), own.note)
+
+
+def of_text(compiler: headers.Compiler, text: str) -> headers.Function:
+    """The last function that a text in C declares, as a compiler reads it."""
+    with tempfile.NamedTemporaryFile("w", suffix=".h") as file:
+        file.write(text.strip().rstrip(";") + ";\n")
+        file.flush()
+        found = headers.read(file.name, compiler=compiler, is_wanted=lambda chunk: chunk.file == file.name)
+    return one_of(found, "this text")
+
+
+def prototype_of(target: str, text: str) -> Prototype:
+    """What the words of a command name: a prototype, or a function in a header, with types for the dots perhaps."""
+    try:
+        asked_for = re.fullmatch(r"\s*(\w+)\s+in\s+([^:]*)(?::(.*))?", text)
+        if not asked_for:
+            return Prototype(of_text(compiler_of(target, ()), text), ())
+        name, (path, *flags), more = asked_for[1], asked_for[2].split(), asked_for[3]
+        compiler = compiler_of(target, flags)
+        function = one_of(headers.read(path, compiler=compiler, names=[name]), path)
+        if not more:
+            return Prototype(function, ())
+        included = f'"{Path(path).resolve()}"' if Path(path).exists() else f"<{path}>"
+        given = of_text(compiler, f"#include {included}\nvoid ffi3_more({more})")
+        return Prototype(function, given.nodes[1:])
+    except headers.Failed as failed:
+        raise gdb.GdbError(str(failed)) from None
+
+
+# ---- values
+
+def text_of(nodes: Sequence[Node], name: str = "") -> tuple[str, int]:
+    """A declaration in C of what the nodes from the front are, and how many they are. The library reads arguments by a
+    text alone."""
+    first = nodes[0]
+    kind, count = (first, 0) if isinstance(first, str) else first
+    if kind == "struct":
+        members, used = [], 1
+        for i in range(count):
+            text, more = text_of(nodes[used:], f"m{i}")
+            members.append(f"{text};")
+            used += more
+        return f"struct {{ {' '.join(members)} }} {name}", used
+    if kind == "array":
+        text, used = text_of(nodes[1:], f"{name}[{count}]")
+        return text, used + 1
+    if kind.startswith("complex "):
+        real = kind.removeprefix("complex ")
+        return f"struct {{ {real} re; {real} im; }} {name}", 1
+    found = re.fullmatch(r"([us])int(\d+)", kind)
+    if found and found[2] == "128":
+        return f"{'unsigned ' * (found[1] == 'u')}__int128 {name}", 1
+    plain = f"{'u' * (found[1] == 'u')}int{found[2]}_t" if found else {"pointer": "void *"}.get(kind, kind)
+    return f"{plain} {name}", 1
+
+
+def declaration_of(prototype: Prototype) -> str:
+    """The function of a prototype with its named arguments, in the words that the library reads."""
+    function = prototype.function
+    result, _ = text_of(function.nodes[0], "f")
+    given = [text_of(kind)[0] for kind in function.nodes[1:]]
+    return f"{result}({', '.join([*given, *['...'] * function.is_variadic] or ['void'])})"
+
+
+def registers(stop: Stop, call: Call) -> dict[str, int]:
+    """The registers that a call's places name."""
+    return {piece.place: stop.register(piece.place) for piece in call.pieces if piece.place != "stack"}
+
+
+def first_argument(stop: Stop) -> int:
+    """How far above sp stack arguments begin at an entry: behind the return address, where that is on the stack."""
+    return 0 if stop.machine.link else 8
+
+
+def named_arguments(stop: Stop, prototype: Prototype) -> list[tuple[Scalar, ...]]:
+    """The named arguments by ffi3_arguments.
+
+    It reads the stack alone. So where it says that an argument is at an address elsewhere, the bytes there are put
+    behind the stack's, the place of the address has theirs, and it is asked again."""
+    call, text = prototype.function.place(), declaration_of(prototype)
+    held, sp, stack = registers(stop, call), stop.register("sp"), bytearray(stop.stack())
+    addresses = {piece.part: piece for piece in call.pieces[:call.passed] if piece.is_address}
+    while True:
+        try:
+            return library.arguments(stop.machine.target, text, held, sp, bytes(stack))
+        except library.NotInStack as missing:
+            size = prototype.function.layout(missing.argument).size
+            stack += bytes(-len(stack) % 16)
+            at = sp + len(stack)
+            stack += read_or_say(stop, missing.address, size, f"argument {missing.argument}")
+            piece = addresses.pop(missing.argument)
+            if piece.place == "stack":
+                start = first_argument(stop) + piece.number
+                stack[start:start + 8] = (at & WORD).to_bytes(8, "little")
+            else:
+                held[piece.place] = at & WORD
+
+
+def read_or_say(stop: Stop, at: int, size: int, what: str) -> bytes:
+    """Memory to which a reference leads."""
+    try:
+        return stop.memory(at, size)
+    except gdb.MemoryError:
+        raise gdb.GdbError(f"{what} is passed by the address {at:#x}, where no memory is") from None
+
+
+def by_pieces(stop: Stop, pieces: Sequence[Piece], kind: Type) -> tuple[Scalar, ...]:
+    """A value from its pieces, as place_nodes tells them: what stands for dots, and results, no call of the library
+    reads."""
+    held = bytearray(kind.size)
+    sp = stop.register("sp") + first_argument(stop)
+    for piece in pieces:
+        found = (stop.memory(sp + piece.number, 8 if piece.is_address else piece.length) if piece.place == "stack"
+                 else stop.register(piece.place).to_bytes(8, "little"))
+        if piece.is_address:
+            return library.scalars(kind.leaves, read_or_say(stop, int.from_bytes(found, "little"), kind.size, "it"))
+        held[piece.offset:piece.offset + piece.length] = found[:piece.length]
+    return library.scalars(kind.leaves, bytes(held))
+
+
+def all_arguments(stop: Stop, prototype: Prototype) -> Iterator[tuple[str, Type, tuple[Scalar, ...]]]:
+    """Each argument's name, type and scalars."""
+    call, named = prototype.place(), named_arguments(stop, prototype)
+    for i, (name, nodes) in enumerate(zip(prototype.names(), prototype.kinds)):
+        kind = library.layout_nodes(nodes)
+        value = named[i] if i < len(named) else by_pieces(stop, [each for each in call.pieces if each.part == i], kind)
+        yield name, kind, value
+
+
+def shown(kind: Type, value: tuple[Scalar, ...]) -> str:
+    """The scalars of a value: a pointer with the text to which it points, if any."""
+    texts = [pointed(scalar) if name == "pointer" else repr(scalar) if isinstance(scalar, float) else str(scalar)
+             for (_, name), scalar in zip(kind.leaves, value)]
+    return f"{{{', '.join(texts)}}}" if kind.offsets else texts[0]
+
+
+def pointed(address: int) -> str:
+    """A pointer, with the text that stands there, if any."""
+    count = min(24, PAGE - address % PAGE)
+    try:
+        held = gdb.selected_inferior().read_memory(address, count).tobytes() if address else b""
+    except gdb.MemoryError:
+        held = b""
+    words = held.split(b"\0")[0]
+    is_text = len(words) > 1 and all(32 <= each < 127 for each in words)
+    return f"{address:#x}{f' {words.decode()!r}' if is_text else ''}"
+
+
+# ---- commands
+
+class Arguments(gdb.Command):
+    """Prints the arguments that a function was called with, at its first instruction.
+
+ffi3-args PROTOTYPE
+ffi3-args NAME in HEADER [COMPILER'S FLAGS] [: TYPE, TYPE..]
+
+The types behind the colon are those of what stands in the place of the dots. A note says where the stop is not at an
+entry, or the function is local, so that its caller may have passed something else.
+
+    break *(long)&deflateInit2_                 its first instruction, where `break deflateInit2_` may be behind it
+    run
+    ffi3-args deflateInit2_ in zlib.h
+    ffi3-args SDL_RenderCopyF in SDL.h -I/usr/include/SDL2
+    ffi3-args printf in stdio.h : int, double
+    ffi3-args double weigh(struct { int id; float weight; } item, const char *label, double scale)
+    ffi3-args typedef enum { OFF, ON } state; void set(state now, char label[8])"""
+
+    def __init__(self):
+        super().__init__("ffi3-args", gdb.COMMAND_DATA)
+
+    def invoke(self, text: str, from_tty: bool) -> None:
+        stop = Stop.now()
+        try:
+            told = list(all_arguments(stop, prototype_of(stop.machine.target, text)))
+        except (library.Error, LookupError) as error:
+            raise gdb.GdbError(str(error)) from None
+        for doubt in doubts(stop):
+            print(f"note: {doubt}")
+        for name, kind, value in told:
+            print(f"{name} = {shown(kind, value)}")
+
+
+class Result(gdb.Command):
+    """Prints what a function gave back, where it has just returned, as behind `finish`.
+
+ffi3-result PROTOTYPE
+ffi3-result NAME in HEADER [COMPILER'S FLAGS]
+
+    finish
+    ffi3-result deflateInit2_ in zlib.h
+
+A large struct is read through the address that comes back; by AAPCS64 none does."""
+
+    def __init__(self):
+        super().__init__("ffi3-result", gdb.COMMAND_DATA)
+
+    def invoke(self, text: str, from_tty: bool) -> None:
+        stop = Stop.now()
+        function = prototype_of(stop.machine.target, text).function
+        kind, call = function.layout(RESULT), function.place()
+        pieces = call.pieces[call.passed:]
+        if not is_behind_a_call(stop, stop.frame.pc()):
+            print("note: no call stands before the instruction at which it stopped: no function may have returned here")
+        if not kind.leaves:
+            print("nothing comes back")
+        elif not pieces:
+            raise gdb.GdbError("the result is in a buffer of the caller, whose address the standard does not give back")
+        else:
+            print(f"{function.name} = {shown(kind, by_pieces(stop, pieces, kind))}")
+
+
+Arguments()
+Result()

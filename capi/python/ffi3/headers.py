@@ -1,0 +1,740 @@
+"""Reads the C headers that a compiler reads, and tells each function's types to the library as data.
+
+    from ffi3 import headers
+    for function in headers.read("zlib.h", "riscv"):
+        print(function.declaration, function.place() if function.is_read else function.reason)
+
+The compiler preprocesses, pycparser parses, and the compiler is asked for every number: sizes, signs, offsets, counts
+of arrays, by one compilation to assembly, so that a cross compiler answers as well and nothing is run. So a typedef, an
+enum, `char`, `wchar_t` or `long` is what the target's compiler takes it for. Where a struct's offsets are not the
+natural ones, as those of a packed one, the library says so (check_layout), and the function is not read. Each function
+that is not read has a reason.
+"""
+
+import copy
+import os
+import re
+import shlex
+import shutil
+import subprocess
+import tempfile
+from collections.abc import Callable, Iterable, Iterator, Mapping, Sequence
+from dataclasses import dataclass, field
+from itertools import chain
+from pathlib import Path
+
+from pycparser import c_ast, c_generator, c_parser
+
+from . import library
+from .library import Call, Node
+
+COMPILERS = {"amd64": "gcc", "aapcs64": "aarch64-linux-gnu-gcc", "riscv": "riscv64-linux-gnu-gcc",
+             "win64": "x86_64-w64-mingw32-gcc"}
+# What a compiler defines on each target.
+TARGET_OF = {("__x86_64__", "_WIN32"): "win64", ("__x86_64__",): "amd64", ("__aarch64__", "__APPLE__"): "apple",
+             ("__aarch64__",): "aapcs64", ("__riscv", "__LP64__"): "riscv"}
+
+
+class Failed(Exception):
+    """What the compiler says where it reads nothing at all."""
+
+
+class Refused(Exception):
+    """Why a function is not read."""
+
+
+# ---- the text, cut at the top level
+
+TOKEN = re.compile(r"""
+    (?P<directive>^[ \t]*\#[^\n]*$) | (?P<comment>/\*.*?\*/|//[^\n]*) | (?P<blank>\s+) | (?P<word>[A-Za-z_$][\w$]*)
+  | (?P<text>L?"(?:\\.|[^"\\])*"|L?'(?:\\.|[^'\\])*') | (?P<number>\.?\d(?:[eEpP][+-]|[\w.])*)
+  | (?P<mark>\.\.\.|<<=?|>>=?|[-+&|<>=!]=|->|&&|\|\||\+\+|--|.)
+    """, re.M | re.S | re.X)
+MARKER = re.compile(r'\s*#\s*(?:line\s+)?(\d+)\s+"(.*?)"([ \d]*)')
+PRAGMA = re.compile(r"^[ \t]*#[ \t]*pragma[ \t]+(pack|options|ms_struct)|__pragma|_Pragma", re.M)
+LAYS_OUT = {"__attribute__", "__attribute", "__declspec", "_Alignas", "alignas"}
+WITH_BRACKETS = {"__attribute__", "__attribute", "__asm__", "__asm", "asm", "__declspec"}
+LEFT_OUT = {"__extension__", "__restrict", "__restrict__", "__inline", "__inline__", "__forceinline", "__thread",
+            "_Noreturn", "__noreturn__", "__cdecl", "__stdcall", "__unaligned"}
+# GNU C's words as words of C. Reals of 16 and of 128 bits are read as little as a long double.
+INSTEAD = {"__const": "const", "__const__": "const", "__volatile__": "volatile", "__volatile": "volatile",
+           "__signed__": "signed", "__signed": "signed", "__complex__": "_Complex", "__alignof__": "_Alignof",
+           "_Float32": "float", "_Float64": "double", "_Float32x": "double", "_Float64x": "long double",
+           "_Float16": "long double", "_Float128": "long double", "__float128": "long double",
+           "__int8": "char", "__int16": "short", "__int32": "int", "__int64": "long long"}
+TRANSPARENT = {"transparent_union", "__transparent_union__"}
+OPEN, CLOSE = "([{", ")]}"
+AT_ONCE = 200  # so many chunks are parsed together
+BUILT_IN = ("typedef struct __ffi3_va_list __builtin_va_list; typedef __int128 __int128_t; "
+            "typedef unsigned __int128 __uint128_t;")
+
+
+@dataclass
+class Chunk:
+    """What stands at the top level up to a semicolon or a function's body: its first and last line, and its tokens as
+    they stand and as pycparser reads them. Its owner is its file, or who includes that where it is of glibc's bits/."""
+
+    file: str
+    owner: str
+    first: int
+    last: int
+    raw: list[str]
+    words: list[str]
+
+    def is_function(self) -> bool:
+        """Whether it may declare functions, and no type that others need."""
+        return "(" in self.words and "{" not in self.words and self.words[0] != "typedef"
+
+
+def tokens(text: str) -> Iterator[tuple[str, str, list[str], int]]:
+    """The tokens but blanks: kind, text, the files that are open, from the outermost, and the line."""
+    files, line = [""], 1
+    for match in TOKEN.finditer(text):
+        if match.lastgroup == "directive":
+            if marker := MARKER.match(match[0]):
+                flags, line = marker[3].split(), int(marker[1]) - 1
+                outer = files if "1" in flags else files[:-2] if "2" in flags else files[:-1]
+                files = [*outer, marker[2]]
+        elif match.lastgroup != "blank":
+            yield match.lastgroup, match[0], files, line
+        line += match[0].count("\n")
+
+
+def past_brackets(listed: Sequence[tuple], at: int) -> int:
+    """The token behind the brackets that open at a token."""
+    depth = 0
+    while at < len(listed):
+        depth += (listed[at][1] in OPEN) - (listed[at][1] in CLOSE)
+        at += 1
+        if depth == 0:
+            break
+    return at
+
+
+def chunks(text: str) -> Iterator[Chunk]:
+    """The chunks of a preprocessed text. A function's body is left out, and so is what pycparser has no word for."""
+    listed, at, depth, chunk = list(tokens(text)), 0, 0, None
+    while at < len(listed):
+        kind, word, files, line = listed[at]
+        if chunk is None:
+            if kind == "comment":
+                at += 1
+                continue
+            owner = next((file for file in reversed(files) if "/bits/" not in file), files[-1])
+            chunk, depth = Chunk(files[-1], owner, line, line, [], []), 0
+        until = at + 1
+        if word in WITH_BRACKETS:
+            while until < len(listed) and listed[until][1] in ("volatile", "__volatile__", "goto"):
+                until += 1
+            until = past_brackets(listed, until)
+        elif word in ("__typeof__", "__typeof", "typeof"):
+            until = past_brackets(listed, until)
+            chunk.words += ["struct", "__ffi3_typeof"]
+        elif word == "{" and depth == 0 and chunk.words[-1:] == [")"] and "=" not in chunk.words:
+            at, until, word = past_brackets(listed, at) - 1, past_brackets(listed, at), ";"
+            chunk.words.append(word)
+        elif kind != "comment" and word not in LEFT_OUT:
+            depth += (word in OPEN) - (word in CLOSE)
+            chunk.words += INSTEAD.get(word, word).split()
+        chunk.raw += [";"] if word == ";" else [each[1] for each in listed[at:until]]
+        chunk.last = listed[until - 1][3]
+        at = until
+        if word == ";" and depth == 0:
+            yield chunk
+            chunk = None
+
+
+def parsed(found: Sequence[Chunk]) -> tuple[list[tuple[Chunk, c_ast.Node]], list[Chunk]]:
+    """The declarations that pycparser finds, each with its chunk, and the chunks that it cannot parse."""
+    parser, typedefs, declared, left_out = c_parser.CParser(), set(), [], []
+    for start in range(0, len(found), AT_ONCE):
+        here, unparsed = parsed_at_once(parser, found[start:start + AT_ONCE], typedefs)
+        typedefs |= {node.name for _, node in here if isinstance(node, c_ast.Typedef)}
+        declared += here
+        left_out += unparsed
+    return declared, left_out
+
+
+def parsed_at_once(parser: c_parser.CParser, found: Sequence[Chunk],
+                   typedefs: set[str]) -> tuple[list[tuple[Chunk, c_ast.Node]], list[Chunk]]:
+    """The same of some chunks, in front of which these names are those of types. What it cannot parse is left out, and
+    the others are given to it again."""
+    left_out = set()
+    while True:
+        kept = [[] if i in left_out else chunk.words for i, chunk in enumerate(found)]
+        known = sorted(typedefs.intersection(chain.from_iterable(kept)))
+        lines = [" ".join([BUILT_IN, *(f"typedef int {name};" for name in known)]), *map(" ".join, kept)]
+        try:
+            tree = parser.parse("\n".join(lines))
+            declared = [(found[node.coord.line - 2], node) for node in tree.ext if node.coord.line > 1]
+            return declared, [found[i] for i in sorted(left_out)]
+        except c_parser.ParseError as error:
+            number = int(re.match(r":?(\d+)", str(error))[1]) - 2
+            if number in left_out or number < 0:
+                raise Failed(f"pycparser: {error}") from None
+            left_out.add(number)
+
+
+# ---- types: each knows what to ask the compiler, by an expression of this type, and its nodes by the answers
+
+Answers = Mapping[str, int]
+INTEGERS = {(size, is_signed): f"{'us'[is_signed]}int{8 * size}"
+            for size in (1, 2, 4, 8, 16) for is_signed in (0, 1)}
+REALS = {"float": 4, "double": 8}
+
+
+def size(value: str) -> str:
+    """A question: the size of an expression's type."""
+    return f"sizeof({value})"
+
+
+def sign(value: str) -> str:
+    """Whether it has a sign: a question that a compiler refuses of what is neither integer nor real."""
+    return f"((__typeof__({value}))-1 < 0)"
+
+
+def align(value: str) -> str:
+    """Its alignment."""
+    return f"_Alignof(__typeof__({value}))"
+
+
+def answered(answers: Answers, question: str) -> int:
+    """The answer that a type must have to stand by value."""
+    if question not in answers:
+        raise Refused("a type without a size")
+    return answers[question]
+
+
+@dataclass(frozen=True)
+class Kind:
+    """A type that stands by value at an expression."""
+
+    value: str
+
+    def questions(self) -> list[str]:
+        return [size(self.value)]
+
+    def nodes(self, answers: Answers) -> tuple[Node, ...]:
+        raise NotImplementedError
+
+
+@dataclass(frozen=True)
+class Integer(Kind):
+    def questions(self) -> list[str]:
+        return [size(self.value), sign(self.value)]
+
+    def nodes(self, answers: Answers) -> tuple[Node, ...]:
+        return (INTEGERS.get((answered(answers, size(self.value)), answers.get(sign(self.value))), "vector"),)
+
+
+@dataclass(frozen=True)
+class Real(Kind):
+    words: str
+
+    def questions(self) -> list[str]:
+        return [size(self.value), sign(self.value)]
+
+    def nodes(self, answers: Answers) -> tuple[Node, ...]:
+        of_bytes = answered(answers, size(self.value))
+        name = "double" if self.words == "long double" and of_bytes == 8 else self.words
+        return (name if REALS.get(name, of_bytes) == of_bytes and sign(self.value) in answers else "vector",)
+
+
+@dataclass(frozen=True)
+class Complex(Kind):
+    words: str
+
+    def nodes(self, answers: Answers) -> tuple[Node, ...]:
+        of_bytes = answered(answers, size(self.value))
+        name = "double" if self.words == "long double" and of_bytes == 16 else self.words
+        return (f"complex {name}" if 2 * REALS.get(name, of_bytes / 2) == of_bytes else "vector",)
+
+
+@dataclass(frozen=True)
+class Pointer(Kind):
+    def questions(self) -> list[str]:
+        return []
+
+    def nodes(self, answers: Answers) -> tuple[Node, ...]:
+        return ("pointer",)
+
+
+@dataclass(frozen=True)
+class VaList(Kind):
+    """A pointer where it has 8 bytes, or is an array; to AAPCS64 a struct of 32 bytes (10.1.5)."""
+
+    def nodes(self, answers: Answers) -> tuple[Node, ...]:
+        if answers.get(size(self.value)) == 32:
+            return (("struct", 5), *["pointer"] * 3, *["sint32"] * 2)
+        return ("pointer",)
+
+
+@dataclass(frozen=True)
+class Array(Kind):
+    element: Kind
+
+    def questions(self) -> list[str]:
+        return [size(self.value), size(f"{self.value}[0]"), *self.element.questions()]
+
+    def count(self, answers: Answers) -> int:
+        one = answered(answers, size(f"{self.value}[0]"))
+        return answered(answers, size(self.value)) // one if one else 0
+
+    def nodes(self, answers: Answers) -> tuple[Node, ...]:
+        count = self.count(answers)
+        if count >= 1 << 32:  # more than a node can say
+            raise Refused(f"too large: {answered(answers, size(self.value))}")
+        return (("array", count), *self.element.nodes(answers))
+
+
+@dataclass(frozen=True)
+class Struct(Kind):
+    """A struct. One without a name in a struct has no expression: its members are also those of the struct around it,
+    whose offsets they have."""
+
+    members: tuple[tuple[str, Kind], ...]  # pairs: the name, or nothing for a struct without one, and the type
+
+    def names(self) -> list[str]:
+        return [each for name, kind in self.members for each in ([name] if name else kind.names())]
+
+    def offset(self, name: str) -> str:
+        return f"__builtin_offsetof(__typeof__({self.value}), {name})"
+
+    def questions(self) -> list[str]:
+        own = [size(self.value), align(self.value), *map(self.offset, self.names())] if self.value else []
+        return own + [each for _, kind in self.members for each in kind.questions()]
+
+    def nodes(self, answers: Answers) -> tuple[Node, ...]:
+        nodes = (("struct", len(self.members)), *chain.from_iterable(kind.nodes(answers) for _, kind in self.members))
+        if self.value:
+            offsets = {name: answered(answers, self.offset(name)) for name in self.names()}
+            whole = answered(answers, size(self.value)), answered(answers, align(self.value))
+            self.check(nodes, answers, offsets, *whole)
+        return nodes
+
+    def check(self, nodes: Sequence[Node], answers: Answers, offsets: Mapping[str, int], of_bytes: int, alignment: int):
+        """That it is laid out as its types say, and so is each struct without a name in it."""
+        starts = [offsets[name or kind.names()[0]] for name, kind in self.members]
+        try:
+            library.check_layout(nodes, of_bytes, alignment, [at - starts[0] for at in starts])
+        except library.Error as error:
+            if error.kind != library.LAID_OUT_OTHERWISE:
+                raise
+            name = self.members[error.number][0] if error.number < len(self.members) else ""
+            raise Refused(f"a packed or aligned struct{': ' * bool(name)}{name}") from None
+        for name, kind in self.members:
+            if not name:
+                inner = kind.nodes(answers)
+                natural = library.layout_nodes(inner)
+                kind.check(inner, answers, offsets, natural.size, natural.align)
+
+
+# ---- from what pycparser found to types
+
+class Definitions(c_ast.NodeVisitor):
+    """The typedefs by name, and the structs and unions by tag."""
+
+    def __init__(self, nodes: Iterable[c_ast.Node], transparent: set[str]):
+        self.typedefs: dict[str, c_ast.Node] = {}
+        self.tags: dict[str, c_ast.Node] = {}
+        self.transparent = transparent
+        for node in nodes:
+            self.visit(node)
+
+    def visit_Typedef(self, node):
+        self.typedefs[node.name] = node.type
+        self.generic_visit(node)
+
+    def visit_Struct(self, node):
+        if node.decls is not None and node.name:
+            self.tags[node.name] = node
+        self.generic_visit(node)
+
+    visit_Union = visit_Struct
+
+    def members(self, node: c_ast.Struct, value: str) -> Iterator[tuple[str, Kind]]:
+        node = node if node.decls is not None else self.tags.get(node.name, node)
+        if node.decls is None:
+            raise Refused(f"a struct without members here: {node.name}")
+        for member in node.decls:
+            if isinstance(member, c_ast.Pragma):
+                continue
+            if member.bitsize is not None:
+                raise Refused("a bit-field")
+            if member.name:
+                yield member.name, self.read(member.type, f"{value}.{member.name}")
+            elif isinstance(member.type, c_ast.Struct):
+                yield "", Struct("", self.some_members(member.type, value))
+            else:
+                raise Refused("a union by value")
+
+    def some_members(self, node: c_ast.Struct, value: str) -> tuple[tuple[str, Kind], ...]:
+        found = tuple(self.members(node, value))
+        if not found:
+            raise Refused("an empty struct")
+        return found
+
+    def read(self, node: c_ast.Node, value: str) -> Kind:
+        """The type of a node, value being an expression of this type."""
+        match node:
+            case c_ast.PtrDecl():
+                return Pointer(value)
+            case c_ast.ArrayDecl() if node.dim is None:
+                raise Refused("a flexible array")
+            case c_ast.ArrayDecl():
+                return Array(value, self.read(node.type, f"{value}[0]"))
+            case c_ast.FuncDecl():
+                raise Refused("a function by value")
+            case c_ast.Enum():
+                return Integer(value)
+            case c_ast.Union():
+                raise Refused("a union by value")
+            case c_ast.Struct():
+                return Struct(value, self.some_members(node, value))
+            case c_ast.IdentifierType():
+                return self.by_words(node.names, value)
+        return self.read(node.type, value)
+
+    def by_words(self, names: list[str], value: str) -> Kind:
+        words = set(names)
+        if names == ["__builtin_va_list"]:
+            return VaList(value)
+        if len(names) == 1 and names[0] in self.typedefs:
+            return self.read(self.typedefs[names[0]], value)
+        if words & {"float", "double"}:
+            real = "float" if "float" in words else "long double" if "long" in words else "double"
+            return Complex(value, real) if "_Complex" in words else Real(value, real)
+        if "_Complex" in words:
+            raise Refused("a complex integer")
+        return Integer(value)
+
+    def parameter(self, node: c_ast.Node, is_plain: bool) -> Kind:
+        """The type of a parameter: an array and a function are pointers (C11 6.7.6.3), and a union that an attribute
+        makes transparent is passed as its first member."""
+        meant = self.behind(node)
+        if isinstance(meant, (c_ast.ArrayDecl, c_ast.FuncDecl)):
+            return Pointer("")
+        if isinstance(getattr(meant, "type", None), c_ast.Union) and meant.declname in self.transparent:
+            first = meant.type.decls[0]
+            return self.read(first.type, f"{value_of(node, is_plain)}.{first.name}")
+        return self.read(node, value_of(node, is_plain))
+
+    def behind(self, node: c_ast.Node) -> c_ast.Node:
+        """What a typedef name stands for; the node itself where it is none."""
+        while isinstance(node, c_ast.TypeDecl) and isinstance(node.type, c_ast.IdentifierType):
+            name = node.type.names[0]
+            if name not in self.typedefs or name == "__builtin_va_list":
+                break
+            node = self.typedefs[name]
+        return node
+
+    def is_void(self, node: c_ast.Node) -> bool:
+        node = self.behind(node)
+        return isinstance(node, c_ast.TypeDecl) and getattr(node.type, "names", None) == ["void"]
+
+
+def spelled(node: c_ast.Node, is_plain: bool = False) -> str:
+    """The type of a parameter or result in C. A struct or an enum that is written out there has no name, and can be
+    written once more only where no attribute or pragma says how it is laid out."""
+    kind = node.type
+    if isinstance(kind, c_ast.IdentifierType):
+        return " ".join(kind.names)
+    if kind.name:
+        return f"{type(kind).__name__.lower()} {kind.name}"
+    if not is_plain:
+        raise Refused("a struct or an enum without a tag")
+    return " ".join(c_generator.CGenerator().visit(kind).split())
+
+
+def value_of(node: c_ast.Node, is_plain: bool) -> str:
+    """An expression of the type of a parameter or result; none for a pointer, which is asked nothing."""
+    return "" if isinstance(node, c_ast.PtrDecl) else f"(*({spelled(node, is_plain)} *)0)"
+
+
+# ---- functions
+
+@dataclass
+class Function:
+    """A function of a header, as a target's compiler has it: its nodes, or the reason why there are none."""
+
+    name: str
+    target: str
+    chunk: Chunk = field(repr=False)
+    node: c_ast.Node | None = field(default=None, repr=False)
+    prototype: c_ast.FuncDecl | None = field(default=None, repr=False)
+    result: Kind | None = field(default=None, repr=False)
+    arguments: tuple[Kind, ...] = field(default=(), repr=False)
+    names: tuple[str, ...] = ()
+    is_variadic: bool = False
+    nodes: tuple[tuple[Node, ...], ...] = ()
+    reason: str = ""
+
+    @property
+    def is_read(self) -> bool:
+        return not self.reason
+
+    @property
+    def declaration(self) -> str:
+        """The function's declaration as the header has it, without attributes and storage."""
+        if self.node is None:
+            return " ".join(self.chunk.words).rstrip(" ;")
+        plain = copy.copy(self.node)
+        plain.storage, plain.funcspec, plain.init = [], [], None
+        return " ".join(c_generator.CGenerator().visit(plain).split())
+
+    @property
+    def fixed(self) -> int | None:
+        """Of a variadic function how many arguments are named."""
+        return len(self.arguments) if self.is_variadic else None
+
+    def place(self, more: Sequence[Sequence[Node]] = ()) -> Call:
+        """Where everything stands in a call, more types standing in the place of the dots of a variadic function."""
+        return library.place_nodes(self.target, chain(*self.nodes, *more), self.fixed)
+
+    def layout(self, part: library.Part) -> library.Type:
+        """The layout of an argument, or of the result."""
+        return library.layout_nodes(self.nodes[0 if part == library.RESULT else part + 1])
+
+    def types(self) -> list[Kind]:
+        return [kind for kind in (self.result, *self.arguments) if kind]
+
+    def understand(self, definitions: Definitions, has_pragma: bool) -> None:
+        """Finds the types, or the reason; has_pragma says that some pragma may have laid out structs."""
+        is_plain = not has_pragma and LAYS_OUT.isdisjoint(self.chunk.raw)
+        self.prototype = node = definitions.behind(self.node.type)
+        listed = node.args.params if node.args else []
+        self.is_variadic = bool(listed) and isinstance(listed[-1], c_ast.EllipsisParam)
+        listed = listed[:-1] if self.is_variadic else listed
+        try:
+            if not listed:
+                raise Refused("no prototype")
+            if len(listed) == 1 and definitions.is_void(listed[0].type):
+                listed = []
+            self.names = tuple(getattr(each, "name", None) or "" for each in listed)
+            if not definitions.is_void(node.type):
+                self.result = definitions.read(node.type, value_of(node.type, is_plain))
+            self.arguments = tuple(definitions.parameter(each.type, is_plain) for each in listed)
+        except Refused as refused:
+            self.reason = str(refused)
+
+    def tell(self, answers: Answers) -> None:
+        """Finds the nodes by the compiler's answers, or the reason; the library is asked whether it places them."""
+        try:
+            result = self.result.nodes(answers) if self.result else ("void",)
+            self.nodes = (result, *(kind.nodes(answers) for kind in self.arguments))
+            self.place()
+        except Refused as refused:
+            self.reason = str(refused)
+        except library.Error as error:
+            wider = ", or a real of 16 or 128 bits" * (error.kind == library.LEFT_OUT_LONG_DOUBLE)
+            self.reason = f"{error}{wider}"
+
+
+# ---- the compiler
+
+@dataclass(frozen=True)
+class Compiler:
+    """A compiler with its words, of a target. A note says in what it may differ from that target's own."""
+
+    target: str
+    words: tuple[str, ...]
+    note: str = ""
+
+
+def run(*words, **more) -> subprocess.CompletedProcess:
+    """What a program says; Failed where it does not start."""
+    # (a header may have bytes that are no UTF-8 in its comments and texts)
+    try:
+        return subprocess.run([str(word) for word in words], capture_output=True, encoding="utf-8",
+                              errors="surrogateescape", **more)
+    except OSError as error:
+        raise Failed(f"{words[0]}: {error.strerror}") from None
+
+
+def target_of(words: Sequence[str]) -> str:
+    """The target that a compiler makes code for, by what it defines."""
+    made = run(*words, "-dM", "-E", "-x", "c", os.devnull)
+    defined = set(re.findall(r"^#define (\w+)", made.stdout, re.M))
+    found = [target for names, target in TARGET_OF.items() if defined.issuperset(names)]
+    if made.returncode or not found:
+        raise Failed(made.stderr.strip() or f"{words[0]} makes code for none of {', '.join(library.TARGETS)}")
+    return found[0]
+
+
+def compiler_for(target: str | None = None, cc: str | None = None, folders: Iterable[str] = (),
+                 defined: Iterable[str] = ()) -> Compiler:
+    """The compiler of a target, or the one that is named, with folders of headers and macros.
+
+    Without a target it is that of the compiler's code. Where a target's compiler is not found gcc is taken, and the
+    note says so. Raises Failed where the compiler does not start, or makes code for no target, and where a target has
+    none here."""
+    if not cc and target and target not in COMPILERS:
+        raise Failed(f"{target} has no compiler here: one is named with --cc")
+    words, note = shlex.split(cc or COMPILERS[target or "amd64"]), ""
+    if not cc and not shutil.which(words[0]):
+        note = f"{words[0]} is not found: on {target} char, long, wchar_t and va_list are as gcc has them here"
+        words = ["gcc"]
+    target = target or target_of(words)
+    # What a cross compiler has no headers for is taken from the host's, behind its own.
+    behind = ["-idirafter", "/usr/include", "-idirafter", "/usr/include/x86_64-linux-gnu"]
+    words += [*(f"-I{folder}" for folder in folders), *(f"-D{name}" for name in defined),
+              *behind * (not cc and target != "amd64")]
+    return Compiler(target, tuple(words), note)
+
+
+def preprocessed(compiler: Compiler, headers: Iterable[str], more: Iterable[str] = ()) -> str:
+    """Headers as the compiler's preprocessor leaves them: those of files that are there, and else of its folders."""
+    text = "".join(f'#include "{Path(header).resolve()}"\n' if Path(header).exists() else f"#include <{header}>\n"
+                   for header in headers)
+    made = run(*compiler.words, "-E", *more, "-x", "c", "-", input=text)
+    if made.returncode:
+        raise Failed(made.stderr.strip())
+    return made.stdout
+
+
+DIGITS = 7  # of ten bits each
+
+
+def asking(i: int, question: str) -> str:
+    """A function by which a compiler writes the value of a constant expression into its assembly, the lowest of seven
+    digits first. Each has ten bits: gcc writes no larger constant for RISC-V. A second constant divides by 0 where the
+    first is not the value: a compiler for Windows has enums of 32 bits alone."""
+    digits = ", ".join(f'"i" ((unsigned long long)n >> {10 * k} & 1023)' for k in range(DIGITS))
+    marks = " ".join(f"%c{k}" for k in range(DIGITS))
+    return (f'void ffi3_{i}(void) {{ enum {{ n = ({question}), m = 1 / (n == ({question})) }}; '
+            f'__asm__(".ascii \\"@@ {i} {marks} @@\\"" : : {digits}); }}')
+
+
+def answers_of(compiler: Compiler, text: str, questions: Iterable[str]) -> dict[str, int]:
+    """The compiler's answers to constant expressions of natural numbers, none where it refuses the expression."""
+    listed = list(dict.fromkeys(questions))
+    with tempfile.TemporaryDirectory() as folder:
+        file, refused = Path(folder, "asked.c"), set()
+        while True:
+            numbers = [i for i in range(len(listed)) if i not in refused]
+            asked = [asking(i, listed[i]) for i in numbers]
+            file.write_text("\n".join([text, '# 1 "asked"', *asked, ""]), "utf-8", "surrogateescape")
+            made = run(*compiler.words, "-x", "cpp-output", "-w", "-S", "-O0", "-o", "-", file)
+            if made.returncode == 0:
+                found = re.findall(r"@@ (\d+)((?: \d+)+) @@", made.stdout)
+                return {listed[int(i)]: sum(int(digit) << 10 * k for k, digit in enumerate(digits.split()))
+                        for i, digits in found}
+            wrong = {numbers[int(line) - 1] for line in re.findall(r"^asked:(\d+):\d+: error", made.stderr, re.M)}
+            if not wrong:
+                raise Failed(made.stderr.strip())
+            refused |= wrong
+
+
+# ---- a header as a whole
+
+Wanted = Callable[[Chunk], bool]
+
+
+def located(text: str, header: str) -> str:
+    """The file that a preprocessed text has for a header's name."""
+    files = [marker[2] for marker in map(MARKER.match, text.splitlines()) if marker]
+    return next((file for file in files if f"/{file}".endswith(f"/{header}")), header)
+
+
+def is_of(header: str, file: str) -> bool:
+    """Whether a file is the header, or a part of it: in the header's own folder, or in the folder that has its name."""
+    whole, part = Path(os.path.realpath(header)), Path(os.path.realpath(file))
+    folder = whole.parent
+    is_shared = folder.name == "include" or re.fullmatch(r"\w+-[\w-]*gnu\w*|sys", folder.name)
+    return part == whole or whole.with_suffix("") in part.parents or not is_shared and folder in part.parents
+
+
+def of_headers(text: str, headers: Iterable[str]) -> Wanted:
+    """The chunks that stand in these headers and in their parts."""
+    files = [located(text, header) for header in headers]
+    known: dict[str, bool] = {}
+
+    def is_wanted(chunk: Chunk) -> bool:
+        if chunk.owner not in known:
+            known[chunk.owner] = any(is_of(file, chunk.owner) for file in files)
+        return known[chunk.owner]
+
+    return is_wanted
+
+
+def names_function(chunk: Chunk, name: str) -> bool:
+    """Whether a chunk declares the function of this name."""
+    return any(word == name and behind in ("(", ")") for word, behind in zip(chunk.words, chunk.words[1:]))
+
+
+def functions_of(compiler: Compiler, text: str, is_wanted: Wanted) -> list[Function]:
+    """The functions that a preprocessed text declares in the chunks that are wanted."""
+    found = [chunk for chunk in chunks(text) if not chunk.is_function() or is_wanted(chunk)]
+    declared, left_out = parsed(found)
+    transparent = {chunk.words[-2] for chunk in found if TRANSPARENT & set(chunk.raw)}
+    definitions = Definitions([node for _, node in declared], transparent)
+    functions: dict[str, Function] = {}
+    for chunk, node in declared:
+        is_function = type(node) is c_ast.Decl and isinstance(definitions.behind(node.type), c_ast.FuncDecl)
+        if is_function and is_wanted(chunk):
+            functions.setdefault(node.name, Function(node.name, compiler.target, chunk, node))
+    has_pragma = PRAGMA.search(text) is not None
+    for function in functions.values():
+        function.understand(definitions, has_pragma)
+    for chunk in left_out:
+        if chunk.is_function():
+            name = chunk.words[chunk.words.index("(") - 1]
+            functions.setdefault(name, Function(name, compiler.target, chunk, reason="pycparser does not parse it"))
+    understood = [function for function in functions.values() if function.is_read]
+    answers = answers_of(compiler, text, (question for function in understood for kind in function.types()
+                                          for question in kind.questions()))
+    for function in understood:
+        function.tell(answers)
+    return list(functions.values())
+
+
+def read(headers: str | Sequence[str], target: str | None = None, *, compiler: Compiler | None = None,
+         names: Iterable[str] = (), is_wanted: Wanted | None = None) -> list[Function]:
+    """The functions that headers declare, those of these names if any are given, as a target's compiler has them.
+
+    What headers include is left out, unless is_wanted takes it. Raises Failed where the compiler reads nothing."""
+    listed = [headers] if isinstance(headers, str) else list(headers)
+    compiler, names = compiler or compiler_for(target), set(names)
+    text = preprocessed(compiler, listed)
+    if names:
+        found = functions_of(compiler, text, lambda chunk: not names.isdisjoint(chunk.words))
+        return [each for each in found if each.name in names]
+    return functions_of(compiler, text, is_wanted or of_headers(text, listed))
+
+
+# ---- a header on several targets
+
+@dataclass(frozen=True)
+class Entry:
+    """One function of a header on each target on which it is declared."""
+
+    name: str
+    by_target: dict[str, Function]
+
+    @property
+    def first(self) -> Function:
+        """The function on the first target on which it is read, or else declared."""
+        return next((each for each in self.by_target.values() if each.is_read), next(iter(self.by_target.values())))
+
+    @property
+    def is_read(self) -> bool:
+        return self.first.is_read
+
+    def reasons(self) -> dict[str, list[str]]:
+        """Why it is not read, and the targets of each reason."""
+        found: dict[str, list[str]] = {}
+        for target, function in self.by_target.items():
+            if not function.is_read:
+                found.setdefault(function.reason, []).append(target)
+        return found
+
+
+def survey(headers: str | Sequence[str], compilers: Iterable[Compiler], names: Iterable[str] = (),
+           is_wanted: Wanted | None = None, tell: Callable[[str], None] = lambda _: None) -> list[Entry]:
+    """The functions of headers as each of these compilers has them; tell is told of each target that is begun."""
+    found: dict[str, dict[str, Function]] = {}
+    for compiler in compilers:
+        tell(f"reads as {compiler.target}'s compiler does")
+        for function in read(headers, compiler=compiler, names=names, is_wanted=is_wanted):
+            found.setdefault(function.name, {})[compiler.target] = function
+    return [Entry(name, by_target) for name, by_target in found.items()]

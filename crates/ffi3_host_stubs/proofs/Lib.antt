@@ -1,0 +1,15 @@
+pub mod Standing
+pub mod Effects
+pub mod Memory
+pub mod Amd64Rows
+pub mod Amd64Segments
+pub mod Amd64Stubs
+pub mod Amd64Slot
+pub mod WordSegments
+pub mod Aarch64Rows
+pub mod Aarch64Stubs
+pub mod Aarch64Slot
+pub mod RiscvRows
+pub mod RiscvStubs
+pub mod RiscvSlot
+pub mod Laws

@@ -1,0 +1,8 @@
+use Rattle.std.proofs.Common.{refl, arith}
+use Rattle.ffi3_host_stubs.specs.Stubs.{host_bytes}
+use Rattle.ffi3_host_stubs.proofs.Amd64Stubs.{leaves}
+use Rattle.ffi3_host_stubs.proofs.amd64_exit.Goals as goal
+
+pub returns : goal.returns
+unfolding host_bytes
+returns c = record { bytes = refl; leaves = leaves 1 576 (omega arith) (λ e. omega (arith, e)) (omega arith) }

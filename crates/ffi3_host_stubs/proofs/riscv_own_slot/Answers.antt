@@ -1,0 +1,8 @@
+use Rattle.std.proofs.Common.{refl, arith}
+use Rattle.ffi3_host_stubs.specs.Slots.{slot_code}
+use Rattle.ffi3_host_stubs.proofs.RiscvSlot.{reaches}
+use Rattle.ffi3_host_stubs.proofs.riscv_own_slot.Goals as goal
+
+pub returns : goal.returns
+unfolding slot_code
+returns c = record { bytes = refl; reaches = reaches 0 refl (omega arith) }

@@ -1,0 +1,4 @@
+pub mod Processor
+pub mod Stubs
+pub mod Calls
+pub mod Slots

@@ -1,0 +1,62 @@
+/* The memory of the proved library while it answers: libffi/build has it call these in place of malloc, realloc and
+ * free. All that it takes for an answer it gives back with it. So one piece of memory is given out from its front, and
+ * is free again when the library is left; malloc serves where it is full. */
+#include "heap.h"
+#include "lock.h"
+#include <stdbool.h>
+#include <stdint.h>
+#include <stdlib.h>
+#include <string.h>
+
+#define LENGTH_BYTES 16 /* in front of each block stands how long it is */
+
+/* All under library_lock. */
+static _Alignas(16) char bytes[16384];
+static size_t used;
+
+void library_enter(void)
+{
+    pthread_mutex_lock(&library_lock);
+    used = 0;
+}
+
+void library_leave(void) { pthread_mutex_unlock(&library_lock); }
+
+void *answer_malloc(size_t size);
+void *answer_realloc(void *at, size_t size);
+void answer_free(void *at);
+
+static inline bool is_own(const void *at) { return (uintptr_t)at - (uintptr_t)bytes < sizeof bytes; }
+
+void *answer_malloc(size_t size)
+{
+    size_t length = (size + 15) & ~(size_t)15;
+    if (size > sizeof bytes || length + LENGTH_BYTES > sizeof bytes - used)
+        return malloc(size);
+    char *at = bytes + used + LENGTH_BYTES;
+    used += length + LENGTH_BYTES;
+    memcpy(at - LENGTH_BYTES, &length, sizeof length);
+    return at;
+}
+
+void *answer_realloc(void *at, size_t size)
+{
+    size_t length;
+    if (!at)
+        return answer_malloc(size);
+    if (!is_own(at))
+        return realloc(at, size);
+    memcpy(&length, (char *)at - LENGTH_BYTES, sizeof length);
+    if (size <= length)
+        return at;
+    void *larger = answer_malloc(size);
+    if (larger)
+        memcpy(larger, at, length);
+    return larger;
+}
+
+void answer_free(void *at)
+{
+    if (!is_own(at))
+        free(at);
+}
