@@ -476,7 +476,8 @@ int main(int count, char **words)
     }
     fclose(file);
     check(ffi3_version() == FFI3_VERSION, "version", "", 0);
-    check(ffi3_place(4, "void f(void)", 12, &call, &piece, 1) == FFI3_UNKNOWN_TARGET && !call.pieces, "target", "", 0);
+    check(ffi3_place(FFI3_APPLE + 1, "void f(void)", 12, &call, &piece, 1) == FFI3_UNKNOWN_TARGET && !call.pieces,
+          "target", "", 0);
     check(!ffi3_register_name(FFI3_RISCV, FFI3_STACK, 0, line, sizeof line) && !*line, "no register", "", 0);
     printf("%ld passed, %ld failed\n", passed, failed);
     return failed != 0;

@@ -36,8 +36,8 @@ which stands at OFFSET of the caller's frame. `buffer` is the address of where t
 
 The compiler of each target preprocesses and is asked for sizes, signs and offsets: gcc, aarch64-linux-gnu-gcc,
 riscv64-linux-gnu-gcc, x86_64-w64-mingw32-gcc; for apple --cc names one. What is not read is listed with its reason, and
-nothing is guessed. Headers are those of C, not of C++. Functions of what a header includes are told where it is a part of the header's own
-folder, as SDL_render.h is of SDL.h; --all tells all.
+nothing is guessed. Headers are those of C, not of C++. Functions of what a header includes are told where it is a part
+of the header's own folder, as SDL_render.h is of SDL.h; --all tells all.
 
 --json has `version`, 1; `headers`; of each target its compiler; and of each function `name`, `declaration`, `file`,
 `line`, `parameters`, `variadic` and `targets`. Of a target that is either `reason`, or `result` and `arguments` in
