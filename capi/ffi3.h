@@ -68,6 +68,7 @@ extern "C" {
 #define FFI3_WRONG_SIZE 8     /* values, or a result, in more or fewer bytes than they take */
 #define FFI3_HIGH_STACK 9     /* from the stack pointer on the bytes of stack reach the last address */
 #define FFI3_NOT_PREPARED 10  /* no interface is kept */
+#define FFI3_NO_ADDRESS 11    /* a result is in a buffer whose address the standard does not give back */
 
 /* VALUES of a function: its arguments by their numbers, from 0, and the result. */
 #define FFI3_RESULT UINT32_C(0xFFFFFFFF)
@@ -347,6 +348,44 @@ struct ffi3_arguments {
 uint32_t ffi3_arguments(uint32_t target, const char *text, size_t length, const struct ffi3_registers *registers,
                         const unsigned char *stack, size_t stack_length, struct ffi3_arguments *found,
                         unsigned char *values, size_t capacity);
+
+/* The result of a call. */
+struct ffi3_result {
+    size_t size;          /* how many bytes it takes; of void 0 */
+    uint64_t address;     /* of FFI3_NOT_IN_STACK: where they stand; else 0 */
+    uint64_t reserved[2]; /* 0 */
+    struct ffi3_fault fault;
+};
+
+/* uint32_t ffi3_result(uint32_t TARGET, const char *TEXT, size_t LENGTH, const struct ffi3_registers *REGISTERS,
+ *                      const unsigned char *STACK, size_t STACK_LENGTH, struct ffi3_result *FOUND,
+ *                      unsigned char *VALUE, size_t CAPACITY)
+ * uint32_t ffi3_result_nodes(uint32_t TARGET, const struct ffi3_node *NODES, size_t COUNT, uint32_t FIXED,
+ *                            const struct ffi3_registers *REGISTERS, const unsigned char *STACK, size_t STACK_LENGTH,
+ *                            struct ffi3_result *FOUND, unsigned char *VALUE, size_t CAPACITY)
+ *
+ * What the function that the LENGTH bytes at TEXT, or the COUNT nodes at NODES, declare gave back, by the standard
+ * TARGET: REGISTERS and STACK, the memory from REGISTERS->sp on, are the machine's where it has returned, as at a
+ * debugger's stop behind `finish`. What the standard leaves free is not looked at. A large result is read where the
+ * address points that comes back, if all of it is among the bytes of STACK; by FFI3_AAPCS64 and FFI3_RISCV none comes
+ * back. Who knows a buffer's address reads the result there. A CAPACITY of 0 asks for the size.
+ *
+ * VALUE has room for CAPACITY bytes, and is given FOUND->size of them, as the result stands in memory. Bytes that stand
+ * in no register are 0.
+ *
+ * FFI3_OK: FOUND and VALUE are filled.
+ * FFI3_TOO_SMALL: FOUND is filled, and VALUE is as it was: it wants FOUND->size bytes.
+ * FFI3_NOT_IN_STACK: the result is the FOUND->size bytes at FOUND->address; VALUE is as it was.
+ * FFI3_NO_ADDRESS: the result has FOUND->size bytes, in a buffer of the caller's; VALUE is as it was.
+ * FFI3_NOT_DECLARED: FOUND->fault says why; all else in FOUND is 0, and VALUE is as it was.
+ * FFI3_UNKNOWN_TARGET, FFI3_OUT_OF_MEMORY: FOUND is 0, and VALUE as it was. An unknown target is told before a fault.
+ */
+uint32_t ffi3_result(uint32_t target, const char *text, size_t length, const struct ffi3_registers *registers,
+                     const unsigned char *stack, size_t stack_length, struct ffi3_result *found, unsigned char *value,
+                     size_t capacity);
+uint32_t ffi3_result_nodes(uint32_t target, const struct ffi3_node *nodes, size_t count, uint32_t fixed,
+                           const struct ffi3_registers *registers, const unsigned char *stack, size_t stack_length,
+                           struct ffi3_result *found, unsigned char *value, size_t capacity);
 
 /* INTERFACES. Whoever calls a function often, or is called as one, prepares its interface once. Calls by it read no
  * text and no nodes, and ffi3_sizes, ffi3_store, ffi3_load, ffi3_collect and ffi3_give take no memory.

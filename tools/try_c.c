@@ -235,6 +235,72 @@ static struct ffi3_arguments read_arguments(uint32_t target, const char *text, s
     return told;
 }
 
+// Nodes of a function; none where a text declares it.
+struct nodes {
+    const struct ffi3_node *at;
+    size_t count;
+    uint32_t fixed;
+    const char *line; // from which they were read, or the text
+    size_t length;
+};
+
+// One call of ffi3_result, or of ffi3_result_nodes: over so many bytes of stack, to which each register points, with
+// room for so many bytes of the result.
+static struct ffi3_result read_result(uint32_t target, const struct nodes *from, size_t deep, size_t room)
+{
+    const char *text = from->line;
+    size_t shown = from->length;
+    struct ffi3_registers *held = block(sizeof *held);
+    unsigned char *stack = block(deep), *value = block(room);
+    struct ffi3_result *found = block(sizeof *found), told;
+    memset(held, 0x10, sizeof *held);
+    memset(stack, 0x10, deep);
+    uint32_t status = from->at ? ffi3_result_nodes(target, from->at, from->count, from->fixed, held, stack, deep, found,
+                                                   value, room)
+                               : ffi3_result(target, text, shown, held, stack, deep, found, value, room);
+    told = *found;
+    switch (status) {
+    case FFI3_OK:
+        check(told.size <= room && is_untouched(value + told.size, room - told.size), "result", text, shown);
+        break;
+    case FFI3_TOO_SMALL:
+        check(room < told.size && is_untouched(value, room), "result with no room", text, shown);
+        break;
+    case FFI3_NOT_IN_STACK:
+        check(deep < told.size && told.address == held->sp && is_untouched(value, room), "buffer", text, shown);
+        break;
+    case FFI3_NO_ADDRESS:
+        check(told.size && (target == FFI3_AAPCS64 || target == FFI3_RISCV || target == FFI3_APPLE) &&
+                  is_untouched(value, room), "no address", text, shown);
+        break;
+    case FFI3_NOT_DECLARED:
+        check(!told.size && told.fault.kind != FFI3_NO_FAULT && is_untouched(value, room), "result of no function",
+              text, shown);
+        break;
+    default:
+        check(status == FFI3_OUT_OF_MEMORY && due && due <= counted && !told.size && is_untouched(value, room),
+              "no result", text, shown);
+    }
+    check(!told.reserved[0] && !told.reserved[1], "reserved words of a result", text, shown);
+    release((char *)value, room);
+    release((char *)stack, deep);
+    free(found);
+    free(held);
+    return told;
+}
+
+// The same with less and with more stack and room than is wanted.
+static void try_result(uint32_t target, const struct nodes *from)
+{
+    size_t size = read_result(target, from, 0, 0).size;
+    for (size_t more = 0; more <= 1; more++) {
+        if (size)
+            read_result(target, from, size + more, size - 1);
+        read_result(target, from, size + more, size + more);
+        read_result(target, from, size - (size && more), size + 1);
+    }
+}
+
 // A text of the very length, as it is.
 static void try_text(const char *from, size_t length, int all_rooms)
 {
@@ -253,6 +319,7 @@ static void try_text(const char *from, size_t length, int all_rooms)
             read_arguments(target, text, length, deep, room - 1);
         read_arguments(target, text, length, deep, room);
         read_arguments(target, text, length, deep + 1, room + 1);
+        try_result(target, &(struct nodes){.line = text, .length = length});
     }
     lay_out(text, length, FFI3_RESULT, 0, &arguments);
     for (uint32_t value = 0; value <= arguments; value++) {
@@ -283,24 +350,18 @@ static void try_refused(const char *line, size_t length)
     long calls;
     do {
         due++, counted = 0;
-        place((uint32_t)due % 4, line, length, 64);
+        place((uint32_t)due % 5, line, length, 64);
         calls = counted, counted = 0;
         lay_out(line, length, FFI3_RESULT, 64, &none);
         calls = calls > counted ? calls : counted, counted = 0;
-        read_arguments((uint32_t)due % 4, line, length, 4096, 4096);
+        read_arguments((uint32_t)due % 5, line, length, 4096, 4096);
+        calls = calls > counted ? calls : counted, counted = 0;
+        read_result((uint32_t)due % 5, &(struct nodes){.line = line, .length = length}, 4096, 4096);
     } while (due <= (calls > counted ? calls : counted));
     due = 0;
 }
 
 // ---- nodes
-
-struct nodes {
-    const struct ffi3_node *at;
-    size_t count;
-    uint32_t fixed;
-    const char *line; // from which they were read
-    size_t length;
-};
 
 static size_t place_nodes(uint32_t target, const struct nodes *from, size_t room)
 {
@@ -384,6 +445,7 @@ static void try_nodes(struct nodes from, int all_rooms)
         size_t wanted = place_nodes(target, &from, 0);
         for (size_t room = all_rooms ? 1 : wanted; room <= wanted + 1; room++)
             place_nodes(target, &from, room);
+        try_result(target, &from);
     }
     for (; from.count; from.at++, from.count--) {
         size_t wanted = type_of_nodes(&from, 0);
@@ -430,8 +492,10 @@ static void try_nodes_refused(const struct nodes *from)
     struct nodes first = first_type(from);
     do {
         due++, counted = 0;
-        place_nodes((uint32_t)due % 4, from, 64);
+        place_nodes((uint32_t)due % 5, from, 64);
         calls = counted, counted = 0;
+        read_result((uint32_t)due % 5, from, 4096, 4096);
+        calls = calls > counted ? calls : counted, counted = 0;
         type_of_nodes(&first, 64);
     } while (due <= (calls > counted ? calls : counted));
     due = 0;

@@ -25,13 +25,14 @@ import sys
 
 try:
     from .library import (FRAME_AT, HIDDEN, MOVES, RESULT, TARGETS, VERSION, Call, Error, Interface, Layout, Move,
-                          NotInStack, Piece, ShortStack, Sizes, Type, VersionError, arguments, check_layout, layout,
-                          layout_nodes, place, place_nodes, scalars, version)
+                          NoAddress, NotInStack, Piece, ShortStack, Sizes, Type, VersionError, arguments, check_layout,
+                          layout, layout_nodes, place, place_nodes, result, result_nodes, scalars, version)
 except (OSError, ImportError) as error:
     if sys.argv[:1] != ["-m"]:
         raise
     sys.exit(f"ffi3: {error}")  # to who runs the package as a program a line says enough
 
 __all__ = ["FRAME_AT", "HIDDEN", "MOVES", "RESULT", "TARGETS", "VERSION", "Call", "Error", "Interface", "Layout",
-           "Move", "NotInStack", "Piece", "ShortStack", "Sizes", "Type", "VersionError", "arguments", "check_layout",
-           "layout", "layout_nodes", "place", "place_nodes", "scalars", "version"]
+           "Move", "NoAddress", "NotInStack", "Piece", "ShortStack", "Sizes", "Type", "VersionError", "arguments",
+           "check_layout", "layout", "layout_nodes", "place", "place_nodes", "result", "result_nodes", "scalars",
+           "version"]

@@ -20,6 +20,7 @@ import sys
 import tempfile
 from collections.abc import Iterator, Mapping, Sequence
 from dataclasses import dataclass
+from itertools import chain
 from pathlib import Path
 from typing import NamedTuple
 
@@ -298,12 +299,11 @@ def read_or_say(stop: Stop, at: int, size: int, what: str) -> bytes:
     try:
         return stop.memory(at, size)
     except gdb.MemoryError:
-        raise gdb.GdbError(f"{what} is passed by the address {at:#x}, where no memory is") from None
+        raise gdb.GdbError(f"{what} stands at the address {at:#x}, where no memory is") from None
 
 
 def by_pieces(stop: Stop, pieces: Sequence[Piece], kind: Type) -> tuple[Scalar, ...]:
-    """A value from its pieces, as place_nodes tells them: what stands for dots, and results, no call of the library
-    reads."""
+    """A value from its pieces, as place_nodes tells them: what stands for dots no call of the library reads."""
     held = bytearray(kind.size)
     sp = stop.register("sp") + first_argument(stop)
     for piece in pieces:
@@ -313,6 +313,17 @@ def by_pieces(stop: Stop, pieces: Sequence[Piece], kind: Type) -> tuple[Scalar, 
             return library.scalars(kind.leaves, read_or_say(stop, int.from_bytes(found, "little"), kind.size, "it"))
         held[piece.offset:piece.offset + piece.length] = found[:piece.length]
     return library.scalars(kind.leaves, bytes(held))
+
+
+def result_of(stop: Stop, function: headers.Function, kind: Type) -> bytes:
+    """The result's bytes by ffi3_result_nodes, or those behind the address that it tells."""
+    try:
+        return library.result_nodes(stop.machine.target, chain(*function.nodes), registers(stop, function.place()),
+                                    fixed=function.fixed)
+    except library.NotInStack as missing:
+        return read_or_say(stop, missing.address, kind.size, "the result")
+    except library.NoAddress as missing:
+        raise gdb.GdbError(str(missing)) from None
 
 
 def all_arguments(stop: Stop, prototype: Prototype) -> Iterator[tuple[str, Type, tuple[Scalar, ...]]]:
@@ -394,16 +405,13 @@ A large struct is read through the address that comes back; by AAPCS64 none does
     def invoke(self, text: str, from_tty: bool) -> None:
         stop = Stop.now()
         function = prototype_of(stop.machine.target, text).function
-        kind, call = function.layout(RESULT), function.place()
-        pieces = call.pieces[call.passed:]
+        kind = function.layout(RESULT)
         if not is_behind_a_call(stop, stop.frame.pc()):
             print("note: no call stands before the instruction at which it stopped: no function may have returned here")
         if not kind.leaves:
             print("nothing comes back")
-        elif not pieces:
-            raise gdb.GdbError("the result is in a buffer of the caller, whose address the standard does not give back")
         else:
-            print(f"{function.name} = {shown(kind, by_pieces(stop, pieces, kind))}")
+            print(f"{function.name} = {shown(kind, library.scalars(kind.leaves, result_of(stop, function, kind)))}")
 
 
 Arguments()

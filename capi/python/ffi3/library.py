@@ -25,7 +25,7 @@ RESULT = "result"
 HIDDEN = "hidden"
 
 (_OK, _TOO_SMALL, _NOT_DECLARED, _UNKNOWN_TARGET, _UNKNOWN_VALUE, _OUT_OF_MEMORY, _SHORT_STACK, _NOT_IN_STACK,
- _WRONG_SIZE, _HIGH_STACK, _NOT_PREPARED) = range(11)
+ _WRONG_SIZE, _HIGH_STACK, _NOT_PREPARED, _NO_ADDRESS) = range(12)
 # Two kinds of fault that a client may want to tell apart from others.
 LEFT_OUT_LONG_DOUBLE, LAID_OUT_OTHERWISE = 6, 20
 _RESULT, _HIDDEN = 0xFFFFFFFF, 0xFFFFFFFE
@@ -79,12 +79,20 @@ class ShortStack(LookupError):
 
 
 class NotInStack(LookupError):
-    """An argument is passed by an address that is not among the bytes of the stack: which one, and the address."""
+    """An argument, or the result, is at an address that is not among the bytes of the stack: which one, and it."""
 
-    def __init__(self, argument: int, address: int):
-        super().__init__(f"argument {argument} is at {address:#x}, which is not among the bytes of the stack")
-        self.argument = argument
+    def __init__(self, part: Part, address: int):
+        name = part if isinstance(part, str) else f"argument {part}"
+        super().__init__(f"{name} is at {address:#x}, which is not among the bytes of the stack")
+        self.argument = part
         self.address = address
+
+
+class NoAddress(LookupError):
+    """A result is in a buffer of the caller, whose address the standard does not give back."""
+
+    def __init__(self):
+        super().__init__("the result is in a buffer of the caller, whose address the standard does not give back")
 
 
 class Piece(NamedTuple):
@@ -224,6 +232,11 @@ class _Arguments(ctypes.Structure):
                 ("argument", ctypes.c_uint32), ("fault", _Fault)]
 
 
+class _Result(ctypes.Structure):
+    _fields_ = [("size", ctypes.c_size_t), ("address", ctypes.c_uint64), ("reserved", ctypes.c_uint64 * 2),
+                ("fault", _Fault)]
+
+
 def _shown(version: int) -> str:
     return f"{version // 10000}.{version // 100 % 100}.{version % 100}"
 
@@ -254,6 +267,9 @@ def _load() -> ctypes.CDLL:
                                   ctypes.POINTER(_Fault)]),
         ("layout", uint32, [text, size, uint32, ctypes.POINTER(_Layout), ctypes.POINTER(_Leaf), size]),
         ("arguments", uint32, [uint32, text, size, registers, text, size, ctypes.POINTER(_Arguments), text, size]),
+        ("result", uint32, [uint32, text, size, registers, text, size, ctypes.POINTER(_Result), text, size]),
+        ("result_nodes", uint32, [uint32, nodes, size, uint32, registers, text, size, ctypes.POINTER(_Result), text,
+                                  size]),
         ("prepare", uint32, [uint32, nodes, size, uint32, kept, ctypes.POINTER(_Fault)]),
         ("share", uint32, [kept, kept]),
         ("release", None, [kept]),
@@ -490,6 +506,49 @@ def arguments(target: str, declaration: str | bytes, registers: Mapping[str, int
         values.append(scalars(kind.leaves, found[start:start + kind.size]))
         start += -(-kind.size // 8) * 8
     return values
+
+
+# ---- what a machine holds where a function has returned
+
+def _returned(target: str, registers: Mapping[str, int], sp: int, stack: bytes, tell) -> bytes:
+    """The bytes of a result; tell makes the library's call, with the target's number and what the machine held."""
+    number, told = _target(target), _Result()
+    held, stack = _named_registers(number, registers, sp), bytes(memoryview(stack))
+
+    def ask(array, capacity):
+        return tell(number, ctypes.byref(held), stack, len(stack), ctypes.byref(told), array, capacity), told.size
+
+    status, found = _filled(ctypes.c_char, ask)
+    if status == _NOT_IN_STACK:
+        raise NotInStack(RESULT, told.address)
+    if status == _NO_ADDRESS:
+        raise NoAddress
+    if status != _OK:
+        _refuse(status, told.fault)
+    return found
+
+
+def result(target: str, declaration: str | bytes, registers: Mapping[str, int], sp: int = 0,
+           stack: bytes = b"") -> tuple[Scalar, ...]:
+    """What a function gave back, from what the machine held where it had returned: the tuple of the result's scalars.
+
+    registers and stack are as arguments has them. Raises NotInStack where the result is in a buffer of the caller that
+    is not among the bytes of the stack, and NoAddress where the standard does not give its address back, both
+    LookupError; otherwise as arguments does.
+    """
+    text = _bytes_of(declaration)
+    found = _returned(target, registers, sp, stack, lambda number, *given: _library.ffi3_result(
+        number, text, len(text), *given))
+    return scalars(layout(declaration).leaves, found)
+
+
+def result_nodes(target: str, nodes: Iterable[Node], registers: Mapping[str, int], sp: int = 0, stack: bytes = b"",
+                 fixed: int | None = None) -> bytes:
+    """The same of the function whose result and arguments are these nodes, as place_nodes has them: the result's bytes.
+    """
+    (array, count), named = _nodes_of(nodes), _named(fixed)
+    return _returned(target, registers, sp, stack, lambda number, *given: _library.ffi3_result_nodes(
+        number, array, count, named, *given))
 
 
 # ---- a call by an interface that is prepared once

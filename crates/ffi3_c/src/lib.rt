@@ -11,6 +11,7 @@ ghost use Rattle.ffi3_capi.specs.WholeType.{LaysOutNodes, TellsOffsets};
 ghost use Rattle.ffi3_capi.specs.NaturalLayout.{ChecksLayout};
 ghost use Rattle.ffi3_transfer.specs.Stored.{image_in};
 ghost use Rattle.ffi3_capi.specs.Entry.{Reads};
+ghost use Rattle.ffi3_capi.specs.Returned.{ReadsResult};
 ghost use Rattle.ffi3_capi.specs.Filled.{filled, with_end};
 ghost use Rattle.ffi3_capi.specs.FaultText.{fault_text};
 ghost use Rattle.ffi3_capi.specs.Registers.{register_name};
@@ -21,7 +22,7 @@ ghost use Rattle.ffi3_interface.specs.Listing.{TellsMoves};
 
 use ffi3_capi::{
     Declaration, EntryArguments, LaidLeaf, LaidType, Node, PlacedCall, PlacedPiece, Registers,
-    TextFault, WholeType,
+    ReturnedResult, TextFault, WholeType,
 };
 use ffi3_handle::Handle;
 use ffi3_interface::{InterfaceSizes, Reason, ToldMove};
@@ -139,6 +140,48 @@ pub extern "C" fn ffi3_arguments(
         found,
         values,
     )
+}
+
+/// The result of the function that the text declares, as registers and stack have it where it has returned.
+#[unsafe(no_mangle)]
+pub extern "C" fn ffi3_result(
+    alloc: Global,
+    target: u32,
+    text: &[u8],
+    registers: &Registers,
+    stack: &[u8],
+    found: &mut ReturnedResult,
+    value: &mut [u8],
+) -> u32
+    ensures { ReadsResult (Declares text.now) (IsFaultOf text.now) target (image_in registers.now stack.now) value.old result found.new value.new }
+{
+    ffi3_capi::tell_result(
+        alloc,
+        target,
+        Declaration::Text(text),
+        registers,
+        stack,
+        found,
+        value,
+    )
+}
+
+/// The same of the function that the nodes declare.
+#[unsafe(no_mangle)]
+pub extern "C" fn ffi3_result_nodes(
+    alloc: Global,
+    target: u32,
+    nodes: &[Node],
+    fixed: u32,
+    registers: &Registers,
+    stack: &[u8],
+    found: &mut ReturnedResult,
+    value: &mut [u8],
+) -> u32
+    ensures { ReadsResult (AreNodesOf nodes.now fixed) (IsFaultOfNodes nodes.now fixed) target (image_in registers.now stack.now) value.old result found.new value.new }
+{
+    let declaration = Declaration::Nodes(nodes, fixed);
+    ffi3_capi::tell_result(alloc, target, declaration, registers, stack, found, value)
 }
 
 /// Prepares calls of the function that the nodes declare, by an interface that the handle keeps.

@@ -6,3 +6,4 @@ pub mod Values
 pub mod ByNodes
 pub mod Offsets
 pub mod Differing
+pub mod Results

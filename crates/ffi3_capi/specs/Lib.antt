@@ -13,3 +13,4 @@ pub mod NaturalLayout
 pub mod Registers
 pub mod Refused
 pub mod Entry
+pub mod Returned

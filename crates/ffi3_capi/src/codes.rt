@@ -22,6 +22,8 @@ pub const WRONG_SIZE: u32 = 8;
 pub const HIGH_STACK: u32 = 9;
 /// `FFI3_NOT_PREPARED`: no interface is kept.
 pub const NOT_PREPARED: u32 = 10;
+/// `FFI3_NO_ADDRESS`: the result is in a buffer whose address the standard does not give back.
+pub const NO_ADDRESS: u32 = 11;
 
 /// `FFI3_RESULT`: the result, in place of an argument's number.
 pub const RESULT_PART: u32 = 0xFFFF_FFFF;

@@ -18,12 +18,7 @@ use ffi3_cif::Cif;
 use ffi3_place::{Abi, Loc, Res};
 
 /// Where in the stack's bytes so many bytes from an address on begin, where all of them are there.
-pub(crate) fn offset_in(
-    registers: &Registers,
-    stack: &[u8],
-    address: u64,
-    size: u64,
-) -> Option<usize>
+pub fn offset_in(registers: &Registers, stack: &[u8], address: u64, size: u64) -> Option<usize>
     ensures { result ≡ offset_in (image_in registers.now stack.now) address size }
 {
     let len = stack.len() as u64;

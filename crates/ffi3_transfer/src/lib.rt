@@ -11,9 +11,10 @@ mod storing;
 mod widen;
 
 pub use collecting::collect;
-pub use giving::give;
+pub use giving::{give, offset_in};
 pub use loading::load;
 pub use putting::{fill_piece, put, put_word, set_piece};
+pub use reading::{place_word, read_pieces};
 pub use storing::{packed_size, store};
 
 /// What a machine's registers hold: C's `struct ffi3_registers`.

@@ -31,7 +31,7 @@ pub(crate) fn place_bytes(registers: &Registers, stack: &[u8], base: u64, at: Lo
 }
 
 /// The number in a place.
-pub(crate) fn place_word(registers: &Registers, stack: &[u8], base: u64, at: Loc) -> u64
+pub fn place_word(registers: &Registers, stack: &[u8], base: u64, at: Loc) -> u64
     requires { HasPlace (image_in registers.now stack.now) base at }
     ensures { result ≡ word_at (image_in registers.now stack.now) base at }
 {
@@ -55,13 +55,7 @@ fn read_piece(registers: &Registers, stack: &[u8], base: u64, piece: &Piece, out
 }
 
 /// The bytes of a value in pieces. Of two pieces that have a byte the first tells it, and a byte of none is 0.
-pub(crate) fn read_pieces(
-    registers: &Registers,
-    stack: &[u8],
-    base: u64,
-    pieces: &Pieces,
-    out: &mut [u8],
-)
+pub fn read_pieces(registers: &Registers, stack: &[u8], base: u64, pieces: &Pieces, out: &mut [u8])
     requires there { AllByRecursion (CanBeRead (image_in registers.now stack.now) base) pieces.now }
     requires within { AllByRecursion (IsWithin (length out.old)) pieces.now }
     ensures { out.new ≡ first_bytes (image_in registers.now stack.now) base pieces.now 0 (length out.old) }

@@ -1,0 +1,146 @@
+-- A result that an image holds is what is read of it by the standard alone; and what is answered to C.
+use Rattle.std.specs.Prelude.{true, false, cond, Bool, Option, Some, None, slice_get}
+use Rattle.std.proofs.Common.{◌≡◌, ℕ, ◌+◌, ◌-◌, List, length, refl, ap, sym, ◌∙◌, subst, arith}
+use Rattle.std.specs.List.{AllByRecursion}
+use Rattle.ffi3_type_rules.specs.declared.Target.{Target}
+use Rattle.ffi3_type_rules.specs.Tree.{Tree, void}
+use Rattle.ffi3_type_rules.specs.Layout.{size_of}
+use Rattle.ffi3_type_rules.specs.Isa.{isa_of}
+use Rattle.ffi3_type_rules.specs.Signature.{Signature}
+use Rattle.ffi3_type_rules.specs.Value.{ValueTree, void_value, leaf_value, struct_value, value_in, fits, part}
+use Rattle.ffi3_place_rules.specs.declared.Loc.{Loc}
+use Rattle.ffi3_place_rules.specs.declared.Res.{Res}
+use Rattle.ffi3_place_rules.specs.declared.Res.TheVariants.{Nothing, Direct, Hidden}
+use Rattle.ffi3_place_rules.specs.Image.{Image, register}
+use Rattle.ffi3_place_rules.specs.Isa.{to_list}
+use Rattle.ffi3_place_rules.specs.Standard.{Standard, plan_of}
+use Rattle.ffi3_place_rules.specs.Holds.{HoldsResult, OwnsResult, FillsResult, RegisterHolds}
+use Rattle.ffi3_place_rules.specs.Sound.{IsSound, LiesIn, ResultHasAll}
+use Rattle.ffi3_explain_rules.specs.Arguments.{is_in_image}
+use Rattle.ffi3_explain_rules.proofs.Pieces.{stood_is_read}
+use Rattle.ffi3_explain_rules.specs.Explain.{first_bytes}
+use Rattle.ffi3_explain_rules.specs.Standards.{standard_of}
+use Rattle.ffi3_explain.specs.Places.{HasPlace}
+use Rattle.ffi3_explain.proofs.Ready.{places_there}
+use Rattle.ffi3_capi.specs.declared.fault.TextFault.{TextFault}
+use Rattle.ffi3_capi.specs.declared.fault.FaultKind.TheVariants.{NoFault}
+use Rattle.ffi3_capi.specs.Faults.{fault_with}
+use Rattle.ffi3_capi.specs.declared.returned.FoundResult.{FoundResult}
+use Rattle.ffi3_capi.specs.declared.returned.ReturnedResult.{ReturnedResult}
+use Rattle.ffi3_capi.specs.declared.returned.Unfound.{Unfound}
+use Rattle.ffi3_capi.specs.declared.returned.Unfound.TheVariants.{Call, NotInStack, NoAddress}
+use Rattle.ffi3_capi.specs.declared.status.Refusal.TheVariants.{NoSuchTarget, NoSuchValue, Fault, NoMemory}
+use Rattle.ffi3_capi.specs.Filled.{has_room, filled, room_status}
+use Rattle.ffi3_capi.specs.Placed.{targets}
+use Rattle.ffi3_capi.specs.Returned.{are_bytes, is_outside, result_behind, result_by, returned_by_standard, IsFound, IsFoundBy, IsNotFound, IsNotFoundBy, ReadsResult, read, unread, result_of, unfound_status, no_result}
+
+-- the place of the result is that of the plan
+pub by_place : (std : Standard) (s : Signature) (m : Image) (r : Res) → r ≡ (plan_of std s).res → result_by std m s.result_type r ≡ returned_by_standard std s m
+by_place std s m r is = ap (result_by std m s.result_type) is
+
+-- the register of the address is one of the machine's
+pub address_there : (std : Standard) (m : Image) (at : Option Loc) → AllByRecursion (LiesIn (isa_of std.target) 0) (to_list std.returned_address) → at ≡ std.returned_address → AllByRecursion (HasPlace m 0) (to_list at)
+address_there std m at lie is =
+    subst (λ (o : Option Loc). AllByRecursion (HasPlace m 0) (to_list o)) (sym is)
+    (places_there m 0 (isa_of std.target) 0 (to_list std.returned_address) (omega arith) lie)
+
+-- ---- where the address points
+
+-- the buffer is in the stack's bytes
+pub behind_inside : (m : Image) (t : Tree) (at : Loc) (from : ℕ) → is_in_image m (register m at) (size_of t) ≡ true → from ≡ register m at - m.sp → result_behind m t (Some at) ≡ are_bytes (part m.stack from (size_of t))
+behind_inside m t at from inside is =
+    ap (λ (b : Bool). cond b (are_bytes (part m.stack (register m at - m.sp) (size_of t))) (is_outside (register m at))) inside
+    ∙ ap (λ (n : ℕ). are_bytes (part m.stack n (size_of t))) (sym is)
+
+-- or past them
+pub behind_outside : (m : Image) (t : Tree) (at : Loc) (address : ℕ) → is_in_image m (register m at) (size_of t) ≡ false → address ≡ register m at → result_behind m t (Some at) ≡ is_outside address
+behind_outside m t at address outside is =
+    ap (λ (b : Bool). cond b (are_bytes (part m.stack (register m at - m.sp) (size_of t))) (is_outside (register m at))) outside
+    ∙ ap is_outside (sym is)
+
+-- ---- the value that the image holds
+
+same_bytes : (a b : List ℕ) → are_bytes a ≡ are_bytes b → a ≡ b
+same_bytes a b e = cc
+
+void_fits : (v : ValueTree) (bytes : List ℕ) → fits void v ≡ true → value_in void bytes ≡ v
+void_fits void_value bytes fit = refl
+void_fits (leaf_value b) bytes fit = cc
+void_fits (struct_value vs) bytes fit = cc
+
+module _ (m : Image) (t : Tree) (at : Loc) (buffer : ℕ) (v : ValueTree) (bytes : List ℕ) where
+  by_test : (b : Bool) → cond b (are_bytes (part m.stack (register m at - m.sp) (size_of t))) (is_outside (register m at)) ≡ are_bytes bytes → bytes ≡ part m.stack (register m at - m.sp) (size_of t)
+  by_test true e = cc
+  by_test false e = cc
+
+  held_behind : register m at ≡ m.sp + buffer → value_in t (part m.stack (0 + buffer) (size_of t)) ≡ v → result_behind m t (Some at) ≡ are_bytes bytes → value_in t bytes ≡ v
+  held_behind points stands e =
+      let offset : register m at - m.sp ≡ 0 + buffer = omega (arith, points) in
+      ap (value_in t) (by_test (is_in_image m (register m at) (size_of t)) e)
+      ∙ ap (λ (n : ℕ). value_in t (part m.stack n (size_of t))) offset ∙ stands
+
+held_in_buffer : (m : Image) (t : Tree) (o : Option Loc) (buffer : ℕ) (v : ValueTree) (bytes : List ℕ) → RegisterHolds m o (m.sp + buffer) → value_in t (part m.stack (0 + buffer) (size_of t)) ≡ v → result_behind m t o ≡ are_bytes bytes → value_in t bytes ≡ v
+held_in_buffer m t None buffer v bytes points stands e = cc
+held_in_buffer m t (Some at) buffer v bytes points stands e =
+    held_behind m t at buffer v bytes points stands e
+
+held_at : (std : Standard) (m : Image) (t : Tree) (r : Res) (v : ValueTree) (bytes : List ℕ) → ResultHasAll t r → fits t v ≡ true → OwnsResult m t r v → FillsResult std m t r v → result_by std m t r ≡ are_bytes bytes → value_in t bytes ≡ v
+held_at std m t Nothing v bytes all fit owns fills e =
+    subst (λ u. value_in u bytes ≡ v) (sym all) (void_fits v bytes (subst (λ u. fits u v ≡ true) all fit))
+held_at std m t (Direct pieces) v bytes all fit owns fills e =
+    ap (value_in t) (sym (same_bytes (first_bytes m 0 pieces 0 (size_of t)) bytes e)) ∙ stood_is_read m 0 t pieces v all fit owns
+held_at std m t (Hidden at buffer) v bytes all fit owns fills e =
+    held_in_buffer m t std.returned_address buffer v bytes fills owns e
+
+pub held_is_found : (std : Standard) (s : Signature) (m : Image) (bytes : List ℕ) → IsSound std s → returned_by_standard std s m ≡ are_bytes bytes → (v : ValueTree) → HoldsResult std s v m → value_in s.result_type bytes ≡ v
+held_is_found std s m bytes sound is v holds =
+    held_at std m s.result_type (plan_of std s).res v bytes sound.result_has_all holds.own.fitting holds.own.stands holds.filled is
+
+-- what is found by an interface of the signature
+pub found_by : (std : Standard) (cif s : Signature) (m : Image) (f : FoundResult) → cif ≡ s → IsSound std s → returned_by_standard std cif m ≡ are_bytes f.bytes → length f.bytes ≡ size_of cif.result_type → f.told ≡ result_of (length f.bytes) 0 (fault_with NoFault) → IsFoundBy std s m f
+found_by std cif s m f same sound is sized told =
+    let here : returned_by_standard std s m ≡ are_bytes f.bytes = ap (λ (r : Signature). returned_by_standard std r m) (sym same) ∙ is in
+    let size : length f.bytes ≡ size_of s.result_type = sized ∙ ap (λ (r : Signature). size_of r.result_type) same in
+    record {
+      is = here;
+      value = held_is_found std s m f.bytes sound here;
+      sized = size;
+      told = told ∙ ap (λ (n : ℕ). result_of n 0 (fault_with NoFault)) size;
+    }
+
+-- ---- what is answered
+
+pub is_found : (declares : Signature → Type 0) (target : ℕ) (m : Image) (to : Target) (s : Signature) (f : FoundResult) → slice_get targets target ≡ Some to → declares s → IsFoundBy (standard_of to) s m f → IsFound declares target m f
+is_found declares target m to s f is declared found = record {
+  to = to;
+  signature = s;
+  call = record { to_is = is; declared = declared };
+  found = found;
+}
+
+pub is_not_found : (declares : Signature → Type 0) (is_fault : TextFault → Type 0) (target : ℕ) (m : Image) (to : Target) (s : Signature) (u : Unfound) → slice_get targets target ≡ Some to → declares s → IsNotFoundBy (standard_of to) s m u → IsNotFound declares is_fault target m u
+is_not_found declares is_fault target m to s (Call NoMemory) is declared why = tt
+is_not_found declares is_fault target m to s (Call NoSuchTarget) is declared why = absurd why
+is_not_found declares is_fault target m to s (Call (NoSuchValue count)) is declared why = absurd why
+is_not_found declares is_fault target m to s (Call (Fault f)) is declared why = absurd why
+is_not_found declares is_fault target m to s (NotInStack size address) is declared why = record {
+  to = to;
+  signature = s;
+  call = record { to_is = is; declared = declared };
+  unfound = why;
+}
+is_not_found declares is_fault target m to s (NoAddress size) is declared why = record {
+  to = to;
+  signature = s;
+  call = record { to_is = is; declared = declared };
+  unfound = why;
+}
+
+pub reads_result : (declares : Signature → Type 0) (is_fault : TextFault → Type 0) (target : ℕ) (m : Image) (old new : List ℕ) (f : FoundResult) (fits : Bool) (status : ℕ) → IsFound declares target m f → fits ≡ has_room f.bytes old → status ≡ room_status fits → new ≡ filled f.bytes old → ReadsResult declares is_fault target m old status f.told new
+reads_result declares is_fault target m old new f fits status is room told wrote =
+    let answered : status ≡ room_status (has_room f.bytes old) = told ∙ ap room_status room in
+    subst (λ (n : ℕ). ReadsResult declares is_fault target m old n f.told new) (sym answered) (subst (λ (b : List ℕ). ReadsResult declares is_fault target m old (room_status (has_room f.bytes old)) f.told b) (sym wrote) (read f is))
+
+pub reads_none : (declares : Signature → Type 0) (is_fault : TextFault → Type 0) (target : ℕ) (m : Image) (old : List ℕ) (u : Unfound) (told : ReturnedResult) (status : ℕ) → IsNotFound declares is_fault target m u → told ≡ no_result u → status ≡ unfound_status u → ReadsResult declares is_fault target m old status told old
+reads_none declares is_fault target m old u told status is wrote answered =
+    subst (λ (n : ℕ). ReadsResult declares is_fault target m old n told old) (sym answered) (subst (λ (r : ReturnedResult). ReadsResult declares is_fault target m old (unfound_status u) r old) (sym wrote) (unread u is))

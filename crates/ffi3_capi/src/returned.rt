@@ -1,0 +1,269 @@
+// The result of a function, from registers and memory where it has returned.
+ghost use Rattle.std.specs.Prelude.{◌≡◌, ◌≤◌, IfOk, IfErr, length};
+ghost use Rattle.std.specs.List.{AllByRecursion};
+ghost use Rattle.ffi3_type_rules.specs.declared.limits.TheConstants.{LARGEST_TYPE};
+ghost use Rattle.ffi3_type_rules.specs.Layout.{size_of};
+ghost use Rattle.ffi3_type_rules.specs.Signature.{SignatureHasNoFault};
+ghost use Rattle.ffi3_place_rules.specs.Isa.{to_list};
+ghost use Rattle.ffi3_place_rules.specs.Sound.{IsWithin};
+ghost use Rattle.ffi3_explain_rules.specs.Explain.{first_bytes};
+ghost use Rattle.ffi3_explain_rules.specs.Standards.{standard_of};
+ghost use Rattle.ffi3_explain.specs.Places.{CanBeRead, HasPlace};
+ghost use Rattle.ffi3_transfer.specs.Stored.{image_in};
+ghost use Rattle.ffi3_capi.specs.DeclaredBy.{IsDeclaredBy, IsFaultBy};
+ghost use Rattle.ffi3_capi.specs.Returned.{IsFound, IsFoundBy, IsNotFound, IsNotFoundBy, IsUnfound, ReadsResult, are_bytes, no_result, result_behind, result_of, returned_by_standard, unfound_status};
+
+use crate::codes::{NO_ADDRESS, NOT_IN_STACK};
+use crate::declaration::{Declaration, declared};
+use crate::fault::{FaultKind, TextFault, fault_with};
+use crate::fill::{fill_bytes, room_status};
+use crate::placing::target_numbered;
+use crate::status::Refusal;
+use ffi3_aapcs64::Aapcs64;
+use ffi3_amd64::Amd64;
+use ffi3_apple::Apple;
+use ffi3_cif::Cif;
+use ffi3_place::{Abi, Loc, Pieces, Res};
+use ffi3_riscv::Riscv;
+use ffi3_transfer::{Registers, offset_in, place_word, read_pieces};
+use ffi3_type_rules::limits::LARGEST_TYPE;
+use ffi3_types::{Bytes, CheckedType, NoMemory, Sig, Target};
+use ffi3_win64::Win64;
+use std::alloc::Global;
+
+/// What is told of a result beside its bytes: C's `struct ffi3_result`.
+#[repr(C)]
+#[derive(Clone, Copy)]
+pub struct ReturnedResult {
+    /// How many bytes it has.
+    pub size: usize,
+    /// The address of the buffer that has them, if that points past the bytes of memory.
+    pub address: u64,
+    /// Nothing yet.
+    pub reserved: [u64; 2],
+    pub fault: TextFault,
+}
+
+/// A result that was read.
+#[derive(Drop)]
+pub struct FoundResult {
+    pub told: ReturnedResult,
+    pub bytes: Bytes,
+}
+
+/// Why a result is not read.
+#[derive(Clone, Copy)]
+pub enum Unfound {
+    /// There is no such call.
+    Call(Refusal),
+    /// So many bytes from this address on have it.
+    NotInStack { size: usize, address: u64 },
+    /// So many bytes of a buffer have it, whose address the standard does not give back.
+    NoAddress { size: usize },
+}
+
+impl Unfound {
+    /// The number that C is answered.
+    fn status(self) -> u32
+        ensures { result ≡ unfound_status self }
+    {
+        match self {
+            Unfound::Call(refusal) => refusal.status(),
+            Unfound::NotInStack { .. } => NOT_IN_STACK,
+            Unfound::NoAddress { .. } => NO_ADDRESS,
+        }
+    }
+
+    /// What C is told beside it.
+    fn told(self) -> ReturnedResult
+        ensures { result ≡ no_result self }
+    {
+        match self {
+            Unfound::Call(refusal) => told(0, 0, refusal.fault()),
+            Unfound::NotInStack { size, address } => {
+                told(size, address, fault_with(FaultKind::NoFault))
+            }
+            Unfound::NoAddress { size } => told(size, 0, fault_with(FaultKind::NoFault)),
+        }
+    }
+}
+
+fn told(size: usize, address: u64, fault: TextFault) -> ReturnedResult
+    ensures { result ≡ result_of size address fault }
+{
+    ReturnedResult {
+        size,
+        address,
+        reserved: [0; 2],
+        fault,
+    }
+}
+
+/// The bytes of a result in pieces.
+fn direct_bytes(
+    alloc: Global,
+    registers: &Registers,
+    stack: &[u8],
+    pieces: &Pieces,
+    size: usize,
+) -> Result<Bytes, NoMemory>
+    requires there { AllByRecursion (CanBeRead (image_in registers.now stack.now) 0) pieces.now }
+    requires within { AllByRecursion (IsWithin size) pieces.now }
+    requires small { size ≤ LARGEST_TYPE }
+    ensures { IfOk result (λ b. b ≡ first_bytes (image_in registers.now stack.now) 0 pieces.now 0 size) }
+{
+    let mut room = [0; LARGEST_TYPE as usize];
+    let out = &mut room[..size];
+    read_pieces(registers, stack, 0, pieces, out);
+    Bytes::from_slice(alloc, out)
+}
+
+/// The bytes of a result in a buffer, whose address is in this register, if in any.
+fn buffer_bytes(
+    alloc: Global,
+    registers: &Registers,
+    stack: &[u8],
+    returned: Option<Loc>,
+    ty: &CheckedType<'_>,
+) -> Result<Bytes, Unfound>
+    requires { AllByRecursion (HasPlace (image_in registers.now stack.now) 0) (to_list returned) }
+    ensures bytes { IfOk result (λ b. result_behind (image_in registers.now stack.now) ty.now returned ≡ are_bytes b) }
+    ensures sized { IfOk result (λ b. length b ≡ size_of ty.now) }
+    ensures unfound { IfErr result (λ u. IsUnfound ty.now (result_behind (image_in registers.now stack.now) ty.now returned) u) }
+{
+    let wanted = ty.size();
+    let size = wanted as usize;
+    let at = match returned {
+        Some(at) => at,
+        None => return Err(Unfound::NoAddress { size }),
+    };
+    let address = place_word(registers, stack, 0, at);
+    match offset_in(registers, stack, address, wanted) {
+        Some(from) => match Bytes::from_slice(alloc, &stack[from..from + size]) {
+            Ok(bytes) => Ok(bytes),
+            Err(_) => Err(Unfound::Call(Refusal::NoMemory)),
+        },
+        None => Err(Unfound::NotInStack { size, address }),
+    }
+}
+
+/// The bytes of the result of a call by this interface.
+fn read_result<A: Abi>(
+    alloc: Global,
+    cif: &Cif<A>,
+    registers: &Registers,
+    stack: &[u8],
+) -> Result<Bytes, Unfound>
+    ensures bytes { IfOk result (λ b. returned_by_standard A.standard cif.now (image_in registers.now stack.now) ≡ are_bytes b) }
+    ensures sized { IfOk result (λ b. length b ≡ size_of cif.now.result_type) }
+    ensures unfound { IfErr result (λ u. IsUnfound cif.now.result_type (returned_by_standard A.standard cif.now (image_in registers.now stack.now)) u) }
+{
+    let sig = cif.checked_sig();
+    let ty = sig.ret();
+    match cif.result_place() {
+        Res::Nothing => Ok(Bytes::new(alloc)),
+        Res::Direct(pieces) => {
+            match direct_bytes(alloc, registers, stack, pieces, ty.size() as usize) {
+                Ok(bytes) => Ok(bytes),
+                Err(_) => Err(Unfound::Call(Refusal::NoMemory)),
+            }
+        }
+        Res::Hidden { .. } => buffer_bytes(alloc, registers, stack, A::returned_address(), &ty),
+    }
+}
+
+/// The result by a calling standard.
+fn find_by<A: Abi>(
+    alloc: Global,
+    sig: Sig,
+    registers: &Registers,
+    stack: &[u8],
+) -> Result<FoundResult, Unfound>
+    requires { SignatureHasNoFault sig }
+    ensures found { IfOk result (λ f. IsFoundBy A.standard sig (image_in registers.now stack.now) f) }
+    ensures unfound { IfErr result (λ u. IsNotFoundBy A.standard sig (image_in registers.now stack.now) u) }
+{
+    let Ok(cif) = Cif::<A>::prepare(alloc, sig) else {
+        return Err(Unfound::Call(Refusal::NoMemory));
+    };
+    match read_result(alloc, &cif, registers, stack) {
+        Ok(bytes) => Ok(FoundResult {
+            told: told(bytes.len(), 0, fault_with(FaultKind::NoFault)),
+            bytes,
+        }),
+        Err(unfound) => Err(unfound),
+    }
+}
+
+/// The result by the target's calling standard.
+fn find_on(
+    alloc: Global,
+    target: Target,
+    sig: Sig,
+    registers: &Registers,
+    stack: &[u8],
+) -> Result<FoundResult, Unfound>
+    requires { SignatureHasNoFault sig }
+    ensures found { IfOk result (λ f. IsFoundBy (standard_of target) sig (image_in registers.now stack.now) f) }
+    ensures unfound { IfErr result (λ u. IsNotFoundBy (standard_of target) sig (image_in registers.now stack.now) u) }
+{
+    match target {
+        Target::Amd64 => find_by::<Amd64>(alloc, sig, registers, stack),
+        Target::Aapcs64 => find_by::<Aapcs64>(alloc, sig, registers, stack),
+        Target::Riscv => find_by::<Riscv>(alloc, sig, registers, stack),
+        Target::Win64 => find_by::<Win64>(alloc, sig, registers, stack),
+        Target::Apple => find_by::<Apple>(alloc, sig, registers, stack),
+    }
+}
+
+/// The result of the function that is declared, as registers and stack have it where it has returned, by the calling
+/// standard with this number alone: in its registers, or where the address points that is given back, if that is in the
+/// stack's bytes, which begin at the stack pointer.
+pub fn find_result(
+    alloc: Global,
+    target: u32,
+    declaration: Declaration<'_>,
+    registers: &Registers,
+    stack: &[u8],
+) -> Result<FoundResult, Unfound>
+    ensures found { IfOk result (λ f. IsFound (IsDeclaredBy declaration.entry) target (image_in registers.now stack.now) f) }
+    ensures unfound { IfErr result (λ u. IsNotFound (IsDeclaredBy declaration.entry) (IsFaultBy declaration.entry) target (image_in registers.now stack.now) u) }
+{
+    let Some(to) = target_numbered(target) else {
+        return Err(Unfound::Call(Refusal::NoSuchTarget));
+    };
+    let sig = match declared(alloc, declaration) {
+        Ok(sig) => sig,
+        Err(Some(fault)) => return Err(Unfound::Call(Refusal::Fault(fault))),
+        Err(None) => return Err(Unfound::Call(Refusal::NoMemory)),
+    };
+    match find_on(alloc, to, sig, registers, stack) {
+        Ok(found) => Ok(found),
+        Err(unfound) => Err(unfound),
+    }
+}
+
+/// The same for a caller's struct and array of bytes. The number tells whether the result had room, or why there is
+/// none.
+pub fn tell_result(
+    alloc: Global,
+    target: u32,
+    declaration: Declaration<'_>,
+    registers: &Registers,
+    stack: &[u8],
+    told: &mut ReturnedResult,
+    value: &mut [u8],
+) -> u32
+    ensures { ReadsResult (IsDeclaredBy declaration.entry) (IsFaultBy declaration.entry) target (image_in registers.now stack.now) value.old result told.new value.new }
+{
+    match find_result(alloc, target, declaration, registers, stack) {
+        Ok(found) => {
+            *told = found.told;
+            room_status(fill_bytes(found.bytes.as_slice(), value))
+        }
+        Err(unfound) => {
+            *told = unfound.told();
+            unfound.status()
+        }
+    }
+}
