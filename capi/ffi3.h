@@ -1,6 +1,6 @@
 /* ffi3.h: where C's calling standards put the arguments and the result of a function.
  *
- * From a function's declaration to registers, stack offsets, sizes and alignments, by four calling standards, and from
+ * From a function's declaration to registers, stack offsets, sizes and alignments, by five calling standards, and from
  * the registers and the stack of a machine that entered the function back to its arguments; and for whoever makes calls
  * by an interface that is prepared once, values into registers and stack and back. The code behind this header is
  * proved; docs/TRUSTED.md says what its proof rests on, this header and the caller's duties below among it.
@@ -54,6 +54,7 @@ extern "C" {
                           there all that stands for `...`, and skips no register. Windows' has its own `...` too */
 #define FFI3_RISCV 2   /* RISC-V psABI, LP64D */
 #define FFI3_WIN64 3   /* Microsoft x64 */
+#define FFI3_APPLE 4   /* Apple's for arm64: macOS, iOS */
 
 /* ANSWERS of all functions but the last three and ffi3_release. */
 #define FFI3_OK 0
@@ -124,6 +125,7 @@ struct ffi3_fault {
 #define FFI3_REST_EXTENDED 1       /* the integer is sign- or zero-extended to 64 bits, by its type */
 #define FFI3_REST_EXTENDED_BY_32 2 /* so to 32 bits, and from there sign-extended to 64 */
 #define FFI3_REST_ONES 3           /* ones: the float is NaN-boxed */
+#define FFI3_REST_NONE 4           /* there is none: the bytes behind may be another argument's. By FFI3_APPLE alone */
 
 /* Where bytes of one value stand, or their address. */
 struct ffi3_piece {
@@ -206,7 +208,7 @@ struct ffi3_layout {
  *                      struct ffi3_layout *LAYOUT, struct ffi3_leaf *LEAVES, size_t CAPACITY)
  *
  * How the type of argument VALUE is laid out, or of the result where VALUE is FFI3_RESULT, of the function that the
- * LENGTH bytes at TEXT declare. All four standards lay out alike.
+ * LENGTH bytes at TEXT declare. All five standards lay out alike.
  *
  * LEAVES is an array of CAPACITY elements, and is given the type's scalars from the front.
  *
@@ -273,7 +275,7 @@ struct ffi3_type {
  * uint32_t ffi3_offsets_nodes(const struct ffi3_node *NODES, size_t COUNT, struct ffi3_type *TYPE,
  *                             size_t *OFFSETS, size_t CAPACITY)
  *
- * How the one type that the COUNT nodes at NODES are is laid out, by all four standards alike. It is one that can be a
+ * How the one type that the COUNT nodes at NODES are is laid out, by all five standards alike. It is one that can be a
  * result: void, a scalar, or a struct. An array stands in a struct.
  *
  * LEAVES is an array of CAPACITY elements, and is given the type's scalars from the front. OFFSETS is given where each
@@ -501,7 +503,7 @@ uint32_t ffi3_sizes(struct ffi3_interface *interface, struct ffi3_sizes *sizes);
  *
  * The caller's, before the call. The machine is that of the callee's first instruction: where the standard has the
  * return address on the stack, STACK begins with its 8 bytes. sp is the caller's choice, and its alignment is not
- * looked at; all four standards want sp + link to be a multiple of 16.
+ * looked at; all five standards want sp + link to be a multiple of 16.
  *
  * Written are the places of the arguments, extended as ffi3_piece says; copies in the frame, and their addresses; the
  * address of a hidden result's buffer, which is the one in the frame; and on AMD64 rax, which has the number of vector

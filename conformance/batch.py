@@ -12,6 +12,7 @@ from concurrent.futures import ThreadPoolExecutor
 import cases
 import differences
 import installed
+import macho
 from emit import Chunk, index_of
 from places import FLOATING, GENERAL, Layout
 from signature import SIZES, text_of
@@ -28,11 +29,14 @@ TARGETS = {
     "aapcs64": ("aarch64-linux-gnu", "qemu-aarch64", []),
     "riscv": ("riscv64-linux-gnu", "qemu-riscv64", ["-march=rv64gc", "-mabi=lp64d"]),
     "win64": ("x86_64-linux-gnu", None, []),
+    "apple": ("aarch64-linux-gnu", "qemu-aarch64", []),
 }
 # libffi counts as a compiler for each of the conventions that it has on AMD64; so each is named here, as ffi.h does.
 ABIS = {"libffi-unix64": "FFI_UNIX64", "libffi-win64": "FFI_WIN64", "libffi-gnuw64": "FFI_GNUW64"}
 COMPILERS = {"amd64": ("gcc", "clang", "libffi-unix64"), "aapcs64": ("gcc", "clang"), "riscv": ("gcc", "clang"),
-             "win64": ("gcc", "clang", "libffi-win64", "libffi-gnuw64")}
+             "win64": ("gcc", "clang", "libffi-win64", "libffi-gnuw64"), "apple": ("clang", "clang-16")}
+# What plays a call and an entry, where it is another target's.
+PLAYED_BY = {"apple": "aapcs64"}
 FLAGS = ["-w", "-std=gnu11", "-fno-pie", "-fno-stack-protector"]
 # Defined on a target whose programs run on the host beside those of another: player.h says what it changes.
 DEFINED = {"win64": ["-DWIN64"]}
@@ -50,7 +54,7 @@ def command_of(target, compiler):
     prefix, _, flags = TARGETS[target]
     if compiler == "gcc":
         return [f"{prefix}-gcc"]
-    return ["clang", f"--target={prefix}", *flags]
+    return [compiler, *macho.FLAGS] if target == "apple" else [compiler, f"--target={prefix}", *flags]
 
 
 def missing(target, compiler):
@@ -127,7 +131,7 @@ def link(target, program, files):
     """Links the player and these files by the target's gcc; static, so that an emulator needs no libraries."""
     kind = ["-no-pie"] if files[-1] == "-lffi" else ["-static"]
     subprocess.run([*command_of(target, "gcc"), *flags_of(target), "-O1", *kind, "-o", program, HERE / "player.c",
-                    HERE / f"{target}.S", *files], check=True)
+                    HERE / f"{PLAYED_BY.get(target, target)}.S", *files], check=True)
 
 
 class Compiled(Played):
@@ -152,8 +156,14 @@ class Compiled(Played):
 
     def compile(self, name, optimised):
         """The words name no folder, so that a cache of compilers (ccache) knows the file again."""
-        subprocess.run([*command_of(self.target, self.compiler), *flags_of(self.target), optimised, "-c", "-o",
-                        f"{name}.o", f"{name}.c"], check=True, cwd=self.folder)
+        words = [*command_of(self.target, self.compiler), *flags_of(self.target), optimised]
+        if self.target != "apple":
+            subprocess.run([*words, "-c", "-o", f"{name}.o", f"{name}.c"], check=True, cwd=self.folder)
+            return
+        subprocess.run([*words, "-S", "-o", f"{name}.macho", f"{name}.c"], check=True, cwd=self.folder)
+        (self.folder / f"{name}.s").write_text(macho.in_elf((self.folder / f"{name}.macho").read_text()))
+        subprocess.run([*command_of(self.target, "gcc"), "-c", "-o", f"{name}.o", f"{name}.s"], check=True,
+                       cwd=self.folder)
 
 
 class Libffi(Played):

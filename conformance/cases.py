@@ -8,9 +8,11 @@ from random import Random
 
 from signature import FLOATING, INTEGERS, SIZES, leaves_of
 
-RETURN_ADDRESS_OF_HIDDEN = {"amd64": "g0", "aapcs64": None, "riscv": None, "win64": "g0"}
-# Targets whose standard, not ffi3's own profile, says how a narrow integer is extended: compiled code must do it too.
-EXTENDED_BY_STANDARD = {"amd64": False, "aapcs64": False, "riscv": True, "win64": False}
+RETURN_ADDRESS_OF_HIDDEN = {"amd64": "g0", "aapcs64": None, "riscv": None, "win64": "g0", "apple": None}
+# To how many bytes a target's standard, not ffi3's own profile, says that a narrow integer is extended: compiled code
+# must do it too.
+EXTENDED_BY_STANDARD = {"amd64": 0, "aapcs64": 0, "riscv": 8, "win64": 0, "apple": 4}
+EXTENDED_BY_FFI3 = 8
 # What a copy's address is a multiple of too, where the standard asks for more than the argument's type does.
 ALIGNED_COPY = {"win64": (16,)}
 
@@ -61,11 +63,22 @@ def copies_of(target, kind, pieces):
     return 2 if target == "win64" and kind in FLOATING and len(pieces) == 2 else 1
 
 
-def in_pieces(target, kind, layout, leaves, pieces, is_widened):
-    """(place and byte, bytes) for each run of a value's bytes in its pieces, extended as the plan says."""
+def is_packed(target, signature, i, piece):
+    """Whether a scalar argument's place has its own bytes alone: what is behind it may be the next argument's."""
+    is_named = signature.fixed is None or i < signature.fixed
+    return target == "apple" and is_named and piece.place.kind == "s"
+
+
+def widened_to(target, signature, i, stand, most):
+    """To how many bytes argument i is extended, if it is a narrow integer: no further than its place goes."""
+    return 0 if stand.pieces and is_packed(target, signature, i, stand.pieces[0]) else most
+
+
+def in_pieces(target, kind, layout, leaves, pieces, widened):
+    """(place and byte, bytes) for each run of a value's bytes in its pieces, extended to so many bytes."""
     found, covered = [], []
-    if is_narrow(kind) and is_widened:
-        found.append((f"{pieces[0].place}+{SIZES[kind]}", extended(target, kind, leaves[0])[SIZES[kind]:]))
+    if is_narrow(kind) and widened > SIZES[kind]:
+        found.append((f"{pieces[0].place}+{SIZES[kind]}", extended(target, kind, leaves[0])[SIZES[kind]:widened]))
     for piece in pieces:
         inside = [(at - piece.offset, byte) for at, byte in leaf_bytes(kind, layout, leaves)
                   if piece.offset <= at < piece.offset + piece.length]
@@ -88,14 +101,15 @@ def head(direction, index, plan, values, result):
 def call_lines(target, index, signature, plan, layouts, values, result):
     """ffi3 is the caller."""
     lines = head("call", index, plan, values, result)
-    for kind, stand, leaves in zip(signature.arguments, plan.arguments, values):
+    for i, (kind, stand, leaves) in enumerate(zip(signature.arguments, plan.arguments, values)):
         if stand.reference:
             lines.append(f"put_address {stand.reference}+0 {stand.copy}")
             lines += [f"put s{stand.copy + at}+0 {run.hex()}"
                       for at, run in runs(leaf_bytes(kind, layouts[kind], leaves))]
         else:
+            widened = widened_to(target, signature, i, stand, EXTENDED_BY_FFI3)
             lines += [f"put {place} {run.hex()}"
-                      for place, run in in_pieces(target, kind, layouts[kind], leaves, stand.pieces, True)]
+                      for place, run in in_pieces(target, kind, layouts[kind], leaves, stand.pieces, widened)]
     if plan.vectors is not None:
         lines.append(f"put g0+0 {plan.vectors.to_bytes(8, 'little').hex()}")
     if plan.result.reference:
@@ -103,7 +117,7 @@ def call_lines(target, index, signature, plan, layouts, values, result):
     return [*lines, "go", "dump", *result_lines(target, signature, plan, layouts, result), "end"]
 
 
-def result_lines(target, signature, plan, layouts, result, is_widened=None):
+def result_lines(target, signature, plan, layouts, result, widened=None):
     """What the caller looks at when the call has returned; a narrow integer's extension where the standard says it, or
     as is told."""
     kind, stand = signature.result, plan.result
@@ -112,23 +126,24 @@ def result_lines(target, signature, plan, layouts, result, is_widened=None):
         if RETURN_ADDRESS_OF_HIDDEN[target]:
             lines.append(f"want_address {RETURN_ADDRESS_OF_HIDDEN[target]}+0 {stand.copy}")
         return lines
-    is_widened = EXTENDED_BY_STANDARD[target] if is_widened is None else is_widened
+    widened = EXTENDED_BY_STANDARD[target] if widened is None else widened
     return [f"want {place} {run.hex()}"
-            for place, run in in_pieces(target, kind, layouts[kind], result, stand.pieces, is_widened)]
+            for place, run in in_pieces(target, kind, layouts[kind], result, stand.pieces, widened)]
 
 
 def enter_lines(target, index, signature, plan, layouts, values, result):
     """ffi3 is the callee."""
     lines = head("enter", index, plan, values, result)
-    for kind, stand, leaves in zip(signature.arguments, plan.arguments, values):
+    for i, (kind, stand, leaves) in enumerate(zip(signature.arguments, plan.arguments, values)):
         if stand.reference:
             lines += [f"want_aligned {stand.reference}+0 {aligned}"
                       for aligned in (layouts[kind].align, *ALIGNED_COPY.get(target, ()))]
             lines += [f"want_at {stand.reference}+0 {at} {run.hex()}"
                       for at, run in runs(leaf_bytes(kind, layouts[kind], leaves))]
         else:
+            widened = widened_to(target, signature, i, stand, EXTENDED_BY_STANDARD[target])
             lines += [f"want {place} {run.hex()}" for place, run
-                      in in_pieces(target, kind, layouts[kind], leaves, stand.pieces, EXTENDED_BY_STANDARD[target])]
+                      in in_pieces(target, kind, layouts[kind], leaves, stand.pieces, widened)]
     if plan.vectors is not None and signature.fixed is not None:
         lines.append(f"want_between g0+0 {plan.vectors} 8")
     kind, stand = signature.result, plan.result
@@ -142,7 +157,7 @@ def enter_lines(target, index, signature, plan, layouts, values, result):
             lines.append(f"put_copy {RETURN_ADDRESS_OF_HIDDEN[target]}+0 {stand.reference}+0")
     else:
         lines += [f"put {place} {run.hex()}"
-                  for place, run in in_pieces(target, kind, layouts[kind], result, stand.pieces, True)]
+                  for place, run in in_pieces(target, kind, layouts[kind], result, stand.pieces, EXTENDED_BY_FFI3)]
     return [*lines, "end"]
 
 

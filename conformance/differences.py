@@ -125,6 +125,19 @@ def fixed_in_one_register(signature, plan, direction, reason):
         for stand in plan.arguments[:signature.fixed])
 
 
+def in_four_bytes(signature, plan, direction, reason):
+    """At or behind a named char or short on the stack of a variadic call."""
+    first = [i for i, stand in enumerate(plan.arguments[:signature.fixed or 0]) for piece in stand.pieces
+             if piece.place.kind == "s" and is_narrow(signature.arguments[i]) and SIZES[signature.arguments[i]] < 4]
+    if not first:
+        return False
+    if direction == "frame":
+        return (i := argument_in(reason)) is None or i >= first[0]
+    found = re.search(r" at s(\d+)\+", reason)
+    start = plan.arguments[first[0]].pieces[0].place.number
+    return direction in BY_PLACES and found is not None and int(found[1]) >= start
+
+
 COPIES = ("Microsoft, x64 calling convention, parameter passing: Structs or unions of other sizes are passed as a "
           "pointer to memory allocated by the caller.")
 WIDE_RESULT = (
@@ -184,6 +197,15 @@ DIFFERENCES = [
         "Microsoft, x64 calling convention, parameter passing: For these aggregate types passed as a pointer, "
         "including __m128, the caller-allocated temporary memory must be 16-byte aligned.",
         copy_of_its_own_alignment),
+    Difference(
+        "clang's caller of a variadic function stores a named char or short in four bytes", "apple", "clang",
+        "clang 14 extends it to an int before it lays out the stack, and so what follows it may stand elsewhere. Its own "
+        "callee reads it packed, and clang 16 stores it so.",
+        "Apple, Writing ARM64 code for Apple platforms, pass arguments to functions correctly: Function arguments may "
+        "consume slots on the stack that are not multiples of 8 bytes. If the total number of bytes for stack-based "
+        "arguments is not a multiple of 8 bytes, insert padding on the stack to maintain the 8-byte alignment "
+        "requirements.",
+        in_four_bytes),
 ]
 
 

@@ -25,7 +25,8 @@ KEPT = {
     "amd64": ([3, 5, 12, 13, 14, 15], []), "aapcs64": ([*range(19, 30)], [*range(8, 16)]),
     "riscv": ([8, 9, *range(18, 28)], [8, 9, *range(18, 28)]), "win64": ([3, 5, 7, 6, 12, 13, 14, 15], [*range(6, 16)]),
 }
-RESERVED = {"amd64": [], "aapcs64": [18], "riscv": [0, 3, 4], "win64": []}
+KEPT["apple"] = KEPT["aapcs64"]
+RESERVED = {"amd64": [], "aapcs64": [18], "riscv": [0, 3, 4], "win64": [], "apple": [18]}
 
 
 def script_of(signatures, values):
@@ -132,7 +133,7 @@ def wrong_at_return(target, signature, plan, layouts, result, own, theirs):
                         bytes_at(theirs, place, count))
         else:
             yield other(name, digits, *(bytes_at(image, place, count) for image in (ours, theirs)))
-    for line in [] if stand.reference else cases.result_lines(target, signature, plan, layouts, result, True):
+    for line in [] if stand.reference else cases.result_lines(target, signature, plan, layouts, result, cases.EXTENDED_BY_FFI3):
         _, place, digits = line.split(" ")
         yield "" if bytes_at(ours, place, len(digits) // 2).hex() == digits else f"not the result at {place}"
     general, floating = KEPT[target]
@@ -199,10 +200,12 @@ def buffer_at_an_odd_address(image, signature, plan):
 
 
 def fill_above(image, place, size, byte):
-    """The bytes of a place above the first `size` are this one."""
+    """The bytes of a place above the first `size` are this one. A packed place has none."""
     def filled(word):
         return word[:size] + byte * (8 - size)
 
+    if place.kind == "s" and image.target == "apple":
+        return
     if place.kind == "s":
         at = LINK[image.target] + place.number
         image.stack = image.stack[:at] + filled(image.stack[at:at + 8]) + image.stack[at + 8:]
@@ -270,12 +273,21 @@ def address_moved(image, signature, plan):
             image.general[number] = moved.to_bytes(8, "little")
 
 
+def a_byte_over_a_packed_argument(image, signature, plan):
+    """A narrow integer on the stack is written with one more byte, which is the next one's."""
+    for place, size in narrow(signature, plan):
+        if place.kind == "s":
+            at = LINK[image.target] + place.number + size
+            image.stack = image.stack[:at] + b"\x5a" + image.stack[at + 1:]
+
+
 EVERYWHERE = [first_two_exchanged, vectors_exchanged, stack_a_word_late, stack_pointer_above, buffer_at_an_odd_address]
 ERRORS = {
     "amd64": [*EVERYWHERE, no_vectors_counted, nine_vectors_counted],
     "aapcs64": [*EVERYWHERE, address_moved],
     "riscv": [*EVERYWHERE, extended_by_zeros, not_extended, not_extended_on_the_stack, not_boxed, address_moved],
     "win64": [*EVERYWHERE, vector_register_alone, address_moved],
+    "apple": [*EVERYWHERE, extended_by_zeros, not_extended, a_byte_over_a_packed_argument, address_moved],
 }
 # What a compiler cannot show, since it does so itself: see differences.py, and libffi's extension is its own.
 UNSEEN = {("riscv", "clang"): [not_extended_on_the_stack]}
@@ -283,7 +295,7 @@ UNSEEN = {("riscv", "clang"): [not_extended_on_the_stack]}
 
 # ---- planted errors: each changes the image of ffi3's callee
 
-RESULTS = {"amd64": (0, 2), "aapcs64": (0, 1), "riscv": (10, 11)}
+RESULTS = {"amd64": (0, 2), "aapcs64": (0, 1), "riscv": (10, 11), "apple": (0, 1)}
 
 
 def result_in_the_other_register(image, signature, plan):
@@ -349,6 +361,7 @@ ERRORS_OF_RETURNS = {
     "aapcs64": [*OF_EACH_CALLEE, vector_not_kept],
     "riscv": [*OF_EACH_CALLEE, result_not_boxed, vector_not_kept],
     "win64": [*OF_EACH_CALLEE, address_not_handed_back, vector_not_kept],
+    "apple": [*OF_EACH_CALLEE, vector_not_kept],
 }
 
 

@@ -39,7 +39,7 @@ class Refused(Exception):
 
 def judge(image, what, place, wants):
     """A place holds the doubleword that is wanted."""
-    holds = held(image, place)[:8]
+    holds = held(image, place)[:len(wants)]
     if holds != wants:
         raise Refused(f"{what}: {place_name(image.target, place)} holds {digits(holds)}, wants {digits(wants)}")
 
@@ -51,20 +51,21 @@ def judge_address(image, what, stand):
 
 
 def wanted(target, kind, layout, leaves, piece, holds):
-    """The doubleword of a piece in which these leaves stand: free bits are as it has them."""
+    """The doubleword of a piece in which these leaves stand: free bits are as it has them; a packed place has none."""
     found = bytearray(holds)
     for at, byte in cases.leaf_bytes(kind, layout, leaves):
         if piece.offset <= at < piece.offset + piece.length:
             found[at - piece.offset] = byte
     if cases.is_narrow(kind):
-        return cases.extended(target, kind, leaves[0])
+        return cases.extended(target, kind, leaves[0])[:len(holds)]
     if target == "riscv" and piece.place.kind == "f" and piece.length == 4:
         found[4:] = b"\xff" * 4
     return bytes(found)
 
 
-def read(image, what, kind, layout, stand):
-    """An argument's leaves as an image has them."""
+def read(image, signature, i, layout, stand):
+    """Argument i's leaves as an image has them."""
+    kind, what = signature.arguments[i], f"arg {i}"
     if stand.reference:
         judge_address(image, what, stand)
         value = image.stack[image.link + stand.copy:]
@@ -76,7 +77,8 @@ def read(image, what, kind, layout, stand):
     leaves = [bytes(value[at + k] for k in range(SIZES[leaf])) for at, leaf in zip(layout.offsets, layout.leaves)]
     for piece in stand.pieces:
         if piece.length <= 8:
-            holds = held(image, piece.place)[:8]
+            is_packed = cases.is_packed(image.target, signature, i, piece)
+            holds = held(image, piece.place)[:piece.length if is_packed else 8]
             judge(image, what, piece.place, wanted(image.target, kind, layout, leaves, piece, holds))
     return leaves
 
@@ -86,7 +88,7 @@ def answer(image, signature, plan, layouts):
     lines = []
     try:
         for i, (kind, stand) in enumerate(zip(signature.arguments, plan.arguments)):
-            leaves = read(image, f"arg {i}", kind, layouts[kind], stand)
+            leaves = read(image, signature, i, layouts[kind], stand)
             lines.append(f"arg {i} {value_text(kind, iter(leaves))}\n")
         if plan.result.reference:
             judge_address(image, "hidden", plan.result)
@@ -118,7 +120,7 @@ def bytes_at(image, place, start, count):
 def read_bytes(image, signature, plan, layouts):
     """The bytes of an image by what they are, where they are not free."""
     found = {kind: [] for kind in KINDS}
-    for kind, stand in zip(signature.arguments, plan.arguments):
+    for i, (kind, stand) in enumerate(zip(signature.arguments, plan.arguments)):
         layout = layouts[kind]
         inside = [at + k for at, leaf in zip(layout.offsets, layout.leaves) for k in range(SIZES[leaf])]
         if stand.reference:
@@ -133,7 +135,7 @@ def read_bytes(image, signature, plan, layouts):
             seen |= {*own}
             found[what] += [each for at in own for each in bytes_at(image, piece.place, at - piece.offset, 1)]
             is_boxed = image.target == "riscv" and piece.place.kind == "f" and piece.length == 4
-            if cases.is_narrow(kind) or is_boxed:
+            if (cases.is_narrow(kind) and not cases.is_packed(image.target, signature, i, piece)) or is_boxed:
                 found[EXTENSION] += bytes_at(image, piece.place, piece.length, 8 - piece.length)
     if plan.result.reference:
         found[HIDDEN] += bytes_at(image, plan.result.reference, 0, 8)
@@ -232,5 +234,5 @@ def found_at(program, own, planned, layouts, seed, kind):
 def planted(target):
     """The kinds of bytes that images of a target have."""
     left = {"amd64": [SECOND, ADDRESS, IN_A_COPY], "aapcs64": [SECOND, COUNT], "riscv": [SECOND, COUNT],
-            "win64": [COUNT]}[target]
+            "win64": [COUNT], "apple": [SECOND, COUNT]}[target]
     return [kind for kind in KINDS if kind not in left]

@@ -95,7 +95,7 @@ def failures(program, built, planned, seed):
 
 # ---- planted errors: each changes the description of an image
 
-GENERAL = {"amd64": (7, 6), "aapcs64": (0, 1), "riscv": (10, 11), "win64": (1, 2)}
+GENERAL = {"amd64": (7, 6), "aapcs64": (0, 1), "riscv": (10, 11), "win64": (1, 2), "apple": (0, 1)}
 
 
 def first_two_exchanged(image):
@@ -141,6 +141,7 @@ ERRORS = {
     "aapcs64": [*EVERYWHERE, stack_pointer_above],
     "riscv": [*EVERYWHERE, stack_pointer_above, dots_lost, address_is_no_argument],
     "win64": [*EVERYWHERE, stack_pointer_above, address_is_no_argument],
+    "apple": [*EVERYWHERE, stack_pointer_above, dots_lost],
 }
 
 

@@ -14,9 +14,9 @@ GENERAL = {
     "aapcs64": {f"x{number}": number for number in range(31)},
     "riscv": {f"a{number}": 10 + number for number in range(8)},
 }
-GENERAL["win64"] = GENERAL["amd64"]
+GENERAL |= {"win64": GENERAL["amd64"], "apple": GENERAL["aapcs64"]}
 # The bytes of the return address between the stack pointer of an entry and the first stack argument.
-LINK = {"amd64": 8, "aapcs64": 0, "riscv": 0, "win64": 8}
+LINK = {"amd64": 8, "aapcs64": 0, "riscv": 0, "win64": 8, "apple": 0}
 # On AMD64 the player has the upper halves of vector registers as further ones. No place of ffi3 has bytes there.
 UPPER = 16
 FLOATING = {
@@ -25,7 +25,7 @@ FLOATING = {
     "aapcs64": {f"v{number}": number for number in range(32)},
     "riscv": {f"fa{number}": 10 + number for number in range(8)},
 }
-FLOATING["win64"] = FLOATING["amd64"]
+FLOATING |= {"win64": FLOATING["amd64"], "apple": FLOATING["aapcs64"]}
 
 
 @dataclass(frozen=True)

@@ -278,6 +278,90 @@ def struct_in_a_vector_register(signature, plan, layouts):
 
 ONE_FLOATING = [[name] for name in FLOATING]
 
+
+# ---- Apple's AArch64
+
+def is_homogeneous(kind, layouts):
+    leaves = layouts[kind].leaves
+    return len(leaves) <= 4 and any(set(leaves) == {name} for name in FLOATING)
+
+
+def stacked_anew(signature, plan, layouts, extent_of):
+    """What is on the stack stands there anew, one behind another: each at a multiple, and of a size, that `extent_of`
+    gives of an argument, and by the rules where it gives none. Copies make room."""
+    at, more, before = 0, 1 << 14, copy.deepcopy(plan.arguments)
+    for i, (kind, stand) in enumerate(zip(signature.arguments, plan.arguments)):
+        place = stand.reference or stand.pieces[0].place
+        size, align = (8, 8) if stand.reference else (layouts[kind].size, layouts[kind].align)
+        if place.kind == "s":
+            is_named = signature.fixed is None or i < signature.fixed
+            is_packed = is_named and (isinstance(kind, str) or is_homogeneous(kind, layouts))
+            by_rule = (align, size) if is_packed else (max(8, align), -(-size // 8) * 8)
+            align, size = extent_of(i, kind, is_packed, align, size) or by_rule
+            at = -(-at // align) * align
+            plan.arguments[i] = moved(stand, lambda place, by=at - place.number: Place("s", place.number + by))
+            at += size
+    if plan.arguments == before:
+        return
+    plan.frame += more
+    for stand in stands(plan):
+        stand.copy += more * (stand.reference is not None)
+
+
+def even_registers(signature, plan, layouts):
+    """An integer of 128 bits begins in a register with an even number."""
+    for i, (kind, stand) in enumerate(zip(signature.arguments, plan.arguments)):
+        first = stand.pieces[0].place if stand.pieces else None
+        if kind in WIDE and first.kind == "g" and first.number % 2 and first.number < 6:
+            plan.arguments[i] = moved(stand, lambda place: Place("g", place.number + 1))
+            return
+
+
+def variadic_in_a_register(signature, plan, layouts):
+    """A variadic argument takes a register where one is free."""
+    used = [piece.place for stand in plan.arguments for piece in stand.pieces]
+    used += [stand.reference for stand in plan.arguments if stand.reference]
+    for i, kind in enumerate(signature.arguments):
+        letter = "f" if kind == "double" else "g"
+        free = max([place.number + 1 for place in used if place.kind == letter], default=0)
+        if signature.fixed is not None and i >= signature.fixed and isinstance(kind, str) and free < 8:
+            if SIZES[kind] <= 8:
+                plan.arguments[i] = Stand([Piece(Place(letter, free), 0, SIZES[kind])])
+                return
+
+
+def variadic_packed(signature, plan, layouts):
+    """A variadic argument takes its own bytes, as a named one does."""
+    def extent(i, kind, is_packed, align, size):
+        is_named = signature.fixed is None or i < signature.fixed
+        return None if is_named or not isinstance(kind, str) else (align, size)
+    if signature.fixed is not None:
+        stacked_anew(signature, plan, layouts, extent)
+
+
+def in_eight_bytes(signature, plan, layouts):
+    """A narrow argument on the stack takes eight bytes."""
+    stacked_anew(signature, plan, layouts, lambda i, kind, is_packed, align, size:
+                 (8, 8) if is_packed and isinstance(kind, str) and size < 8 else None)
+
+
+def homogeneous_rounded(signature, plan, layouts):
+    """A homogeneous aggregate on the stack takes a multiple of eight bytes."""
+    stacked_anew(signature, plan, layouts, lambda i, kind, is_packed, align, size:
+                 (8, -(-size // 8) * 8) if is_packed and not isinstance(kind, str) else None)
+
+
+def struct_not_rounded(signature, plan, layouts):
+    """Any other struct on the stack takes its own bytes."""
+    stacked_anew(signature, plan, layouts, lambda i, kind, is_packed, align, size:
+                 (align, size) if not isinstance(kind, str) and size <= 16 else None)
+
+
+def wide_on_the_stack_at_eight(signature, plan, layouts):
+    """An integer of 128 bits on the stack begins at a multiple of 8."""
+    stacked_anew(signature, plan, layouts, lambda i, kind, is_packed, align, size:
+                 (8, 16) if kind in WIDE else None)
+
 ERRORS = {
     "amd64": [exchanged, rounded_to_16, result_by_eightbyte, no_vectors_counted, one_vector_more, merged_to_sse,
               wide_at_eight, end_takes_no_room, last_of_many, large_late, exchanged_of_many_bytes],
@@ -288,6 +372,9 @@ ERRORS = {
     "win64": [counted_apart, shadow_store_left_out, vector_register_alone, general_register_alone, whole_in_a_register,
               struct_in_a_vector_register, wide_in_two_registers, last_of_many, large_by_value,
               exchanged_of_many_bytes],
+    "apple": [floats_packed, hidden_in_x0, vectors_not_ended, reference_at_16, even_registers, variadic_in_a_register,
+              variadic_packed, in_eight_bytes, homogeneous_rounded, struct_not_rounded, wide_on_the_stack_at_eight,
+              large_by_value],
 }
 # What a compiler cannot show, since it does so itself (differences.py), or does not look: libffi's closures save vector
 # registers by their signature, and look neither at al nor at the general register of a floating argument.

@@ -17,7 +17,7 @@ sys.dont_write_bytecode = True
 import trampolines  # noqa: E402
 
 TEST = Path(__file__).resolve().parent.parent / "crates" / "ffi3_call_tests" / "src" / "stub_bytes.rt"
-ISA = {"amd64": "amd64", "aapcs64": "aarch64", "riscv": "riscv", "win64": "amd64"}
+ISA = {"amd64": "amd64", "aapcs64": "aarch64", "riscv": "riscv", "win64": "amd64", "apple": "aarch64"}
 NAMES = ["entry", "exit", "call", "return"]
 WHOLE = "a whole call"
 FIELDS = {"entry": "entry", "exit": "exit", "call": "call", "back": "return"}  # of the test

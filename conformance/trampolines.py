@@ -16,10 +16,10 @@ STEPS = 3
 TRIED = [0, 1, 2, 127, 254, 255]
 
 # The closure register, and the register that a trampoline may use.
-CLOSURE = {"amd64": "r10", "aapcs64": "x17", "riscv": "x6", "win64": "r10"}
-USED = {"amd64": None, "aapcs64": "x16", "riscv": "x7", "win64": None}
+CLOSURE = {"amd64": "r10", "aapcs64": "x17", "riscv": "x6", "win64": "r10", "apple": "x17"}
+USED = {"amd64": None, "aapcs64": "x16", "riscv": "x7", "win64": None, "apple": "x16"}
 # A target whose slots are those of another, with whose word they are printed.
-SLOTS_OF = {"win64": "amd64"}
+SLOTS_OF = {"win64": "amd64", "apple": "aapcs64"}
 
 
 def slot_bytes():
@@ -48,7 +48,7 @@ def machine(target):
         names = "rax rbx rcx rdx rsi rdi rbp rsp r8 r9 r10 r11 r12 r13 r14 r15".split()
         return (unicorn.Uc(unicorn.UC_ARCH_X86, unicorn.UC_MODE_64),
                 {name: getattr(x86_const, f"UC_X86_REG_{name.upper()}") for name in names}, x86_const.UC_X86_REG_RIP)
-    if target == "aapcs64":
+    if SLOTS_OF.get(target, target) == "aapcs64":
         names = [f"x{number}" for number in range(31)] + ["sp"]
         return (unicorn.Uc(unicorn.UC_ARCH_ARM64, unicorn.UC_MODE_ARM),
                 {name: getattr(arm64_const, f"UC_ARM64_REG_{name.upper()}") for name in names},

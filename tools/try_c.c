@@ -105,7 +105,7 @@ static int is_untouched(const void *made, size_t size)
 static int is_right_piece(const struct ffi3_call *call, size_t i, const struct ffi3_piece *p)
 {
     int part = i < call->passed ? p->part < call->arguments || p->part == FFI3_HIDDEN : p->part == FFI3_RESULT;
-    return part && p->holds <= FFI3_ADDRESS && p->place <= FFI3_STACK && p->length && p->rest <= FFI3_REST_ONES
+    return part && p->holds <= FFI3_ADDRESS && p->place <= FFI3_STACK && p->length && p->rest <= FFI3_REST_NONE
         && (p->place == FFI3_STACK ? p->number + p->length <= call->frame : p->number < 32 && p->length <= 8);
 }
 
@@ -334,8 +334,8 @@ static struct ffi3_result read_result(uint32_t target, const struct nodes *from,
         check(deep < told.size && told.address == held->sp && is_untouched(value, room), "buffer", text, shown);
         break;
     case FFI3_NO_ADDRESS:
-        check(told.size && (target == FFI3_AAPCS64 || target == FFI3_RISCV) && is_untouched(value, room), "no address",
-              text, shown);
+        check(told.size && (target == FFI3_AAPCS64 || target == FFI3_RISCV || target == FFI3_APPLE) &&
+                  is_untouched(value, room), "no address", text, shown);
         break;
     case FFI3_NOT_DECLARED:
         check(!told.size && told.fault.kind != FFI3_NO_FAULT && is_untouched(value, room), "result of no function",
@@ -371,7 +371,7 @@ static void try_text(const char *from, size_t length, int all_rooms)
     char *text = block(length);
     size_t arguments, none;
     memcpy(text, from, length);
-    for (uint32_t target = FFI3_AMD64; target <= FFI3_WIN64; target++) {
+    for (uint32_t target = FFI3_AMD64; target <= FFI3_APPLE; target++) {
         size_t wanted = place(target, text, length, 0);
         for (size_t room = all_rooms ? 1 : wanted; room <= wanted + 1; room++)
             place(target, text, length, room);
@@ -415,15 +415,15 @@ static void try_refused(const char *line, size_t length)
     long calls;
     do {
         due++, counted = 0;
-        place((uint32_t)due % 4, line, length, 64);
+        place((uint32_t)due % 5, line, length, 64);
         calls = counted, counted = 0;
         lay_out(line, length, FFI3_RESULT, 64, &none);
         calls = calls > counted ? calls : counted, counted = 0;
-        read_arguments((uint32_t)due % 4, line, length, 4096, 4096);
+        read_arguments((uint32_t)due % 5, line, length, 4096, 4096);
         calls = calls > counted ? calls : counted, counted = 0;
-        read_result((uint32_t)due % 4, &(struct nodes){.line = line, .length = length}, 4096, 4096);
+        read_result((uint32_t)due % 5, &(struct nodes){.line = line, .length = length}, 4096, 4096);
         calls = calls > counted ? calls : counted, counted = 0;
-        read_each((uint32_t)due % 4, &(struct nodes){.line = line, .length = length}, 4096, 64, 4096);
+        read_each((uint32_t)due % 5, &(struct nodes){.line = line, .length = length}, 4096, 64, 4096);
     } while (due <= (calls > counted ? calls : counted));
     due = 0;
 }
@@ -508,7 +508,7 @@ static void try_nodes(struct nodes from, int all_rooms)
     struct ffi3_node *exact = block(from.count * sizeof *exact);
     memcpy(exact, from.at, from.count * sizeof *exact);
     from.at = exact;
-    for (uint32_t target = FFI3_AMD64; target <= FFI3_WIN64; target++) {
+    for (uint32_t target = FFI3_AMD64; target <= FFI3_APPLE; target++) {
         size_t wanted = place_nodes(target, &from, 0);
         for (size_t room = all_rooms ? 1 : wanted; room <= wanted + 1; room++)
             place_nodes(target, &from, room);
@@ -560,11 +560,11 @@ static void try_nodes_refused(const struct nodes *from)
     struct nodes first = first_type(from);
     do {
         due++, counted = 0;
-        place_nodes((uint32_t)due % 4, from, 64);
+        place_nodes((uint32_t)due % 5, from, 64);
         calls = counted, counted = 0;
-        read_result((uint32_t)due % 4, from, 4096, 4096);
+        read_result((uint32_t)due % 5, from, 4096, 4096);
         calls = calls > counted ? calls : counted, counted = 0;
-        read_each((uint32_t)due % 4, from, 4096, 64, 4096);
+        read_each((uint32_t)due % 5, from, 4096, 64, 4096);
         calls = calls > counted ? calls : counted, counted = 0;
         type_of_nodes(&first, 64);
     } while (due <= (calls > counted ? calls : counted));
@@ -610,7 +610,8 @@ int main(int count, char **words)
     }
     fclose(file);
     check(ffi3_version() == FFI3_VERSION, "version", "", 0);
-    check(ffi3_place(4, "void f(void)", 12, &call, &piece, 1) == FFI3_UNKNOWN_TARGET && !call.pieces, "target", "", 0);
+    check(ffi3_place(FFI3_APPLE + 1, "void f(void)", 12, &call, &piece, 1) == FFI3_UNKNOWN_TARGET && !call.pieces,
+          "target", "", 0);
     check(!ffi3_register_name(FFI3_RISCV, FFI3_STACK, 0, line, sizeof line) && !*line, "no register", "", 0);
     printf("%ld passed, %ld failed\n", passed, failed);
     return failed != 0;

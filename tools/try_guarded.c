@@ -244,7 +244,7 @@ static void try_text(const char *from, size_t length, int all)
 {
     for (int at_end = 0; at_end < 2; at_end++) {
         const char *text = lend(&texts, from, length, at_end);
-        for (uint32_t target = FFI3_AMD64; target <= FFI3_WIN64 + 1; target++) {
+        for (uint32_t target = FFI3_AMD64; target <= FFI3_APPLE + 1; target++) {
             try_place(target, text, length, all, at_end);
             try_arguments(target, text, length, all, at_end);
         }
@@ -384,11 +384,11 @@ static void try_nodes(const struct ffi3_node *from, size_t count, uint32_t fixed
 {
     for (int at_end = 0; at_end < 2; at_end++) {
         const struct ffi3_node *nodes = lend(&texts, from, count * sizeof *from, at_end);
-        for (uint32_t target = FFI3_AMD64; target <= FFI3_WIN64 + 1; target++)
+        for (uint32_t target = FFI3_AMD64; target <= FFI3_APPLE + 1; target++)
             try_place_nodes(target, nodes, count, fixed, all, at_end);
         for (size_t at = 0; at < count; at++)
             try_type(nodes + at, count - at, all, at_end);
-        for (uint32_t target = FFI3_AMD64; target <= FFI3_WIN64 + 1; target++) {
+        for (uint32_t target = FFI3_AMD64; target <= FFI3_APPLE + 1; target++) {
             const struct ffi3_node *again = lend(&texts, from, count * sizeof *from, at_end);
             try_interface(target, again, count, fixed, at_end);
         }

@@ -67,7 +67,7 @@ static const struct ffi3_node large[] = {{FFI3_DOUBLE, 0}, {FFI3_STRUCT, 8}, {FF
                                          {FFI3_DOUBLE, 0}, {FFI3_DOUBLE, 0}, {FFI3_DOUBLE, 0}, {FFI3_DOUBLE, 0},
                                          {FFI3_DOUBLE, 0}, {FFI3_DOUBLE, 0}, {FFI3_SINT32, 0}};
 static const struct ffi3_node wrong[] = {{FFI3_SINT32, 0}, {99, 0}};
-enum { TARGETS = FFI3_WIN64 + 1, LISTS = FFI3_MOVES_OF_HIDDEN + 1 };
+enum { TARGETS = FFI3_APPLE + 1, LISTS = FFI3_MOVES_OF_HIDDEN + 1 };
 
 static uint32_t prepare(uint32_t target, int is_large, struct ffi3_interface *it)
 {

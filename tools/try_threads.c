@@ -167,7 +167,7 @@ static void *ask_all(void *given)
     work->begin = &here;
     work->answers = UINT64_C(14695981039346656037);
     pthread_barrier_wait(&all_there);
-    for (uint32_t target = FFI3_AMD64; target <= FFI3_WIN64; target++) {
+    for (uint32_t target = FFI3_AMD64; target <= FFI3_APPLE; target++) {
         ask_of_nodes(work, target);
         ask_of_interface(work, target);
         for (size_t i = 0; i < count; i++)

@@ -29,15 +29,15 @@ A piece REGISTER:OFFSET+LENGTH has LENGTH bytes of the value, from its byte OFFS
 stack8:0+4 has them 8 bytes behind where stack arguments begin. `ref REGISTER copy OFFSET` has the address of a copy,
 which stands at OFFSET of the caller's frame. `buffer` is the address of where the callee leaves a large result.
 
-  python3 -m ffi3 header zlib.h                         every function, on the four targets
+  python3 -m ffi3 header zlib.h                         every function, on all but apple
   python3 -m ffi3 header zlib.h --target riscv --function crc32
   python3 -m ffi3 header SDL.h -I /usr/include/SDL2 -D SDL_DISABLE_IMMINTRIN_H --json
   python3 -m ffi3 header w.h --cc "clang --target=x86_64-pc-windows-msvc"     as Windows' compilers have long, wchar_t
 
 The compiler of each target preprocesses and is asked for sizes, signs and offsets: gcc, aarch64-linux-gnu-gcc,
-riscv64-linux-gnu-gcc, x86_64-w64-mingw32-gcc. What is not read is listed with its reason, and nothing is guessed.
-Headers are those of C, not of C++. Functions of what a header includes are told where it is a part of the header's own
-folder, as SDL_render.h is of SDL.h; --all tells all.
+riscv64-linux-gnu-gcc, x86_64-w64-mingw32-gcc; for apple --cc names one. What is not read is listed with its reason, and
+nothing is guessed. Headers are those of C, not of C++. Functions of what a header includes are told where it is a part
+of the header's own folder, as SDL_render.h is of SDL.h; --all tells all.
 
 --json has `version`, 1; `headers`; of each target its compiler; and of each function `name`, `declaration`, `file`,
 `line`, `parameters`, `variadic` and `targets`. Of a target that is either `reason`, or `result` and `arguments` in
@@ -99,7 +99,7 @@ def _arguments(words) -> int:
 def _surveyed(words, names: Sequence[str]):
     """The compilers that the words ask for, and what they read."""
     from . import headers
-    targets = words.target or (TARGETS if words.cc is None else [None])
+    targets = words.target or (headers.COMPILERS if words.cc is None else [None])
     compilers = [headers.compiler_for(target, words.cc, words.folders, words.defined) for target in targets]
     for note in dict.fromkeys(filter(None, (each.note for each in compilers))):
         print(f"ffi3: {note}", file=sys.stderr)
@@ -173,7 +173,7 @@ def _register(text: str) -> tuple[str, int]:
 
 def _with_compiler(parser: argparse.ArgumentParser) -> None:
     parser.add_argument("--target", action="append", choices=TARGETS,
-                        help="a target; may be given again; else all four")
+                        help="a target; may be given again; else all, of headers all but apple")
     parser.add_argument("-I", action="append", default=[], dest="folders", metavar="DIR", help="a folder of headers")
     parser.add_argument("-D", action="append", default=[], dest="defined", metavar="NAME[=VALUE]", help="a macro")
     parser.add_argument("--cc", help="the compiler with its words, and where --target is not given its target")

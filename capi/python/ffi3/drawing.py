@@ -1,7 +1,7 @@
 """Drawings of registers and stack, each argument in a colour of its own.
 
     from ffi3 import drawing, headers
-    drawing.svg("double f(struct { int i; float x; } a)")           # the text of an SVG, of the four targets
+    drawing.svg("double f(struct { int i; float x; } a)")           # the text of an SVG, of the five targets
     [entry] = headers.survey("zlib.h", [headers.compiler_for("riscv")], ["crc32"])
     drawing.drawn(drawing.of_entry(entry))
 """

@@ -31,8 +31,8 @@ from .library import Call, Node
 COMPILERS = {"amd64": "gcc", "aapcs64": "aarch64-linux-gnu-gcc", "riscv": "riscv64-linux-gnu-gcc",
              "win64": "x86_64-w64-mingw32-gcc"}
 # What a compiler defines on each target.
-TARGET_OF = {("__x86_64__", "_WIN32"): "win64", ("__x86_64__",): "amd64", ("__aarch64__",): "aapcs64",
-             ("__riscv", "__LP64__"): "riscv"}
+TARGET_OF = {("__x86_64__", "_WIN32"): "win64", ("__x86_64__",): "amd64", ("__aarch64__", "__APPLE__"): "apple",
+             ("__aarch64__",): "aapcs64", ("__riscv", "__LP64__"): "riscv"}
 
 
 class Failed(Exception):
@@ -566,7 +566,10 @@ def compiler_for(target: str | None = None, cc: str | None = None, folders: Iter
     """The compiler of a target, or the one that is named, with folders of headers and macros.
 
     Without a target it is that of the compiler's code. Where a target's compiler is not found gcc is taken, and the
-    note says so. Raises Failed where the compiler does not start, or makes code for no target."""
+    note says so. Raises Failed where the compiler does not start, or makes code for no target, and where a target has
+    none here."""
+    if not cc and target and target not in COMPILERS:
+        raise Failed(f"{target} has no compiler here: one is named with --cc")
     words, note = shlex.split(cc or COMPILERS[target or "amd64"]), ""
     if not cc and not shutil.which(words[0]):
         note = f"{words[0]} is not found: on {target} char, long, wchar_t and va_list are as gcc has them here"

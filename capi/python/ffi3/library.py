@@ -20,7 +20,7 @@ Part = Union[int, str]
 Node = Union[str, int, tuple[Union[str, int], int]]
 Scalar = Union[int, float]
 
-TARGETS = ("amd64", "aapcs64", "riscv", "win64")
+TARGETS = ("amd64", "aapcs64", "riscv", "win64", "apple")
 RESULT = "result"
 HIDDEN = "hidden"
 
@@ -33,7 +33,7 @@ _NOT_VARIADIC = 0xFFFFFFFF
 _MOST_32, _MOST_64 = (1 << 32) - 1, (1 << 64) - 1
 _ADDRESS = 1
 _GENERAL, _FLOATING, _STACK = range(3)
-_RESTS = ("free", "extended", "extended by 32", "ones")
+_RESTS = ("free", "extended", "extended by 32", "ones", "none")
 _KINDS = ("uint8", "sint8", "uint16", "sint16", "uint32", "sint32", "uint64", "sint64", "uint128", "sint128", "float",
           "double", "pointer")
 _SIZES = dict(zip(_KINDS, (1, 1, 2, 2, 4, 4, 8, 8, 16, 16, 4, 8, 8)))
@@ -100,8 +100,8 @@ class Piece(NamedTuple):
 
     part is an argument's number, "hidden" or "result"; place a register's name, or "stack". On the stack number is the
     offset from the first stack argument. Of an address, offset says where in the caller's frame the value stands. rest
-    is what the rest of a register, or of the last eight bytes on the stack, holds: "free", "extended", "extended by 32"
-    or "ones", as ffi3.h says.
+    is what the rest of a register, or of the last eight bytes on the stack, holds: "free", "extended", "extended by
+    32", "ones" or "none", as ffi3.h says.
     """
 
     part: Part
@@ -116,7 +116,7 @@ class Piece(NamedTuple):
         at = f"stack+{self.number}" if self.place == "stack" else self.place
         if self.is_address:
             return f"{self.part}: {at} has the address of frame+{self.offset}"
-        rest = "" if self.rest == "free" else f", the rest {self.rest}"
+        rest = "" if self.rest in ("free", "none") else f", the rest {self.rest}"
         return f"{self.part}: {at} has bytes {self.offset} to {self.offset + self.length - 1}{rest}"
 
 

@@ -1,7 +1,7 @@
 """One page of HTML that shows every function of a header, and where its arguments and its result stand on each target.
 
     from ffi3 import headers, page
-    entries = headers.survey("zlib.h", map(headers.compiler_for, ffi3.TARGETS))
+    entries = headers.survey("zlib.h", map(headers.compiler_for, headers.COMPILERS))
     Path("zlib.html").write_text(page.html("zlib.h", entries))
 
 The page has all that it needs in itself: it works from the disk, without a server or a network.

@@ -10,7 +10,7 @@ from typing import NamedTuple
 from .library import HIDDEN, RESULT, Call, Part, Piece, Type
 
 SECTIONS = {"amd64": (6, "System V AMD64"), "aapcs64": (7, "Arm AAPCS64"), "riscv": (8, "RISC-V LP64D"),
-            "win64": (9, "Microsoft x64")}
+            "win64": (9, "Microsoft x64"), "apple": (7, "Apple arm64")}
 
 
 class Rule(NamedTuple):
@@ -72,6 +72,13 @@ RULES = {
                                   "0, so it is in rcx, and the arguments begin at position 1. It is returned in rax."),
     },
 }
+RULES["apple"] = {key: RULES["aapcs64"][key] for key in ("floating", "copy", "general", "result")} | {
+    "own": Rule("2", "A named scalar or homogeneous aggregate on the stack begins at the next multiple of its own "
+                     "alignment, and takes its own size: two shorts take four bytes, a struct of three floats twelve."),
+    "struct": Rule("3", "Any other struct on the stack begins at a multiple of 8, or of 16 where it is aligned to "
+                        "that, and takes its size rounded up to 8, also one of 3 or 4 bytes."),
+    "address": Rule("3", "The address of a copy takes eight bytes, at a multiple of 8."),
+}
 
 
 def is_floating(place: str) -> bool:
@@ -99,6 +106,14 @@ def _aapcs64(pieces: Sequence[Piece], kind: Type) -> str:
     return "stack" if pieces[0].place == "stack" else "general"
 
 
+def _apple(pieces: Sequence[Piece], kind: Type) -> str:
+    if pieces[0].place != "stack":
+        return _aapcs64(pieces, kind)
+    if pieces[0].is_address:
+        return "address"
+    return "own" if not kind.offsets or is_homogeneous(kind) else "struct"
+
+
 def _riscv(pieces: Sequence[Piece], kind: Type) -> str:
     floating = sum(is_floating(piece.place) for piece in pieces)
     if pieces[0].is_address:
@@ -118,14 +133,14 @@ def _win64(pieces: Sequence[Piece], kind: Type) -> str:
     return "floating" if is_floating(pieces[0].place) else "struct" if kind.offsets else "general"
 
 
-_OF_ARGUMENT = {"amd64": _amd64, "aapcs64": _aapcs64, "riscv": _riscv, "win64": _win64}
+_OF_ARGUMENT = {"amd64": _amd64, "aapcs64": _aapcs64, "riscv": _riscv, "win64": _win64, "apple": _apple}
 
 
 def rule_of(target: str, call: Call, part: Part, kind: Type) -> str:
     """By which of RULES[target] a value of this type stands where it does in a call; of HIDDEN the result's."""
     is_hidden = any(piece.part == HIDDEN for piece in call.pieces)
     if part in (RESULT, HIDDEN):
-        if target == "aapcs64":
+        if target in ("aapcs64", "apple"):
             return "result"
         if is_hidden:
             return "hidden"

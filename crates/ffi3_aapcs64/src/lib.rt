@@ -154,7 +154,7 @@ fn registers_needed(ty: &CheckedType<'_>, vectors: bool, copied: bool, size: u64
 
 /// The type of an argument or a result, with what placing asks of it again and again.
 #[derive(Drop)]
-struct Classed<'a> {
+pub struct Classed<'a> {
     ty: CheckedType<'a>,
     size: u64,
     align: u64,
@@ -188,7 +188,7 @@ impl<'a> Model for Classed<'a> {
 
 impl<'a> Classed<'a> {
     /// A value of this type.
-    fn of(ty: CheckedType<'a>) -> Classed<'a>
+    pub fn of(ty: CheckedType<'a>) -> Classed<'a>
         ensures { result ≡ ty.entry }
     {
         let extent = ty.as_type().extent();
@@ -206,22 +206,31 @@ impl<'a> Classed<'a> {
     }
 
     /// Its type.
-    fn ty(&self) -> &CheckedType<'a>
+    pub fn ty(&self) -> &CheckedType<'a>
         ensures { result.now ≡ self.now }
     {
         &self.ty
     }
 
     /// Its size in bytes.
-    fn size(&self) -> u64
+    pub fn size(&self) -> u64
         ensures value { result ≡ size_of self.now }
         ensures small { result ≤ LARGEST_TYPE }
     {
         self.size
     }
 
+    /// Its alignment in bytes.
+    pub fn align(&self) -> u64
+        ensures value { result ≡ align_of self.now }
+        ensures positive { 0 < result }
+        ensures small { result ≤ 16 }
+    {
+        self.align
+    }
+
     /// How many doublewords it takes. The last has what is left where the size is no multiple of 8.
-    fn doublewords(&self) -> u64
+    pub fn doublewords(&self) -> u64
         ensures value { result ≡ doublewords self.now }
         ensures few { 8 * result ≤ LARGEST_TYPE + 7 }
     {
@@ -229,21 +238,21 @@ impl<'a> Classed<'a> {
     }
 
     /// Whether it takes SIMD and floating-point registers.
-    fn in_vectors(&self) -> bool
+    pub fn in_vectors(&self) -> bool
         ensures { result ≡ in_vectors self.now }
     {
         self.vectors
     }
 
     /// Whether the caller copies it and passes a pointer to the copy.
-    fn is_copied(&self) -> bool
+    pub fn is_copied(&self) -> bool
         ensures { result ≡ is_copied self.now }
     {
         self.copied
     }
 
     /// How many registers of its kind it needs.
-    fn registers(&self) -> u64
+    pub fn registers(&self) -> u64
         ensures value { result ≡ registers_needed self.now }
         ensures few { result ≤ 4 }
     {
@@ -259,7 +268,7 @@ impl<'a> Classed<'a> {
     }
 
     /// The alignment of what is passed: the value, or the pointer to its copy.
-    fn passed_align(&self) -> u64
+    pub fn passed_align(&self) -> u64
         ensures value { result ≡ align_of (passed self.now) }
         ensures small { result ≤ 16 }
     {
@@ -277,7 +286,7 @@ pub fn need_of(ty: &FfiType) -> (bool, u8)
 }
 
 /// The stack that an argument takes where it is not in registers.
-fn stack_size(classed: &Classed<'_>) -> u64
+pub fn stack_size(classed: &Classed<'_>) -> u64
     ensures value { result ≡ stack_size classed.now }
     ensures small { result ≤ LARGEST_TYPE + 7 }
 {
@@ -464,7 +473,7 @@ fn register_pieces(alloc: Global, classed: &Classed<'_>, first: u64) -> Result<P
 // ---- arguments
 
 /// An argument, or the pointer to its copy, in registers of its kind from number `first` on.
-fn register_place(alloc: Global, classed: &Classed<'_>, first: u64) -> Result<Place, NoMemory>
+pub fn register_place(alloc: Global, classed: &Classed<'_>, first: u64) -> Result<Place, NoMemory>
     requires { first + registers_needed classed.now ≤ 8 }
     ensures { IfOk result (λ p. p ≡ without_copy (register_spot first classed.now)) }
 {
@@ -478,13 +487,13 @@ fn register_place(alloc: Global, classed: &Classed<'_>, first: u64) -> Result<Pl
 }
 
 /// An argument, or the pointer to its copy, on the stack from byte `first` on.
-fn stack_place(alloc: Global, classed: &Classed<'_>, first: u64) -> Result<Place, NoMemory>
+pub fn stack_place(alloc: Global, classed: &Classed<'_>, first: u64) -> Result<Place, NoMemory>
     requires { first ≤ 2 * ARGUMENT_BYTES }
     ensures { IfOk result (λ p. p ≡ without_copy (stack_spot first classed.now)) }
 {
     if classed.is_copied() {
         return Ok(Place::ByRef {
-            at: Loc::S(first as u32),
+            at: Loc::S(first as u32, 8),
             copy: 0,
         });
     }
@@ -561,7 +570,7 @@ fn result_from(place: Place, ty: &CheckedType<'_>, end: u64) -> Res
 }
 
 /// Where the result stands, if what is before its buffer ends at `end`.
-fn place_result(alloc: Global, sig: &CheckedSig<'_>, end: u64) -> Result<Res, NoMemory>
+pub fn place_result(alloc: Global, sig: &CheckedSig<'_>, end: u64) -> Result<Res, NoMemory>
     requires { end ≤ 4 * ARGUMENT_BYTES }
     ensures { IfOk result (λ r. r ≡ result_at aapcs64.copy_start end sig.now.result_type (result_spot_of sig.now.result_type)) }
 {

@@ -13,7 +13,7 @@ use Rattle.ffi3_aapcs64_rules.specs.Aapcs64.{aapcs64}
 written : (l : Loc) → IsNoneOf aapcs64.reserved l → TakesWrites (isa_of aapcs64.target) l
 written (G r) h = refl
 written (F r) h = tt
-written (S n) h = tt
+written (S n w) h = tt
 
 pub agrees : AgreesWithMachine aapcs64
 agrees = record {

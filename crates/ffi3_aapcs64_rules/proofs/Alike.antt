@@ -16,7 +16,7 @@ use Rattle.ffi3_aapcs64_rules.specs.Aapcs64.{homogeneous_members, in_vectors, is
 -- ---- structs
 
 module _ (ts us : Trees) (e : layout (structure ts) ≡ layout (structure us)) where
-  vectors_alike : in_vectors (structure ts) ≡ in_vectors (structure us)
+  pub vectors_alike : in_vectors (structure ts) ≡ in_vectors (structure us)
   vectors_alike = ap (λ (l : Layout). is_some (homogeneous_members l.leaves)) e
 
   copied_alike : is_copied (structure ts) ≡ is_copied (structure us)
@@ -32,18 +32,18 @@ module _ (ts us : Trees) (e : layout (structure ts) ≡ layout (structure us)) w
   passed_alike f same =
       ap (λ b. f (cond {A = Tree} b (scalar pointer) (structure ts))) copied_alike ∙ number_if f same (is_copied (structure us))
 
-  passed_size_alike : size_of (passed (structure ts)) ≡ size_of (passed (structure us))
+  pub passed_size_alike : size_of (passed (structure ts)) ≡ size_of (passed (structure us))
   passed_size_alike = passed_alike size_of (size_alike (structure ts) (structure us) (same_layout e))
 
   first_general_alike : (end : ℕ) → first_general end (passed (structure ts)) ≡ first_general end (passed (structure us))
   first_general_alike end =
       passed_alike (first_general end) (ap (λ (l : Layout). cond (nat_le 16 l.align) (least_multiple 2 end) end) e)
 
-  stack_start_alike : (end : ℕ) → stack_start end (passed (structure ts)) ≡ stack_start end (passed (structure us))
+  pub stack_start_alike : (end : ℕ) → stack_start end (passed (structure ts)) ≡ stack_start end (passed (structure us))
   stack_start_alike end =
       passed_alike (stack_start end) (start_alike end (structure ts) (structure us) (same_layout e))
 
-  needed_alike : registers_needed (structure ts) ≡ registers_needed (structure us)
+  pub needed_alike : registers_needed (structure ts) ≡ registers_needed (structure us)
   needed_alike =
       ap (λ b. cond b (length (leaves_of (structure ts))) ((size_of (passed (structure ts)) + 7) / 8)) vectors_alike
       ∙ ap (λ (l : Layout). cond (in_vectors (structure us)) (length l.leaves) ((size_of (passed (structure ts)) + 7) / 8)) e
@@ -53,13 +53,13 @@ module _ (ts us : Trees) (e : layout (structure ts) ≡ layout (structure us)) w
   pieces_alike first =
       ap (λ (l : Layout). cond (is_some (homogeneous_members l.leaves)) (member_pieces first l.leaves) (doublewords_at (λ j. G (first + j)) l.size Free 0 ((l.size + 7) / 8))) e
 
-  struct_register_spot : (first : ℕ) → register_spot first (structure ts) ≡ register_spot first (structure us)
+  pub struct_register_spot : (first : ℕ) → register_spot first (structure ts) ≡ register_spot first (structure us)
   struct_register_spot first =
       ap (λ b. cond b (by_reference (G first)) (in_pieces (register_pieces first (structure ts)))) copied_alike ∙ ap (λ ps. cond (is_copied (structure us)) (by_reference (G first)) (in_pieces ps)) (pieces_alike first)
 
-  struct_stack_spot : (start : ℕ) → stack_spot start (structure ts) ≡ stack_spot start (structure us)
+  pub struct_stack_spot : (start : ℕ) → stack_spot start (structure ts) ≡ stack_spot start (structure us)
   struct_stack_spot start =
-      ap (λ b. cond b (by_reference (S start)) (in_pieces (stack_pieces start (structure ts)))) copied_alike ∙ ap (λ (l : Layout). cond (is_copied (structure us)) (by_reference (S start)) (in_pieces (doublewords_at (λ j. S (start + 8 * j)) l.size Free 0 ((l.size + 7) / 8)))) e
+      ap (λ b. cond b (by_reference (S start 8)) (in_pieces (stack_pieces start (structure ts)))) copied_alike ∙ ap (λ (l : Layout). cond (is_copied (structure us)) (by_reference (S start 8)) (in_pieces (doublewords_at (λ j. S (start + 8 * j) 8) l.size Free 0 ((l.size + 7) / 8)))) e
 
 -- ---- what a type shows to this standard
 
@@ -148,7 +148,7 @@ all_taken_alike (t ∷ ts) [] h before = absurd h
 all_taken_alike (t ∷ ts) (u ∷ us) h before =
     ap (λ b. taken_after b ts) (taken_alike t u (shows t u h.0) before) ∙ all_taken_alike ts us h.1 (taken_with before u)
 
-result_alike : (t u : Tree) → AreAlike t u → result_spot_of t ≡ result_spot_of u
+pub result_alike : (t u : Tree) → AreAlike t u → result_spot_of t ≡ result_spot_of u
 result_alike t u same_type = refl
 result_alike t u (same_layout {ts = ts} {us = us} e) =
     ap result_from (spot_alike (structure ts) (structure us) (shows (structure ts) (structure us) (same_layout e)) untouched)

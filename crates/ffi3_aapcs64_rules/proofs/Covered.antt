@@ -7,6 +7,7 @@ use Rattle.std.proofs.lemmas.Bool.Decides.{nat_tests}
 use Rattle.ffi3_type_rules.specs.Tree.{Tree, void, scalar, left_out, structure, Scalar, u8, s8, u16, s16, u32, s32, u64, s64, u128, s128, float, double, pointer, array}
 use Rattle.ffi3_type_rules.specs.Layout.{Leaf, leaves_of, size_of, align_of, scalar_size, least_multiple}
 use Rattle.ffi3_type_rules.proofs.Layouts.{scalar_size-bounds}
+use Rattle.ffi3_place_rules.specs.declared.Loc.{Loc}
 use Rattle.ffi3_place_rules.specs.declared.Loc.TheVariants.{G, F, S}
 use Rattle.ffi3_place_rules.specs.declared.Ext.TheVariants.{Free}
 use Rattle.ffi3_place_rules.specs.declared.Taken.{Taken}
@@ -16,7 +17,7 @@ use Rattle.ffi3_place_rules.specs.Holds.{Carries}
 use Rattle.ffi3_place_rules.specs.Sound.{CoversLeaf, IsPieceOf, HaveAll, PlaceHasAll, PlacesHaveAll, is_narrow_integer, IsFilled, PlaceIsFilled, PlacesAreFilled}
 use Rattle.ffi3_place_rules.proofs.Tests.{and_left, and_right, not_true, each_weaker}
 use Rattle.ffi3_place_rules.proofs.Covered.{EndsIn, leaves_end, any_later}
-use Rattle.ffi3_place_rules.proofs.Doublewords.{widening_suits, leaf_is_piece, doublewords_have_all, stack_has_all}
+use Rattle.ffi3_place_rules.proofs.Doublewords.{widening_suits, whole_pieces, leaf_is_piece, doublewords_have_all, stack_has_all}
 use Rattle.ffi3_place_rules.proofs.Filled.{doublewords_filled}
 use Rattle.ffi3_aapcs64_rules.specs.declared.Kind.{Kind}
 use Rattle.ffi3_aapcs64_rules.specs.declared.Kind.TheVariants.{Float, Double}
@@ -62,7 +63,7 @@ members_small (array ts n) e = cc
 members_are_pieces : (t : Tree) (v : ℕ) (ls : List Leaf) → AllByRecursion IsSmall ls → AllByRecursion (EndsIn (size_of t)) ls → AllByRecursion (IsPieceOf t) (member_pieces v ls)
 members_are_pieces t v [] small h = tt
 members_are_pieces t v (l ∷ ls) small h =
-    (leaf_is_piece t (F v) Free l small.0 h.0 tt, members_are_pieces t (v + 1) ls small.1 h.1)
+    (leaf_is_piece t (F v) Free l refl small.0 h.0 tt, members_are_pieces t (v + 1) ls small.1 h.1)
 
 members_cover : (v : ℕ) (ls : List Leaf) → AllByRecursion (CoversLeaf (member_pieces v ls)) ls
 members_cover v [] = tt
@@ -78,7 +79,8 @@ members_have_all v t e = record {
 
 generals_have_all : (g : ℕ) (t : Tree) → HaveAll t (general_pieces g t)
 generals_have_all g t =
-    doublewords_have_all (λ j. G (g + j)) t (widening t) (widening_suits t)
+    let place : ℕ → Loc = λ j. G (g + j) in
+    doublewords_have_all place t (widening t) (whole_pieces place t (widening t) (widening_suits t) (λ j. refl))
 
 registers_have_all_if : (first : ℕ) (t : Tree) (b : Bool) → in_vectors t ≡ b → HaveAll t (cond b (member_pieces first (leaves_of t)) (general_pieces first t))
 registers_have_all_if first t true e = members_have_all first t e
@@ -112,7 +114,7 @@ not_narrow (scalar pointer) v h = cc
 members_filled : (t : Tree) → in_vectors t ≡ true → (v : ℕ) (ls : List Leaf) → AllByRecursion (IsFilled aapcs64 t) (member_pieces v ls)
 members_filled t e v [] = tt
 members_filled t e v (l ∷ ls) =
-    (record { narrow = λ h. absurd (not_narrow t e h); single = λ place four. refl }, members_filled t e (v + 1) ls)
+    (record { narrow = λ h _. absurd (not_narrow t e h); single = λ place four. refl }, members_filled t e (v + 1) ls)
 
 registers_filled_if : (first : ℕ) (t : Tree) (b : Bool) → in_vectors t ≡ b → AllByRecursion (IsFilled aapcs64 t) (cond b (member_pieces first (leaves_of t)) (general_pieces first t))
 registers_filled_if first t true e = members_filled t e first (leaves_of t)
@@ -124,16 +126,16 @@ registers_filled first t = registers_filled_if first t (in_vectors t) refl
 
 stack_filled : (start : ℕ) (t : Tree) → AllByRecursion (IsFilled aapcs64 t) (stack_pieces start t)
 stack_filled start t =
-    doublewords_filled aapcs64 t (λ j. S (start + 8 * j)) (λ j. refl) 0 (doublewords t)
+    doublewords_filled aapcs64 t (λ j. S (start + 8 * j) 8) (λ j. refl) 0 (doublewords t)
 
 -- ---- arguments
 
-register_spot_has_all : (start : ℕ → Tree → ℕ) (end first : ℕ) (t : Tree) (copied : Bool) → PlaceHasAll t (place_at start end t (cond copied (by_reference (G first)) (in_pieces (register_pieces first t))))
-register_spot_has_all start end first t true = tt
+pub register_spot_has_all : (start : ℕ → Tree → ℕ) (end first : ℕ) (t : Tree) (copied : Bool) → PlaceHasAll t (place_at start end t (cond copied (by_reference (G first)) (in_pieces (register_pieces first t))))
+register_spot_has_all start end first t true = refl
 register_spot_has_all start end first t false = registers_have_all first t
 
-stack_spot_has_all : (start : ℕ → Tree → ℕ) (end at : ℕ) (t : Tree) (copied : Bool) → PlaceHasAll t (place_at start end t (cond copied (by_reference (S at)) (in_pieces (stack_pieces at t))))
-stack_spot_has_all start end at t true = tt
+pub stack_spot_has_all : (start : ℕ → Tree → ℕ) (end at : ℕ) (t : Tree) (copied : Bool) → PlaceHasAll t (place_at start end t (cond copied (by_reference (S at 8)) (in_pieces (stack_pieces at t))))
+stack_spot_has_all start end at t true = refl
 stack_spot_has_all start end at t false = stack_has_all at t
 
 spot_has_all_if : (start : ℕ → Tree → ℕ) (end first at : ℕ) (t : Tree) (fits : Bool) → PlaceHasAll t (place_at start end t (cond fits (register_spot first t) (stack_spot at t)))
@@ -149,7 +151,7 @@ register_spot_filled : (start : ℕ → Tree → ℕ) (end first : ℕ) (t : Tre
 register_spot_filled start end first t true = tt
 register_spot_filled start end first t false = registers_filled first t
 
-stack_spot_filled : (start : ℕ → Tree → ℕ) (end at : ℕ) (t : Tree) (copied : Bool) → PlaceIsFilled aapcs64 t (place_at start end t (cond copied (by_reference (S at)) (in_pieces (stack_pieces at t))))
+stack_spot_filled : (start : ℕ → Tree → ℕ) (end at : ℕ) (t : Tree) (copied : Bool) → PlaceIsFilled aapcs64 t (place_at start end t (cond copied (by_reference (S at 8)) (in_pieces (stack_pieces at t))))
 stack_spot_filled start end at t true = tt
 stack_spot_filled start end at t false = stack_filled at t
 

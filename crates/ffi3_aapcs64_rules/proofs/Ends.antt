@@ -51,12 +51,12 @@ next_general : (b : Bool) (g f v n : ℕ) → cond b g (cond b v f + n) ≡ cond
 next_general true g f v n = refl
 next_general false g f v n = refl
 
-same_taken : (a b : Taken) → a.general ≡ b.general → a.vector ≡ b.vector → a.stack ≡ b.stack → a ≡ b
+pub same_taken : (a b : Taken) → a.general ≡ b.general → a.vector ≡ b.vector → a.stack ≡ b.stack → a ≡ b
 same_taken a b g f s = λ i. record { general = g i; vector = f i; stack = s i }
 
 -- ---- sums
 
-sum_rises : (term : ℕ → ℕ) (i j : ℕ) → i ≤ j → sum_below term i ≤ sum_below term j
+pub sum_rises : (term : ℕ → ℕ) (i j : ℕ) → i ≤ j → sum_below term i ≤ sum_below term j
 sum_rises term i zero h =
     let same : i ≡ 0 = omega arith in
     subst (λ k. sum_below term k ≤ 0) (sym same) (omega arith)
@@ -68,7 +68,7 @@ sum_rises term i (suc j) h =
     ]
 
 -- what has passed 8 stays past it
-past_eight : (n m : ℕ) → n ≤ m → leb n 8 ≡ false → leb m 8 ≡ false
+pub past_eight : (n m : ℕ) → n ≤ m → leb n 8 ≡ false → leb m 8 ≡ false
 past_eight n m h e = grind (arith, nat_tests)
 
 -- where an argument's registers end is the end up to it of its kind
@@ -82,7 +82,7 @@ step_behind true end f n h = omega arith
 step_behind false end f n h = omega (arith, h)
 
 -- the ends of two kinds, of which one is looked at
-kind_rises : (b c : Bool) (v g w k : ℕ) → b ≡ c → v ≤ w → g ≤ k → cond b v g ≤ cond c w k
+pub kind_rises : (b c : Bool) (v g w k : ℕ) → b ≡ c → v ≤ w → g ≤ k → cond b v g ≤ cond c w k
 kind_rises true true v g w k e hv hg = hv
 kind_rises false false v g w k e hv hg = hg
 kind_rises true false v g w k e hv hg = cc
@@ -90,7 +90,7 @@ kind_rises false true v g w k e hv hg = cc
 
 -- ---- a result
 
-result_when : (P : ResultSpot → Type 0) (t : Tree) → (t ≡ void → P no_result) → (is_copied t ≡ true → P (in_buffer (G 8))) → (¬ (t ≡ void) → is_copied t ≡ false → P (in_result_pieces (register_pieces 0 t))) → P (result_spot_of t)
+pub result_when : (P : ResultSpot → Type 0) (t : Tree) → (t ≡ void → P no_result) → (is_copied t ≡ true → P (in_buffer (G 8))) → (¬ (t ≡ void) → is_copied t ≡ false → P (in_result_pieces (register_pieces 0 t))) → P (result_spot_of t)
 result_when P void none hidden direct = none refl
 result_when P (scalar k) none hidden direct =
     result_cases P (scalar k) none hidden (direct (λ e. cc))
@@ -101,15 +101,15 @@ result_when P (structure ts) none hidden direct =
 result_when P (array ts n) none hidden direct =
     result_cases P (array ts n) none hidden (direct (λ e. cc))
 
-spot_of_copied : (t : Tree) → is_copied t ≡ true → result_spot_of t ≡ in_buffer (G 8)
+pub spot_of_copied : (t : Tree) → is_copied t ≡ true → result_spot_of t ≡ in_buffer (G 8)
 spot_of_copied t copied =
     result_when (λ spot. spot ≡ in_buffer (G 8)) t (λ e. let direct : is_copied t ≡ false = ap is_copied e in cc) (λ _. refl) (λ _ direct. cc)
 
-spot_of_direct : (t : Tree) → ¬ (t ≡ void) → is_copied t ≡ false → result_spot_of t ≡ in_result_pieces (register_pieces 0 t)
+pub spot_of_direct : (t : Tree) → ¬ (t ≡ void) → is_copied t ≡ false → result_spot_of t ≡ in_result_pieces (register_pieces 0 t)
 spot_of_direct t some direct =
     result_when (λ spot. spot ≡ in_result_pieces (register_pieces 0 t)) t (λ e. absurd (some e)) (λ copied. cc) (λ _ _. refl)
 
-buffer_ends : (end : ℕ) (t : Tree) → buffer_end start end t (result_spot_of t) ≡ cond (is_copied t) (start end t + round8 (size_of t)) end
+pub buffer_ends : (end : ℕ) (t : Tree) → buffer_end start end t (result_spot_of t) ≡ cond (is_copied t) (start end t + round8 (size_of t)) end
 buffer_ends end t =
     result_when (λ spot. buffer_end start end t spot ≡ cond (is_copied t) (start end t + round8 (size_of t)) end) t
     (λ e. sym (ap (λ u. cond (is_copied u) (start end t + round8 (size_of t)) end) e))
@@ -120,7 +120,7 @@ buffer_ends end t =
 
 abbrev SpotIf : Bool → Bool → ℕ → ℕ → Tree → Spot
 SpotIf copied inside first at t =
-    cond inside (cond copied (by_reference (G first)) (in_pieces (register_pieces first t))) (cond copied (by_reference (S at)) (in_pieces (stack_pieces at t)))
+    cond inside (cond copied (by_reference (G first)) (in_pieces (register_pieces first t))) (cond copied (by_reference (S at 8)) (in_pieces (stack_pieces at t)))
 
 copy_ends : (copied inside : Bool) (first at end : ℕ) (t : Tree) → copy_end start end t (SpotIf copied inside first at t) ≡ cond copied (start end t + round8 (size_of t)) end
 copy_ends true true first at end t = refl

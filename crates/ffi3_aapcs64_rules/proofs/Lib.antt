@@ -1,6 +1,6 @@
 pub mod Registers
 pub mod Covered
-mod Rising
+pub mod Rising
 pub mod Agrees
 pub mod Sound
 pub mod Ends

@@ -27,8 +27,8 @@ pub vector_allowed : (k : ℕ) → k < 8 → IsNoneOf (closed_to_arguments aapcs
 vector_allowed k h =
     none_of (closed_to_arguments aapcs64) (F k) (each_of_eight (λ j. is_none_of (closed_to_arguments aapcs64) (F j) ≡ true) refl refl refl refl refl refl refl refl k h)
 
-pub stack_allowed : (n : ℕ) → IsNoneOf (closed_to_arguments aapcs64) (S n)
-stack_allowed n = none_of (closed_to_arguments aapcs64) (S n) refl
+pub stack_allowed : (n w : ℕ) → IsNoneOf (closed_to_arguments aapcs64) (S n w)
+stack_allowed n w = none_of (closed_to_arguments aapcs64) (S n w) refl
 
 pub hidden_allowed : IsNoneOf (closed_to_arguments aapcs64) (G 8)
 hidden_allowed = none_of (closed_to_arguments aapcs64) (G 8) refl
@@ -58,5 +58,5 @@ pub result_allowed_vector : (k : ℕ) → k < 8 → IsNoneOf (closed_to_results 
 result_allowed_vector k h =
     none_of (closed_to_results aapcs64) (F k) (each_of_eight (λ j. is_none_of (closed_to_results aapcs64) (F j) ≡ true) refl refl refl refl refl refl refl refl k h)
 
-pub result_allowed_stack : (n : ℕ) → IsNoneOf (closed_to_results aapcs64) (S n)
-result_allowed_stack n = none_of (closed_to_results aapcs64) (S n) refl
+pub result_allowed_stack : (n w : ℕ) → IsNoneOf (closed_to_results aapcs64) (S n w)
+result_allowed_stack n w = none_of (closed_to_results aapcs64) (S n w) refl

@@ -20,11 +20,11 @@ registers_rise_if : (first : ℕ) (t : Tree) (b : Bool) → AreRising (cond b (m
 registers_rise_if first t true = members_rise first (leaves_of t)
 registers_rise_if first t false = generals_rise first (size_of t) (widening t) 0 (doublewords t)
 
-register_spot_rises : (start : ℕ → Tree → ℕ) (end first : ℕ) (t : Tree) (copied : Bool) → PlaceRises (place_at start end t (cond copied (by_reference (G first)) (in_pieces (register_pieces first t))))
+pub register_spot_rises : (start : ℕ → Tree → ℕ) (end first : ℕ) (t : Tree) (copied : Bool) → PlaceRises (place_at start end t (cond copied (by_reference (G first)) (in_pieces (register_pieces first t))))
 register_spot_rises start end first t true = tt
 register_spot_rises start end first t false = registers_rise_if first t (in_vectors t)
 
-stack_spot_rises : (start : ℕ → Tree → ℕ) (end at : ℕ) (t : Tree) (copied : Bool) → PlaceRises (place_at start end t (cond copied (by_reference (S at)) (in_pieces (stack_pieces at t))))
+pub stack_spot_rises : (start : ℕ → Tree → ℕ) (end at : ℕ) (t : Tree) (copied : Bool) → PlaceRises (place_at start end t (cond copied (by_reference (S at 8)) (in_pieces (stack_pieces at t))))
 stack_spot_rises start end at t true = tt
 stack_spot_rises start end at t false = stack_rises at t
 

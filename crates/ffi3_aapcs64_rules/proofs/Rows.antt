@@ -53,7 +53,7 @@ float_and_double = refl
 
 -- seven sint64, a pair and a sint64: the pair goes whole to the stack, and x7 stays unused
 pub pair_to_stack : plan_of aapcs64 (sig_of void (integer ∷ integer ∷ integer ∷ integer ∷ integer ∷ integer ∷ integer ∷ pair ∷ integer ∷ [])) ≡ record {
-  places = alone (G 0) ∷ alone (G 1) ∷ alone (G 2) ∷ alone (G 3) ∷ alone (G 4) ∷ alone (G 5) ∷ alone (G 6) ∷ Direct (at (S 0) 0 8 ∷ at (S 8) 8 8 ∷ []) ∷ alone (S 16) ∷ [];
+  places = alone (G 0) ∷ alone (G 1) ∷ alone (G 2) ∷ alone (G 3) ∷ alone (G 4) ∷ alone (G 5) ∷ alone (G 6) ∷ Direct (at (S 0 8) 0 8 ∷ at (S 8 8) 8 8 ∷ []) ∷ alone (S 16 8) ∷ [];
   res = Nothing;
   need = 288;
   frame = 32;
@@ -65,7 +65,7 @@ pair_to_stack = refl
 
 -- six sint64, a pair and a uint16: x6 and x7 are the last
 pub pair_in_last : plan_of aapcs64 (sig_of void (integer ∷ integer ∷ integer ∷ integer ∷ integer ∷ integer ∷ pair ∷ scalar u16 ∷ [])) ≡ record {
-  places = alone (G 0) ∷ alone (G 1) ∷ alone (G 2) ∷ alone (G 3) ∷ alone (G 4) ∷ alone (G 5) ∷ Direct (at (G 6) 0 8 ∷ at (G 7) 8 8 ∷ []) ∷ Direct (widened (S 0) 2 ∷ []) ∷ [];
+  places = alone (G 0) ∷ alone (G 1) ∷ alone (G 2) ∷ alone (G 3) ∷ alone (G 4) ∷ alone (G 5) ∷ Direct (at (G 6) 0 8 ∷ at (G 7) 8 8 ∷ []) ∷ Direct (widened (S 0 8) 2 ∷ []) ∷ [];
   res = Nothing;
   need = 272;
   frame = 16;
@@ -130,7 +130,7 @@ nested_members = refl
 
 -- six doubles, three doubles in a struct, and a double: v6 and v7 stay unused
 pub doubles_to_stack : plan_of aapcs64 (sig_of void (scalar double ∷ scalar double ∷ scalar double ∷ scalar double ∷ scalar double ∷ scalar double ∷ doubles 3 ∷ scalar double ∷ [])) ≡ record {
-  places = alone (F 0) ∷ alone (F 1) ∷ alone (F 2) ∷ alone (F 3) ∷ alone (F 4) ∷ alone (F 5) ∷ Direct (at (S 0) 0 8 ∷ at (S 8) 8 8 ∷ at (S 16) 16 8 ∷ []) ∷ alone (S 24) ∷ [];
+  places = alone (F 0) ∷ alone (F 1) ∷ alone (F 2) ∷ alone (F 3) ∷ alone (F 4) ∷ alone (F 5) ∷ Direct (at (S 0 8) 0 8 ∷ at (S 8 8) 8 8 ∷ at (S 16 8) 16 8 ∷ []) ∷ alone (S 24 8) ∷ [];
   res = Nothing;
   need = 288;
   frame = 32;
@@ -142,7 +142,7 @@ doubles_to_stack = refl
 
 -- two structs that take all eight, then a float on the stack, and a sint64 that finds x0
 pub members_in_last : plan_of aapcs64 (sig_of void (floats 4 ∷ doubles 4 ∷ scalar float ∷ integer ∷ [])) ≡ record {
-  places = Direct (at (F 0) 0 4 ∷ at (F 1) 4 4 ∷ at (F 2) 8 4 ∷ at (F 3) 12 4 ∷ []) ∷ Direct (at (F 4) 0 8 ∷ at (F 5) 8 8 ∷ at (F 6) 16 8 ∷ at (F 7) 24 8 ∷ []) ∷ Direct (at (S 0) 0 4 ∷ []) ∷ alone (G 0) ∷ [];
+  places = Direct (at (F 0) 0 4 ∷ at (F 1) 4 4 ∷ at (F 2) 8 4 ∷ at (F 3) 12 4 ∷ []) ∷ Direct (at (F 4) 0 8 ∷ at (F 5) 8 8 ∷ at (F 6) 16 8 ∷ at (F 7) 24 8 ∷ []) ∷ Direct (at (S 0 8) 0 4 ∷ []) ∷ alone (G 0) ∷ [];
   res = Nothing;
   need = 256;
   frame = 16;
@@ -207,7 +207,7 @@ sixteen_and_seventeen = refl
 
 -- seven sint64, two structs by reference and a sint64: the first reference is in x7, the second on the stack; the copies follow the stack arguments
 pub references_on_stack : plan_of aapcs64 (sig_of void (integer ∷ integer ∷ integer ∷ integer ∷ integer ∷ integer ∷ integer ∷ triple ∷ triple ∷ integer ∷ [])) ≡ record {
-  places = alone (G 0) ∷ alone (G 1) ∷ alone (G 2) ∷ alone (G 3) ∷ alone (G 4) ∷ alone (G 5) ∷ alone (G 6) ∷ ByRef (G 7) 16 ∷ ByRef (S 0) 40 ∷ alone (S 8) ∷ [];
+  places = alone (G 0) ∷ alone (G 1) ∷ alone (G 2) ∷ alone (G 3) ∷ alone (G 4) ∷ alone (G 5) ∷ alone (G 6) ∷ ByRef (G 7) 16 ∷ ByRef (S 0 8) 40 ∷ alone (S 8 8) ∷ [];
   res = Nothing;
   need = 352;
   frame = 64;
@@ -219,7 +219,7 @@ references_on_stack = refl
 
 -- seven sint64, a uint128 and a sint64: the uint128 goes whole to the stack, and x7 stays unused
 pub wide_to_stack : plan_of aapcs64 (sig_of void (integer ∷ integer ∷ integer ∷ integer ∷ integer ∷ integer ∷ integer ∷ wide ∷ integer ∷ [])) ≡ record {
-  places = alone (G 0) ∷ alone (G 1) ∷ alone (G 2) ∷ alone (G 3) ∷ alone (G 4) ∷ alone (G 5) ∷ alone (G 6) ∷ halves (S 0) (S 8) ∷ alone (S 16) ∷ [];
+  places = alone (G 0) ∷ alone (G 1) ∷ alone (G 2) ∷ alone (G 3) ∷ alone (G 4) ∷ alone (G 5) ∷ alone (G 6) ∷ halves (S 0 8) (S 8 8) ∷ alone (S 16 8) ∷ [];
   res = Nothing;
   need = 288;
   frame = 32;
@@ -267,7 +267,7 @@ wide_result = refl
 
 -- seven sint64, a struct by reference, a sint64 and a uint128, which begins at a multiple of 16 of the stack; a buffer at a multiple of 16 behind a copy of 24 bytes
 pub wide_stack : plan_of aapcs64 (sig_of byte_and_wide (integer ∷ integer ∷ integer ∷ integer ∷ integer ∷ integer ∷ integer ∷ triple ∷ integer ∷ wide ∷ [])) ≡ record {
-  places = alone (G 0) ∷ alone (G 1) ∷ alone (G 2) ∷ alone (G 3) ∷ alone (G 4) ∷ alone (G 5) ∷ alone (G 6) ∷ ByRef (G 7) 32 ∷ alone (S 0) ∷ halves (S 16) (S 24) ∷ [];
+  places = alone (G 0) ∷ alone (G 1) ∷ alone (G 2) ∷ alone (G 3) ∷ alone (G 4) ∷ alone (G 5) ∷ alone (G 6) ∷ ByRef (G 7) 32 ∷ alone (S 0 8) ∷ halves (S 16 8) (S 24 8) ∷ [];
   res = Hidden (G 8) 64;
   need = 384;
   frame = 96;

@@ -14,7 +14,7 @@ use Rattle.ffi3_place_rules.specs.declared.Taken.{Taken}
 use Rattle.ffi3_place_rules.specs.Isa.{result_loads}
 use Rattle.ffi3_place_rules.specs.Standard.{Spot, in_pieces, by_reference, ResultSpot, no_result as not_passed, in_result_pieces, in_buffer, place_at, places_from, copy_end, result_at, copies_start, frame_copies_end, frame_of, plan_of, round8}
 use Rattle.ffi3_place_rules.specs.Doublewords.{doublewords, doublewords_at, widening, stack_pieces}
-use Rattle.ffi3_place_rules.specs.Sound.{Apart, AreApart, IsOnStackOrIn, piece_locs, place_locs, hidden_locs, result_locs, argument_locs, IsNoneOf, IsOneOf, LiesIn, copy_locs, buffer_locs, call_locs, closed_to_arguments, closed_to_results, ResultHasAll, ResultIsFilled, IsSound, IsDetermined}
+use Rattle.ffi3_place_rules.specs.Sound.{Apart, AreApart, IsWhole, IsOnStackOrIn, piece_locs, place_locs, hidden_locs, result_locs, argument_locs, IsNoneOf, IsOneOf, LiesIn, copy_locs, buffer_locs, call_locs, closed_to_arguments, closed_to_results, ResultHasAll, ResultIsFilled, IsSound, IsDetermined}
 use Rattle.ffi3_place_rules.proofs.Chain.{AtMost, at_most_self, Chain, chain_append, chain_apart, chain_allowed, chain_passed, chain_in, chain_lies_in}
 use Rattle.ffi3_place_rules.proofs.Frame.{up_to, value_chain, frame_chain}
 use Rattle.ffi3_place_rules.proofs.Ends.{start-behind, even-behind}
@@ -27,19 +27,19 @@ use Rattle.ffi3_aapcs64_rules.proofs.Covered.{registers_have_all, arguments_have
 use Rattle.ffi3_aapcs64_rules.proofs.Rising.{arguments_rise}
 use Rattle.ffi3_aapcs64_rules.proofs.Registers.{numbered, all_registers, argument_allowed, vector_allowed, stack_allowed, hidden_allowed, argument_passes, vector_passes, hidden_passes, argument_not_hidden, result_allowed_general, result_allowed_vector, result_allowed_stack}
 
-abbrev PlacesChain : Taken → List Loc → Taken → Type 0
+abbrev pub PlacesChain : Taken → List Loc → Taken → Type 0
 PlacesChain = Chain numbered numbered 8 8
 
 -- ---- one value
 
-members_chain : (a : Taken) (v : ℕ) (ls : List Leaf) (b : Taken) → a.vector ≤ v → v + length ls ≤ 8 → a.general ≤ b.general → v + length ls ≤ b.vector → a.stack ≤ b.stack → PlacesChain a (piece_locs (member_pieces v ls)) b
+pub members_chain : (a : Taken) (v : ℕ) (ls : List Leaf) (b : Taken) → a.vector ≤ v → v + length ls ≤ 8 → a.general ≤ b.general → v + length ls ≤ b.vector → a.stack ≤ b.stack → PlacesChain a (piece_locs (member_pieces v ls)) b
 members_chain a v [] b low fits g f s =
     record { general = g; vector = omega arith; stack = s }
 members_chain a v (l ∷ ls) b low fits g f s =
     let mid : Taken = record { general = a.general; vector = v + 1; stack = a.stack } in
     (mid, (v, refl, low, omega arith), (v, refl, omega arith), record { general = omega arith; vector = omega arith; stack = omega arith }, members_chain mid (v + 1) ls b (omega arith) (omega arith) g (omega arith) s)
 
-generals_chain : (a : Taken) (g size : ℕ) (e : Ext) (j count : ℕ) (b : Taken) → a.general ≤ g + j → g + (j + count) ≤ 8 → g + (j + count) ≤ b.general → a.vector ≤ b.vector → a.stack ≤ b.stack → PlacesChain a (piece_locs (doublewords_at (λ k. G (g + k)) size e j count)) b
+pub generals_chain : (a : Taken) (g size : ℕ) (e : Ext) (j count : ℕ) (b : Taken) → a.general ≤ g + j → g + (j + count) ≤ 8 → g + (j + count) ≤ b.general → a.vector ≤ b.vector → a.stack ≤ b.stack → PlacesChain a (piece_locs (doublewords_at (λ k. G (g + k)) size e j count)) b
 generals_chain a g size e j zero b low fits gs f s =
     record { general = omega arith; vector = f; stack = s }
 generals_chain a g size e j (suc count) b low fits gs f s =
@@ -59,7 +59,7 @@ abbrev SpotBy : Bool → Bool → Bool → Taken → Tree → Spot
 SpotBy fits copied vector a t =
     cond fits
     (cond copied (by_reference (G (StartBy vector copied a t))) (in_pieces (cond vector (member_pieces (StartBy vector copied a t) (leaves_of t)) (general_pieces (StartBy vector copied a t) t))))
-    (cond copied (by_reference (S (AtBy copied a t))) (in_pieces (stack_pieces (AtBy copied a t) t)))
+    (cond copied (by_reference (S (AtBy copied a t) 8)) (in_pieces (stack_pieces (AtBy copied a t) t)))
 
 abbrev TakenBy : Bool → Bool → Bool → Taken → Tree → Taken
 TakenBy fits copied vector a t = record {
@@ -95,7 +95,7 @@ module _ (start : ℕ → Tree → ℕ) where
       let room : first + doublewords t ≤ 8 = fits_by a t false false ev ec ef in
       generals_chain a first (size_of t) (widening t) 0 (doublewords t) (TakenBy true false false a t) (omega (arith, general_behind a t)) (omega (arith, room)) (omega arith) (omega arith) (omega arith)
   argument_chain_by end a t false true vector ef ec ev =
-      (TakenBy false true vector a t, start-behind a.stack (scalar pointer), omega (arith, pointer_rounded), taken_by_more false true vector a t, at_most_self (TakenBy false true vector a t))
+      (TakenBy false true vector a t, start-behind a.stack (scalar pointer), (omega (arith, pointer_rounded), omega arith, omega arith), taken_by_more false true vector a t, at_most_self (TakenBy false true vector a t))
   argument_chain_by end a t false false vector ef ec ev =
       let more = taken_by_more false false vector a t in
       value_chain numbered numbered 8 8 a (stack_start a.stack t) t (TakenBy false false vector a t) (start-behind a.stack t) (omega arith) more.general more.vector
@@ -164,15 +164,15 @@ hidden_cases : (P : List Loc → Type 0) → P [] → P (G 8 ∷ []) → (s : Si
 hidden_cases P none there s =
     result_cases (λ spot. P (hidden_locs (result_at aapcs64.copy_start (frame_copies_end aapcs64 s) s.result_type spot))) s.result_type (λ e. none) (λ e. there) (λ e. none)
 
-apart_from_hidden : (l : Loc) → IsNoneOf (G 8 ∷ []) l → Apart (G 8) l
+pub apart_from_hidden : (l : Loc) → IsNoneOf (G 8 ∷ []) l → Apart (G 8) l
 apart_from_hidden (G r) h = λ e. h.0 (sym e)
 apart_from_hidden (F r) h = tt
-apart_from_hidden (S n) h = tt
+apart_from_hidden (S n w) h = tt
 
 plan_apart : (s : Signature) → AreApart (call_locs s (plan_of aapcs64 s))
 plan_apart s =
     let others = chain_apart numbered numbered 8 8 all_registers untouched _ _ (call_chain s) in
-    let none = chain_allowed numbered numbered 8 8 (G 8 ∷ []) argument_not_hidden (λ k h. (tt, tt)) (λ n. (tt, tt)) untouched _ _ (call_chain s) in
+    let none = chain_allowed numbered numbered 8 8 (G 8 ∷ []) argument_not_hidden (λ k h. (tt, tt)) (λ n w. (tt, tt)) untouched _ _ (call_chain s) in
     let from_hidden = each_weaker (IsNoneOf (G 8 ∷ [])) (Apart (G 8)) apart_from_hidden _ none in
     hidden_cases (λ hs. AreApart ((hs ++ pieces_and_references s) ++ copies_and_buffer s)) others (from_hidden, others) s
 
@@ -198,7 +198,7 @@ plan_passed s =
 
 -- ---- the result
 
-abbrev all_taken : Taken
+abbrev pub all_taken : Taken
 all_taken = record { general = 8; vector = 8; stack = 0 }
 
 -- the places of a result that isn't in memory
@@ -208,7 +208,7 @@ result_chain_if t true ec ev =
 result_chain_if t false ec ev =
     generals_chain untouched 0 (size_of t) (widening t) 0 (doublewords t) all_taken (omega arith) (omega (arith, few_doublewords t ev ec)) (omega (arith, few_doublewords t ev ec)) (omega arith) (omega arith)
 
-result_chain : (t : Tree) → is_copied t ≡ false → PlacesChain untouched (piece_locs (register_pieces 0 t)) all_taken
+pub result_chain : (t : Tree) → is_copied t ≡ false → PlacesChain untouched (piece_locs (register_pieces 0 t)) all_taken
 result_chain t ec = result_chain_if t (in_vectors t) ec refl
 
 -- what holds of no places, and of those in registers, holds of a result's
@@ -233,6 +233,7 @@ sound s = record {
   allowed = plan_allowed s;
   passed = plan_passed s;
   has_all = arguments_have_all aapcs64.copy_start (copies_start (placing_of s)) untouched s.arguments;
+  address = hidden_cases (AllByRecursion IsWhole) tt (refl, tt) s;
   filled = arguments_filled aapcs64.copy_start (copies_start (placing_of s)) untouched s.arguments;
   rising = arguments_rise aapcs64.copy_start (copies_start (placing_of s)) untouched s.arguments;
   result_apart = result_by AreApart tt s (λ e. chain_apart numbered numbered 8 8 all_registers untouched _ _ (result_chain s.result_type e));
@@ -249,21 +250,21 @@ determines s = determined aapcs64 s (sound s).has_all (sound s).result_has_all
 
 -- ---- the result, by the stubs
 
-abbrev results_taken : Taken
+abbrev pub results_taken : Taken
 results_taken = record { general = 2; vector = 4; stack = 0 }
 
-in_results : (k : ℕ) → k < 2 → IsOneOf (result_loads Aarch64) (G (numbered k))
+pub in_results : (k : ℕ) → k < 2 → IsOneOf (result_loads Aarch64) (G (numbered k))
 in_results k h =
     one_of (result_loads Aarch64) (G k) (each_of_two (λ j. is_one_of (result_loads Aarch64) (G j) ≡ true) refl refl k h)
 
-in_vector_results : (k : ℕ) → k < 4 → IsOneOf (result_loads Aarch64) (F (numbered k))
+pub in_vector_results : (k : ℕ) → k < 4 → IsOneOf (result_loads Aarch64) (F (numbered k))
 in_vector_results zero h = one_of (result_loads Aarch64) (F 0) refl
 in_vector_results (suc zero) h = one_of (result_loads Aarch64) (F 1) refl
 in_vector_results (suc (suc zero)) h = one_of (result_loads Aarch64) (F 2) refl
 in_vector_results (suc (suc (suc zero))) h = one_of (result_loads Aarch64) (F 3) refl
 in_vector_results (suc (suc (suc (suc k)))) h = absurd (omega arith)
 
-few_chain_if : (t : Tree) (vector : Bool) → is_copied t ≡ false → in_vectors t ≡ vector → PlacesChain untouched (piece_locs (cond vector (member_pieces 0 (leaves_of t)) (general_pieces 0 t))) results_taken
+pub few_chain_if : (t : Tree) (vector : Bool) → is_copied t ≡ false → in_vectors t ≡ vector → PlacesChain untouched (piece_locs (cond vector (member_pieces 0 (leaves_of t)) (general_pieces 0 t))) results_taken
 few_chain_if t true ec ev =
     members_chain untouched 0 (leaves_of t) results_taken (omega arith) (omega (arith, few_members t ev)) (omega arith) (omega (arith, few_members t ev)) (omega arith)
 few_chain_if t false ec ev =

@@ -132,7 +132,7 @@ register_spot first t =
 -- the same on the stack, from a byte on (C.6, C.15, C.17)
 abbrev pub stack_spot : ℕ → Tree → Spot
 stack_spot first t =
-    cond (is_copied t) (by_reference (S first)) (in_pieces (stack_pieces first t))
+    cond (is_copied t) (by_reference (S first 8)) (in_pieces (stack_pieces first t))
 
 -- ---- stage C: arguments, with the next general-purpose register number (NGRN), the next SIMD and floating-point register number (NSRN), and the next stacked argument address (NSAA) from the first stack argument
 

@@ -110,7 +110,7 @@ module _ (s : Signature) where
         → slice_get p.places i ≡ Some (ByRef (G (first_of s i)) (copy_at s i))
     pub copies_by_stack : (i : ℕ) → i < length s.arguments → is_copied (tree_at s.arguments i) ≡ true
         → is_in_registers s i ≡ false
-        → slice_get p.places i ≡ Some (ByRef (S (stack_at s i (stack_before s i))) (copy_at s i))
+        → slice_get p.places i ≡ Some (ByRef (S (stack_at s i (stack_before s i)) 8) (copy_at s i))
     -- a function of type void returns nothing
     pub no_result : s.result_type ≡ void → p.res ≡ Nothing
     -- a result stands where a first argument of its type would: in registers, from number 0 on (Result return)

@@ -39,4 +39,4 @@ agrees = record {
     written : (l : Loc) → IsNoneOf amd64.reserved l → TakesWrites Amd64 l
     written (G k) h = refl
     written (F k) h = tt
-    written (S n) h = tt
+    written (S n w) h = tt

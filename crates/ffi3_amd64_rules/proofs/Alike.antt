@@ -41,7 +41,7 @@ module _ (ts us : Trees) (e : layout (structure ts) ≡ layout (structure us)) w
 
   struct_stack_alike : (start : ℕ) → stack_pieces start (structure ts) ≡ stack_pieces start (structure us)
   struct_stack_alike start =
-      ap (λ (l : Layout). doublewords_at (λ j. S (start + 8 * j)) l.size Free 0 ((l.size + 7) / 8)) e
+      ap (λ (l : Layout). doublewords_at (λ j. S (start + 8 * j) 8) l.size Free 0 ((l.size + 7) / 8)) e
 
 -- ---- what a type shows to this standard
 

@@ -11,12 +11,13 @@ use Rattle.ffi3_place_rules.specs.declared.Taken.{Taken}
 use Rattle.ffi3_place_rules.specs.Standard.{places_from}
 use Rattle.ffi3_place_rules.specs.Doublewords.{widening, stack_pieces}
 use Rattle.ffi3_place_rules.specs.Holds.{Carries}
-use Rattle.ffi3_place_rules.specs.Sound.{IsPieceOf, HaveAll, PlacesHaveAll}
+use Rattle.ffi3_place_rules.specs.Sound.{IsWhole, IsPieceOf, HaveAll, PlacesHaveAll}
 use Rattle.ffi3_place_rules.proofs.Tests.{and_left, and_right, not_true}
 use Rattle.ffi3_place_rules.proofs.Covered.{covers_leaves, any_later}
 use Rattle.ffi3_place_rules.proofs.Doublewords.{widening_suits, doubleword_is_piece, stack_has_all}
 use Rattle.ffi3_amd64_rules.specs.declared.Class.{Class}
-use Rattle.ffi3_amd64_rules.specs.Amd64.{is_integer_class, is_sse_class, classes, classes_from, eightbytes, integers, sses, in_memory, general_argument, register_pieces, in_registers, stack_start, taken_with, argument_pieces, spots_after}
+use Rattle.ffi3_amd64_rules.specs.declared.Class.TheVariants.{Integer, Sse}
+use Rattle.ffi3_amd64_rules.specs.Amd64.{is_integer_class, is_sse_class, classes, classes_from, eightbytes, integers, sses, in_memory, general_argument, register_of, register_pieces, in_registers, stack_start, taken_with, argument_pieces, spots_after}
 
 module _ (general : ℕ → ℕ) (g f : ℕ) (t : Tree) where
   registers_carry : (o : ℕ) (earlier cs : List Class) → 8 * length earlier ≤ o → o < 8 * (length earlier + length cs) → o < size_of t → Any (Carries o) (register_pieces general g f t earlier cs)
@@ -26,10 +27,14 @@ module _ (general : ℕ → ℕ) (g f : ℕ) (t : Tree) where
       (λ h. any_later (Carries o) _ _ (registers_carry o (earlier ++ c ∷ []) cs (omega (arith, length_push earlier c)) (omega (arith, length_push earlier c)) fits))
       (cases_lt o (8 * length earlier + 8))
 
+  in_one_word : (earlier : List Class) (c : Class) → IsWhole (register_of general g f earlier c)
+  in_one_word earlier Integer = refl
+  in_one_word earlier Sse = refl
+
   registers_are_pieces : (earlier cs : List Class) → length earlier + length cs ≤ eightbytes t → AllByRecursion (IsPieceOf t) (register_pieces general g f t earlier cs)
   registers_are_pieces earlier [] h = tt
   registers_are_pieces earlier (c ∷ cs) h =
-      (doubleword_is_piece t (widening t) (widening_suits t) _ (length earlier) (omega arith), registers_are_pieces (earlier ++ c ∷ []) cs (omega (arith, length_push earlier c)))
+      (doubleword_is_piece t (widening t) (widening_suits t) (register_of general g f earlier c) (length earlier) (in_one_word earlier c) (omega arith), registers_are_pieces (earlier ++ c ∷ []) cs (omega (arith, length_push earlier c)))
 
   pub registers_have_all : (cs : List Class) → length cs ≡ eightbytes t → HaveAll t (register_pieces general g f t [] cs)
   registers_have_all cs e = record {

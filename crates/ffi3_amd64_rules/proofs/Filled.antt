@@ -20,13 +20,13 @@ module _ (t : Tree) where
   -- a piece of a lone narrow integer, not in a vector register
   narrow_filled : (p : Piece) → is_floating_place p.loc ≡ false → p.ext ≡ Widen → IsFilled amd64 t p
   narrow_filled p general extended =
-      record { narrow = λ h. extended; single = λ h k. absurd (differ (is_floating_place p.loc) h general) }
+      record { narrow = λ h _. extended; single = λ h k. absurd (differ (is_floating_place p.loc) h general) }
 
   -- the pieces of all else
   free_filled : (general : ℕ → ℕ) (g f : ℕ) → is_narrow_integer t ≡ false → widening t ≡ Free → (earlier cs : List Class) → AllByRecursion (IsFilled amd64 t) (register_pieces general g f t earlier cs)
   free_filled general g f wide free earlier [] = tt
   free_filled general g f wide free earlier (c ∷ cs) =
-      (record { narrow = λ h. absurd (differ (is_narrow_integer t) h wide); single = λ h k. free }, free_filled general g f wide free (earlier ++ c ∷ []) cs)
+      (record { narrow = λ h _. absurd (differ (is_narrow_integer t) h wide); single = λ h k. free }, free_filled general g f wide free (earlier ++ c ∷ []) cs)
 
 -- a lone narrow integer takes one general register
 pub registers_filled : (general : ℕ → ℕ) (g f : ℕ) (t : Tree) → AllByRecursion (IsFilled amd64 t) (register_pieces general g f t [] (classes t))

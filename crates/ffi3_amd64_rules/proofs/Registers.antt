@@ -48,8 +48,8 @@ argument_allowed k h =
 pub vector_allowed : (k : ℕ) → k < 8 → IsNoneOf (closed_to_arguments amd64) (F (vector_register k))
 vector_allowed k h = none_of (closed_to_arguments amd64) (F (vector_register k)) refl
 
-pub stack_allowed : (n : ℕ) → IsNoneOf (closed_to_arguments amd64) (S n)
-stack_allowed n = none_of (closed_to_arguments amd64) (S n) refl
+pub stack_allowed : (n w : ℕ) → IsNoneOf (closed_to_arguments amd64) (S n w)
+stack_allowed n w = none_of (closed_to_arguments amd64) (S n w) refl
 
 pub argument_passes : (k : ℕ) → k < 6 → IsOneOf amd64.argument_registers (G (general_argument k))
 argument_passes k h =
@@ -88,5 +88,5 @@ result_allowed_general k h =
 pub result_allowed_vector : (k : ℕ) → k < 2 → IsNoneOf (closed_to_results amd64) (F (vector_register k))
 result_allowed_vector k h = none_of (closed_to_results amd64) (F (vector_register k)) refl
 
-pub result_allowed_stack : (n : ℕ) → IsNoneOf (closed_to_results amd64) (S n)
-result_allowed_stack n = none_of (closed_to_results amd64) (S n) refl
+pub result_allowed_stack : (n w : ℕ) → IsNoneOf (closed_to_results amd64) (S n w)
+result_allowed_stack n w = none_of (closed_to_results amd64) (S n w) refl

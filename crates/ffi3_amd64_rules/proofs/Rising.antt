@@ -13,9 +13,9 @@ use Rattle.ffi3_amd64_rules.specs.declared.Class.{Class}
 use Rattle.ffi3_amd64_rules.specs.declared.Class.TheVariants.{Integer, Sse}
 use Rattle.ffi3_amd64_rules.specs.Amd64.{amd64, classes, general_argument, register_of, register_pieces, in_registers, stack_start, taken_with, spots_after}
 
-not_stack : (general : ℕ → ℕ) (g f : ℕ) (earlier : List Class) (c : Class) (at : ℕ) → register_of general g f earlier c ≡ S at → ⊥
-not_stack general g f earlier Integer at e = general_not_stack _ at e
-not_stack general g f earlier Sse at e = floating_not_stack _ at e
+not_stack : (general : ℕ → ℕ) (g f : ℕ) (earlier : List Class) (c : Class) (at w : ℕ) → register_of general g f earlier c ≡ S at w → ⊥
+not_stack general g f earlier Integer at w e = general_not_stack _ at w e
+not_stack general g f earlier Sse at w e = floating_not_stack _ at w e
 
 registers_rise : (general : ℕ → ℕ) (g f : ℕ) (t : Tree) (earlier cs : List Class) → AreRising (register_pieces general g f t earlier cs)
 registers_rise general g f t earlier [] = tt

@@ -47,7 +47,7 @@ double_and_byte = refl
 
 -- five sint64, a pair and a sint64: the pair goes whole to the stack, and the last still finds r9
 pub pair_to_stack : plan_of amd64 (sig_of void (integer ∷ integer ∷ integer ∷ integer ∷ integer ∷ pair ∷ integer ∷ [])) ≡ record {
-  places = alone (G 7) ∷ alone (G 6) ∷ alone (G 2) ∷ alone (G 1) ∷ alone (G 8) ∷ Direct (at (S 0) 0 8 ∷ at (S 8) 8 8 ∷ []) ∷ alone (G 9) ∷ [];
+  places = alone (G 7) ∷ alone (G 6) ∷ alone (G 2) ∷ alone (G 1) ∷ alone (G 8) ∷ Direct (at (S 0 8) 0 8 ∷ at (S 8 8) 8 8 ∷ []) ∷ alone (G 9) ∷ [];
   res = Nothing;
   need = 144;
   frame = 16;
@@ -59,7 +59,7 @@ pair_to_stack = refl
 
 -- six sint64 and a pair
 pub pair_after_six : plan_of amd64 (sig_of void (integer ∷ integer ∷ integer ∷ integer ∷ integer ∷ integer ∷ pair ∷ [])) ≡ record {
-  places = alone (G 7) ∷ alone (G 6) ∷ alone (G 2) ∷ alone (G 1) ∷ alone (G 8) ∷ alone (G 9) ∷ Direct (at (S 0) 0 8 ∷ at (S 8) 8 8 ∷ []) ∷ [];
+  places = alone (G 7) ∷ alone (G 6) ∷ alone (G 2) ∷ alone (G 1) ∷ alone (G 8) ∷ alone (G 9) ∷ Direct (at (S 0 8) 0 8 ∷ at (S 8 8) 8 8 ∷ []) ∷ [];
   res = Nothing;
   need = 144;
   frame = 16;
@@ -71,7 +71,7 @@ pair_after_six = refl
 
 -- seven sint64, a pair and a sint64
 pub all_later_to_stack : plan_of amd64 (sig_of void (integer ∷ integer ∷ integer ∷ integer ∷ integer ∷ integer ∷ integer ∷ pair ∷ integer ∷ [])) ≡ record {
-  places = alone (G 7) ∷ alone (G 6) ∷ alone (G 2) ∷ alone (G 1) ∷ alone (G 8) ∷ alone (G 9) ∷ alone (S 0) ∷ Direct (at (S 8) 0 8 ∷ at (S 16) 8 8 ∷ []) ∷ alone (S 24) ∷ [];
+  places = alone (G 7) ∷ alone (G 6) ∷ alone (G 2) ∷ alone (G 1) ∷ alone (G 8) ∷ alone (G 9) ∷ alone (S 0 8) ∷ Direct (at (S 8 8) 0 8 ∷ at (S 16 8) 8 8 ∷ []) ∷ alone (S 24 8) ∷ [];
   res = Nothing;
   need = 176;
   frame = 32;
@@ -116,7 +116,7 @@ hidden_doubles = refl
 
 -- a struct over two eightbytes goes to the stack, and a sint8 is extended
 pub memory_argument : plan_of amd64 (sig_of void (triple ∷ scalar s8 ∷ [])) ≡ record {
-  places = Direct (at (S 0) 0 8 ∷ at (S 8) 8 8 ∷ at (S 16) 16 8 ∷ []) ∷ Direct (widened (G 7) 1 ∷ []) ∷ [];
+  places = Direct (at (S 0 8) 0 8 ∷ at (S 8 8) 8 8 ∷ at (S 16 8) 16 8 ∷ []) ∷ Direct (widened (G 7) 1 ∷ []) ∷ [];
   res = Nothing;
   need = 128;
   frame = 32;
@@ -128,7 +128,7 @@ memory_argument = refl
 
 -- a struct of 16 bytes takes two registers; one of 17 goes to the stack, and its last piece has one byte
 pub sixteen_and_seventeen : plan_of amd64 (sig_of void (struct_of (replicate 16 (scalar u8)) ∷ struct_of (replicate 17 (scalar u8)) ∷ scalar u16 ∷ [])) ≡ record {
-  places = Direct (at (G 7) 0 8 ∷ at (G 6) 8 8 ∷ []) ∷ Direct (at (S 0) 0 8 ∷ at (S 8) 8 8 ∷ at (S 16) 16 1 ∷ []) ∷ Direct (widened (G 2) 2 ∷ []) ∷ [];
+  places = Direct (at (G 7) 0 8 ∷ at (G 6) 8 8 ∷ []) ∷ Direct (at (S 0 8) 0 8 ∷ at (S 8 8) 8 8 ∷ at (S 16 8) 16 1 ∷ []) ∷ Direct (widened (G 2) 2 ∷ []) ∷ [];
   res = Nothing;
   need = 144;
   frame = 32;
@@ -140,7 +140,7 @@ sixteen_and_seventeen = refl
 
 -- A hidden result, four sint64 and mixed structs: the first takes r9 and xmm0. The second finds no general register, and takes no vector register either.
 pub mixed_after_hidden : plan_of amd64 (sig_of triple (integer ∷ integer ∷ integer ∷ integer ∷ struct_of (scalar s64 ∷ scalar double ∷ []) ∷ struct_of (scalar double ∷ scalar s64 ∷ []) ∷ scalar float ∷ [])) ≡ record {
-  places = alone (G 6) ∷ alone (G 2) ∷ alone (G 1) ∷ alone (G 8) ∷ Direct (at (G 9) 0 8 ∷ at (F 0) 8 8 ∷ []) ∷ Direct (at (S 0) 0 8 ∷ at (S 8) 8 8 ∷ []) ∷ Direct (at (F 1) 0 4 ∷ []) ∷ [];
+  places = alone (G 6) ∷ alone (G 2) ∷ alone (G 1) ∷ alone (G 8) ∷ Direct (at (G 9) 0 8 ∷ at (F 0) 8 8 ∷ []) ∷ Direct (at (S 0 8) 0 8 ∷ at (S 8 8) 8 8 ∷ []) ∷ Direct (at (F 1) 0 4 ∷ []) ∷ [];
   res = Hidden (G 7) 16;
   need = 192;
   frame = 48;
@@ -152,7 +152,7 @@ mixed_after_hidden = refl
 
 -- nine doubles: xmm7 is the last vector register
 pub nine_doubles : plan_of amd64 (sig_of (scalar double) (replicate 9 (scalar double))) ≡ record {
-  places = alone (F 0) ∷ alone (F 1) ∷ alone (F 2) ∷ alone (F 3) ∷ alone (F 4) ∷ alone (F 5) ∷ alone (F 6) ∷ alone (F 7) ∷ alone (S 0) ∷ [];
+  places = alone (F 0) ∷ alone (F 1) ∷ alone (F 2) ∷ alone (F 3) ∷ alone (F 4) ∷ alone (F 5) ∷ alone (F 6) ∷ alone (F 7) ∷ alone (S 0 8) ∷ [];
   res = DirectRes (at (F 0) 0 8 ∷ []);
   need = 160;
   frame = 16;
@@ -169,7 +169,7 @@ numbers_of_64 = (refl, refl, refl)
 
 -- seven sint64, a uint128 and a sint64: the uint128 begins at a multiple of 16
 pub wide_on_stack : plan_of amd64 (sig_of void (integer ∷ integer ∷ integer ∷ integer ∷ integer ∷ integer ∷ integer ∷ wide ∷ integer ∷ [])) ≡ record {
-  places = alone (G 7) ∷ alone (G 6) ∷ alone (G 2) ∷ alone (G 1) ∷ alone (G 8) ∷ alone (G 9) ∷ alone (S 0) ∷ halves (S 16) (S 24) ∷ alone (S 32) ∷ [];
+  places = alone (G 7) ∷ alone (G 6) ∷ alone (G 2) ∷ alone (G 1) ∷ alone (G 8) ∷ alone (G 9) ∷ alone (S 0 8) ∷ halves (S 16 8) (S 24 8) ∷ alone (S 32 8) ∷ [];
   res = Nothing;
   need = 192;
   frame = 48;
@@ -193,7 +193,7 @@ wide_in_registers = refl
 
 -- struct{uint8,uint128} as result and as argument, behind one of three eightbytes on the stack
 pub wide_in_memory : plan_of amd64 (sig_of byte_and_wide (triple ∷ byte_and_wide ∷ [])) ≡ record {
-  places = Direct (at (S 0) 0 8 ∷ at (S 8) 8 8 ∷ at (S 16) 16 8 ∷ []) ∷ Direct (at (S 32) 0 8 ∷ at (S 40) 8 8 ∷ at (S 48) 16 8 ∷ at (S 56) 24 8 ∷ []) ∷ [];
+  places = Direct (at (S 0 8) 0 8 ∷ at (S 8 8) 8 8 ∷ at (S 16 8) 16 8 ∷ []) ∷ Direct (at (S 32 8) 0 8 ∷ at (S 40 8) 8 8 ∷ at (S 48 8) 16 8 ∷ at (S 56 8) 24 8 ∷ []) ∷ [];
   res = Hidden (G 7) 64;
   need = 224;
   frame = 96;

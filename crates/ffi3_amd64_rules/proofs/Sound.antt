@@ -11,7 +11,7 @@ use Rattle.ffi3_place_rules.specs.declared.Taken.{Taken}
 use Rattle.ffi3_place_rules.specs.Isa.{result_loads}
 use Rattle.ffi3_place_rules.specs.Standard.{in_result_pieces, in_buffer, plan_of, places_from, result_at, copies_start, frame_copies_end, frame_of}
 use Rattle.ffi3_place_rules.specs.Doublewords.{stack_pieces}
-use Rattle.ffi3_place_rules.specs.Sound.{AreApart, IsOnStackOrIn, piece_locs, place_locs, hidden_locs, result_locs, argument_locs, IsNoneOf, IsOneOf, LiesIn, call_locs, closed_to_arguments, closed_to_results, ResultHasAll, IsSound, IsDetermined}
+use Rattle.ffi3_place_rules.specs.Sound.{AreApart, IsWhole, IsOnStackOrIn, piece_locs, place_locs, hidden_locs, result_locs, argument_locs, IsNoneOf, IsOneOf, LiesIn, call_locs, closed_to_arguments, closed_to_results, ResultHasAll, IsSound, IsDetermined}
 use Rattle.ffi3_place_rules.proofs.Chain.{AtMost, at_most_self, Chain, chain_append, chain_less, chain_apart, chain_allowed, chain_passed, chain_in, chain_lies_in}
 use Rattle.ffi3_place_rules.proofs.Frame.{up_to, value_chain, frame_chain}
 use Rattle.ffi3_place_rules.proofs.Ends.{start-behind}
@@ -178,6 +178,17 @@ result_has_all (left_out k) end = registers_have_all result_register 0 0 (left_o
 result_has_all (structure ts) end = has_all_if (structure ts) end (in_memory (structure ts)) refl
 result_has_all (array ts n) end = has_all_if (array ts n) end (in_memory (array ts n)) refl
 
+hidden_whole_if : (t : Tree) (end : ℕ) (b : Bool) → AllByRecursion IsWhole (hidden_locs (result_at amd64.copy_start end t (cond b (in_buffer (G (general_argument 0))) (in_result_pieces (register_pieces result_register 0 0 t [] (classes t))))))
+hidden_whole_if t end true = (refl, tt)
+hidden_whole_if t end false = tt
+
+hidden_whole : (t : Tree) (end : ℕ) → AllByRecursion IsWhole (hidden_locs (result_at amd64.copy_start end t (result_spot_of t)))
+hidden_whole void end = tt
+hidden_whole (scalar s) end = tt
+hidden_whole (left_out k) end = tt
+hidden_whole (structure ts) end = hidden_whole_if (structure ts) end (in_memory (structure ts))
+hidden_whole (array ts n) end = hidden_whole_if (array ts n) end (in_memory (array ts n))
+
 -- every law of the places
 pub sound : (s : Signature) → IsSound amd64 s
 sound s =
@@ -188,6 +199,7 @@ sound s =
       on_stack = plan_lies_in s;
       allowed = plan_allowed s;
       passed = plan_passed s;
+      address = hidden_whole s.result_type end;
       has_all = arguments_have_all amd64.copy_start (copies_start (placing_of s)) (taken_at_first s.result_type) s.arguments;
       result_apart = result_cases AreApart tt s.result_type (chain_apart result_register vector_register 2 2 result_registers_apart (at_eightbyte untouched []) _ _ (result_chain s.result_type)) end;
       result_in_registers = result_cases (AllByRecursion (LiesIn Amd64 0)) tt s.result_type (chain_lies_in result_register vector_register 2 2 Amd64 result_exists (λ k h. omega arith) (at_eightbyte untouched []) _ _ 0 (omega arith) (result_chain s.result_type)) end;

@@ -2,7 +2,7 @@
 use Rattle.std.specs.Prelude.{◌<◌, ◌≤◌, ℕ, ◌++◌, List, [], ◌∷◌, length, codes, decimal, IsUtf8}
 use Rattle.std.specs.List.{concat, flat_map}
 use Rattle.ffi3_type_rules.specs.declared.Target.{Target}
-use Rattle.ffi3_type_rules.specs.declared.Target.TheVariants.{Amd64, Aapcs64, Riscv, Win64}
+use Rattle.ffi3_type_rules.specs.declared.Target.TheVariants.{Amd64, Aapcs64, Riscv, Win64, Apple}
 use Rattle.ffi3_type_rules.specs.Signature.{Signature, SignatureHasNoFault}
 use Rattle.ffi3_type_rules.specs.Text.{signature_text}
 use Rattle.ffi3_run_rules.specs.Lines.{a_line}
@@ -60,7 +60,7 @@ abbrev pub placed_on : Signature → Target → List ℕ
 placed_on s t = target_line t ++ concat (place_lines (standard_of t) 0 s)
 
 abbrev pub every_target : List Target
-every_target = Amd64 ∷ Aapcs64 ∷ Riscv ∷ Win64 ∷ []
+every_target = Amd64 ∷ Aapcs64 ∷ Riscv ∷ Win64 ∷ Apple ∷ []
 
 -- THE TEXT OF cplace: that of cdecl, and then each target's
 abbrev pub cplace_text : Declaration → List ℕ

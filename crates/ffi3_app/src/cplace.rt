@@ -37,7 +37,8 @@ fn place_everywhere<O: Sink>(
     place_on(alloc, Target::Amd64, sig, output)?;
     place_on(alloc, Target::Aapcs64, sig, output)?;
     place_on(alloc, Target::Riscv, sig, output)?;
-    place_on(alloc, Target::Win64, sig, output)
+    place_on(alloc, Target::Win64, sig, output)?;
+    place_on(alloc, Target::Apple, sig, output)
 }
 
 // A target's name, and the lines of place by its standard.

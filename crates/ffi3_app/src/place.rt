@@ -8,6 +8,7 @@ ghost use Rattle.ffi3_io.specs.Written.{Wrote};
 use crate::write::write_made_line;
 use ffi3_aapcs64::Aapcs64;
 use ffi3_amd64::Amd64;
+use ffi3_apple::Apple;
 use ffi3_cif::Cif;
 use ffi3_io::{IoError, Sink};
 use ffi3_place::Abi;
@@ -33,6 +34,7 @@ pub fn place<O: Sink>(
         Target::Aapcs64 => place_by::<Aapcs64, O>(alloc, script, output),
         Target::Riscv => place_by::<Riscv, O>(alloc, script, output),
         Target::Win64 => place_by::<Win64, O>(alloc, script, output),
+        Target::Apple => place_by::<Apple, O>(alloc, script, output),
     }
 }
 
@@ -51,6 +53,7 @@ pub fn place_signature<O: Sink>(
         Target::Aapcs64 => place_one::<Aapcs64, O>(alloc, number, sig, output),
         Target::Riscv => place_one::<Riscv, O>(alloc, number, sig, output),
         Target::Win64 => place_one::<Win64, O>(alloc, number, sig, output),
+        Target::Apple => place_one::<Apple, O>(alloc, number, sig, output),
     }
 }
 

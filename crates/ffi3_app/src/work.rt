@@ -21,6 +21,7 @@ use crate::unfinished::Unfinished;
 use crate::write::write_lines;
 use ffi3_aapcs64::Aapcs64;
 use ffi3_amd64::Amd64;
+use ffi3_apple::Apple;
 use ffi3_bench::bench;
 use ffi3_body::Native;
 use ffi3_image::{Answer, Question, answer_question};
@@ -180,6 +181,7 @@ fn run_on<O: Sink>(
         Target::Aapcs64 => run_by::<Aapcs64, O>(alloc, trace, script, natives, machine, output),
         Target::Riscv => run_by::<Riscv, O>(alloc, trace, script, natives, machine, output),
         Target::Win64 => run_by::<Win64, O>(alloc, trace, script, natives, machine, output),
+        Target::Apple => run_by::<Apple, O>(alloc, trace, script, natives, machine, output),
     }
 }
 

@@ -2,6 +2,7 @@
 use crate::slots::{SIGNATURES, fitting, prepared, some_arguments};
 use ffi3_aapcs64::Aapcs64;
 use ffi3_amd64::Amd64;
+use ffi3_apple::Apple;
 use ffi3_caller::store_args;
 use ffi3_cif::Cif;
 use ffi3_machine::{Machine, NoMemory, STACK};
@@ -155,5 +156,6 @@ fn narrow_arguments_fill_their_registers(rt: HostRuntime) -> Result<(), Fail> {
     // By Microsoft x64 the first four alone are in registers, each in that of its number.
     let win64: [u8; 4] = [1, 2, 8, 9];
     let _xmm0 = check_first::<Win64>(&rt, alloc, &win64, &EXTENDED, 0)?;
+    let _d1 = check_first::<Apple>(&rt, alloc, &aapcs64, &EXTENDED, 1)?;
     Ok(())
 }

@@ -9,6 +9,7 @@ ghost use Rattle.ffi3_callee.specs.Received.{IsIncoming};
 use crate::slots::{Came, first_bytes, fitting, gives_back, prepared};
 use ffi3_aapcs64::Aapcs64;
 use ffi3_amd64::Amd64;
+use ffi3_apple::Apple;
 use ffi3_callee::{Incoming, arg};
 use ffi3_caller::room_for;
 use ffi3_cif::Cif;
@@ -176,5 +177,6 @@ fn a_whole_call_has_its_values(rt: HostRuntime) -> Result<(), Fail> {
     check::<Amd64>(&rt, alloc)?;
     check::<Aapcs64>(&rt, alloc)?;
     check::<Riscv>(&rt, alloc)?;
-    check::<Win64>(&rt, alloc)
+    check::<Win64>(&rt, alloc)?;
+    check::<Apple>(&rt, alloc)
 }

@@ -1,5 +1,5 @@
 //! Tests of values of public calls that only the language reaches: instructions, classes of types, stubs, regions, slots
-//! and ends by themselves, and calls on the machine by all four standards, with no program among them.
+//! and ends by themselves, and calls on the machine by all five standards, with no program among them.
 #![tactic(auto)]
 
 #[cfg(test)]

@@ -16,6 +16,7 @@ ghost use Rattle.ffi3_invoke.specs.Calls.{IsCalled};
 
 use ffi3_aapcs64::Aapcs64;
 use ffi3_amd64::Amd64;
+use ffi3_apple::Apple;
 use ffi3_callee::{Incoming, arg, poison};
 use ffi3_caller::room_for;
 use ffi3_cif::{Cif, prep_cif, prep_cif_var};
@@ -347,7 +348,7 @@ fn word_at(event: &Event, at: Loc) -> u64 {
     match at {
         Loc::G(k) => event.general[(k % 32) as usize],
         Loc::F(k) => event.floating[(k % 32) as usize],
-        Loc::S(_) => 0,
+        Loc::S(_, _) => 0,
     }
 }
 
@@ -448,5 +449,6 @@ fn values_come_through_a_slot(rt: HostRuntime) -> Result<(), Fail> {
     check_all::<Amd64>(&rt, alloc)?;
     check_all::<Aapcs64>(&rt, alloc)?;
     check_all::<Riscv>(&rt, alloc)?;
-    check_all::<Win64>(&rt, alloc)
+    check_all::<Win64>(&rt, alloc)?;
+    check_all::<Apple>(&rt, alloc)
 }

@@ -84,11 +84,12 @@ const RISCV: Stubs = Stubs {
 };
 
 /// Each target, with the stubs of its instruction set.
-const ROWS: [(Target, Stubs); 4] = [
+const ROWS: [(Target, Stubs); 5] = [
     (Target::Amd64, AMD64),
     (Target::Aapcs64, AARCH64),
     (Target::Riscv, RISCV),
     (Target::Win64, AMD64),
+    (Target::Apple, AARCH64),
 ];
 
 /// Whether the byte stands at an address, where the first slot has the load.

@@ -12,7 +12,7 @@ struct Row {
     area: u64,
 }
 
-const ROWS: [Row; 4] = [
+const ROWS: [Row; 5] = [
     Row {
         target: Target::Amd64,
         steps: [6, 24, 38, 63],
@@ -32,6 +32,11 @@ const ROWS: [Row; 4] = [
         target: Target::Win64,
         steps: [6, 24, 38, 63],
         area: 64,
+    },
+    Row {
+        target: Target::Apple,
+        steps: [9, 31, 62, 105],
+        area: 176,
     },
 ];
 

@@ -176,12 +176,12 @@ own_same : (b : Bool) → b ≡ false → (entry m : State) → m.general ≡ en
 own_same true e entry m general floating l lies = absurd cc
 own_same false e entry m general floating (G r) lies = ap (λ xs. get_or xs r 0) general
 own_same false e entry m general floating (F r) lies = ap (λ xs. get_or xs r 0) floating
-own_same false e entry m general floating (S k) lies = absurd (omega (arith, lies))
+own_same false e entry m general floating (S k w) lies = absurd (omega (arith, lies.0, lies.1))
 
 lists_same : (entry m : State) → m.general ≡ entry.general → m.floating ≡ entry.floating → (l : Loc) → IsPlace 0 l → SameAt 0 l entry m
 lists_same entry m general floating (G r) lies = ap (λ xs. get_or xs r 0) general
 lists_same entry m general floating (F r) lies = ap (λ xs. get_or xs r 0) floating
-lists_same entry m general floating (S k) lies = absurd (omega (arith, lies))
+lists_same entry m general floating (S k w) lies = absurd (omega (arith, lies.0, lies.1))
 
 pub entered_itself : (std : Standard) → AgreesWithMachine std → (from base block : ℕ) (hidden : Option Loc) (entry a m : State) → std.target ≡ entry.target → from ≡ entry.sp - std.save → base ≡ entry.sp + std.link → STACK + std.save ≤ entry.sp → by_exchange entry.target ≡ false → AreSaved from base hidden std.save_area entry a → WroteOnly from (from + 8 * length std.save_area) entry a → m ≡ with_sp block a → IsEntered std hidden block entry m
 entered_itself std agrees from base block hidden entry a m same from_is base_is low e saved only m_is =
@@ -193,7 +193,7 @@ entered_itself std agrees from base block hidden entry a m same from_is base_is 
     let there : AreSaved (entry.sp - std.save) (entry.sp + std.link) hidden std.save_area entry a = subst (λ n. AreSaved (entry.sp - std.save) n hidden std.save_area entry a) base_is (subst (λ n. AreSaved n base hidden std.save_area entry a) from_is saved) in
     let own : by_exchange m.target ≡ false = ap by_exchange target ∙ e in
     record {
-      saved = λ i word below is. subst (IsToSave (entry.sp + std.link) entry hidden word) (sym (ap (λ q. saved_word (entry.sp - std.save) i q) m_is ∙ any_sp (entry.sp - std.save) block a (S (8 * i)))) (there i word below is);
+      saved = λ i word below is. subst (IsToSave (entry.sp + std.link) entry hidden word) (sym (ap (λ q. saved_word (entry.sp - std.save) i q) m_is ∙ any_sp (entry.sp - std.save) block a (S (8 * i) 8))) (there i word below is);
       arguments = each_with (IsPlace 0) (IsPlace 0) (λ l. SameAt 0 l entry (passing m)) (λ l lies more. own_same (by_exchange m.target) own entry m general floating l lies) std.argument_registers (machine_places (isa_of std.target) 0 std.argument_registers agrees.arguments_exist) (machine_places (isa_of std.target) 0 std.argument_registers agrees.arguments_exist);
       reserved = each_with (IsPlace 0) (IsPlace 0) (λ at. word_in STACK_TOP m at ≡ word_in STACK_TOP entry at) (λ l lies more. word_same STACK_TOP STACK_TOP l entry m lies (lists_same entry m general floating l lies)) std.reserved (reserved_there std agrees) (reserved_there std agrees);
       sp = ap (λ q. q.sp) m_is;

@@ -66,7 +66,7 @@ image_stays low high base room a b inside fits above w =
 pub place_above : (low high base : ℕ) (l : Loc) (a b : State) → STACK ≤ base → high ≤ base → WroteOnly low high a b → SameAt base l a b
 place_above low high base (G r) a b inside above w = ap (λ xs. get_or xs r 0) w.general
 place_above low high base (F r) a b inside above w = ap (λ xs. get_or xs r 0) w.floating
-place_above low high base (S n) a b inside above w =
+place_above low high base (S n u) a b inside above w =
     λ k h. w.within.outside (base + n + k - STACK) (inr (omega (arith, inside, above)))
 
 pub found_stays : (low high base : ℕ) (p : Place) (a b : State) → STACK ≤ base → high ≤ base → WroteOnly low high a b → IsFound base a p → IsFound base b p
@@ -79,7 +79,7 @@ pub each_writable : (ls : List Loc) → AllByRecursion (IsWritable Amd64) ls
 each_writable [] = tt
 each_writable (G r ∷ ls) = (refl, each_writable ls)
 each_writable (F r ∷ ls) = (tt, each_writable ls)
-each_writable (S n ∷ ls) = (tt, each_writable ls)
+each_writable (S n w ∷ ls) = (tt, each_writable ls)
 
 ready_drop : (target : Target) (room j : ℕ) (ts : List Tree) (ps : List Place) → AreReady target room ts ps → AreReady target room (drop j ts) (drop j ps)
 ready_drop target room zero ts ps h = h

@@ -44,6 +44,7 @@ use Rattle.ffi3_callee.specs.Received.{IsReceived, OwnsAtEntry, hidden_of}
 use Rattle.ffi3_callee.specs.Saved.{AreSaved, HiddenLies, IsSaveable, IsToSave, hidden_word, saved_word}
 use Rattle.ffi3_callee.proofs.Beside.{copied_beside, wrote_down}
 use Rattle.ffi3_callee.proofs.Copying.{each_writable, same_image, stretch_stays}
+use Rattle.ffi3_place_rules.proofs.Words.{same_bytes}
 use Rattle.ffi3_callee.proofs.Return.{any_sp}
 
 -- ---- the frame behind the return address
@@ -55,14 +56,15 @@ module _ (link : ℕ) (m : Image) where
   behind_byte : (l : Loc) (k : ℕ) → byte_at (behind link m) 0 l k ≡ byte_at m link l k
   behind_byte (G r) k = refl
   behind_byte (F r) k = refl
-  behind_byte (S n) k =
+  behind_byte (S n w) k =
       let there : link + (0 + n + k) ≡ link + n + k = omega arith in
       get_or-drop link m.stack (0 + n + k) 0 ∙ ap (λ i. get_or m.stack i 0) there
 
   behind_word : (l : Loc) → word_at (behind link m) 0 l ≡ word_at m link l
   behind_word (G r) = refl
   behind_word (F r) = refl
-  behind_word (S n) = λ i. from_le_bytes w64 (behind_byte (S n) 0 i ∷ behind_byte (S n) 1 i ∷ behind_byte (S n) 2 i ∷ behind_byte (S n) 3 i ∷ behind_byte (S n) 4 i ∷ behind_byte (S n) 5 i ∷ behind_byte (S n) 6 i ∷ behind_byte (S n) 7 i ∷ [])
+  behind_word (S n w) =
+      ap (from_le_bytes w64) (same_bytes (byte_at (behind link m) 0 (S n w)) (byte_at m link (S n w)) w (λ k h. behind_byte (S n w) k))
 
   behind_pieces : (o k x : ℕ) (pieces : List Piece) → AllByRecursion (λ p. Carries o p → byte_at m link p.loc (o - p.off) ≡ x) pieces → AllByRecursion (λ p. Carries o p → byte_at (behind link m) 0 p.loc (o - p.off) ≡ x) pieces
   behind_pieces o k x [] h = tt
@@ -126,7 +128,7 @@ found_where_owned std s base m vs sound right low own =
 lie_more : (n k : ℕ) → n ≤ k → (l : Loc) → IsPlace n l → IsPlace k l
 lie_more n k h (G r) lies = lies
 lie_more n k h (F r) lies = lies
-lie_more n k h (S q) lies = omega (arith, h, lies)
+lie_more n k h (S q w) lies = (omega (arith, h, lies.0), lies.1, lies.2)
 
 one_saveable : (room : ℕ) (w : SaveWord) → IsSaveable 0 w → IsSaveable room w
 one_saveable room (Register at) h = lie_more 0 room (omega arith) at h
@@ -276,7 +278,7 @@ module _ (std : Standard) (s : Signature) (block n : ℕ) (m b c d : State) (low
 
       kept : AreSaved (m.sp - std.save) (m.sp + std.link) (hidden_of (plan_of std s).res) std.save_area m d
       kept = λ i w below is.
-          let same : saved_word (m.sp - std.save) i d ≡ saved_word (m.sp - std.save) i b = same_word_in (m.sp - std.save) (S (8 * i)) b d (λ k h. moved.outside (m.sp - std.save + 8 * i + k - STACK) (inr (omega (arith, block_is, low)))) in
+          let same : saved_word (m.sp - std.save) i d ≡ saved_word (m.sp - std.save) i b = same_word_in (m.sp - std.save) (S (8 * i) 8) b d (λ k h. moved.outside (m.sp - std.save + 8 * i + k - STACK) (inr (omega (arith, block_is, low)))) in
           subst (IsToSave (m.sp + std.link) m (hidden_of (plan_of std s).res) w) (sym same) (entered.saved i w below is)
 
       sp : d.sp + block_bytes s + std.save ≡ m.sp

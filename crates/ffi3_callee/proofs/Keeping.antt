@@ -132,7 +132,7 @@ reserved_scribbled std agrees n c d target_is d_is =
 same_register : (base len room : ℕ) (entry m : State) (at : Loc) → IsPlace 0 at → word_in STACK_TOP m at ≡ word_in base entry at → register (image_of len entry) at ≡ register (image_of room (returned m)) at
 same_register base len room entry m (G r) lies h = sym h
 same_register base len room entry m (F r) lies h = sym h
-same_register base len room entry m (S n) lies h = absurd (omega (arith, lies))
+same_register base len room entry m (S n w) lies h = absurd (omega (arith, lies.0, lies.1))
 
 all_have : (base : ℕ) (entry m : State) (ws : List SaveWord) → HaveRegisters ws base entry m → AllByRecursion (λ at. word_in STACK_TOP m at ≡ word_in base entry at) (saved_registers ws)
 all_have base entry m [] have = tt

@@ -13,7 +13,7 @@ use Rattle.ffi3_place_rules.specs.declared.Loc.TheVariants.{G, F, S}
 use Rattle.ffi3_place_rules.specs.declared.Piece.{Piece}
 use Rattle.ffi3_place_rules.specs.declared.Place.TheVariants.{Direct}
 use Rattle.ffi3_place_rules.specs.Holds.{Carries}
-use Rattle.ffi3_place_rules.specs.Sound.{HaveAll, IsPieceOf, IsWithin}
+use Rattle.ffi3_place_rules.specs.Sound.{HaveAll, IsPieceOf, IsWithin, place_size}
 use Rattle.ffi3_place_rules.proofs.Elements.{drop_read}
 use Rattle.ffi3_place_rules.proofs.Tests.{each_at}
 use Rattle.ffi3_cif.specs.declared.runs.Run.{Run}
@@ -99,6 +99,11 @@ module _ (base to : ℕ) (low : STACK ≤ to) (below : to ≤ base) where
 
   -- ---- one register
 
+  register_size : (l : Loc) → is_on_stack l ≡ false → place_size l ≡ 8
+  register_size (G r) h = refl
+  register_size (F r) h = refl
+  register_size (S n w) h = cc
+
   pub piece_moved : (p : Piece) (bytes : List ℕ) (old : State) → is_on_stack p.loc ≡ false → AreBytesOf base old p.loc bytes → length bytes ≡ 8 → p.len ≤ 8 → to + p.off - STACK + p.len ≤ length old.stack → IsPieceMoved base to p old (stored (to + p.off) (take p.len bytes) old)
   piece_moved p bytes old register are eight short fits =
       let many : length (take p.len bytes) ≡ p.len = length-take-le p.len bytes (omega (arith, eight, short)) in
@@ -111,7 +116,7 @@ module _ (base to : ℕ) (low : STACK ≤ to) (below : to ≤ base) where
             let up = c.1.1 in
             let small : o - p.off < p.len = omega (arith, from, up) in
             let there : to + p.off + (o - p.off) ≡ to + o = omega (arith, from) in
-            ap (stack_byte (stored (to + p.off) (take p.len bytes) old)) (sym there) ∙ stored_inside (to + p.off) (take p.len bytes) old low_off fits_off (o - p.off) (omega (arith, small, many)) ∙ get_or-take p.len bytes (o - p.off) 0 small ∙ are (o - p.off) (omega (arith, small, short));
+            ap (stack_byte (stored (to + p.off) (take p.len bytes) old)) (sym there) ∙ stored_inside (to + p.off) (take p.len bytes) old low_off fits_off (o - p.off) (omega (arith, small, many)) ∙ get_or-take p.len bytes (o - p.off) 0 small ∙ are.here (o - p.off) (omega (arith, small, short, register_size p.loc register));
         others = λ o.
             elim (cases_lt o p.off) [
               | inl under ↦ inr (wrote.within.outside (to + o - STACK) (inl (omega (arith, low, under))))
@@ -136,7 +141,7 @@ module _ (base to : ℕ) (low : STACK ≤ to) (below : to ≤ base) where
   register_byte : (l : Loc) (k : ℕ) (a b : State) → is_on_stack l ≡ false → b.general ≡ a.general → b.floating ≡ a.floating → byte_of base b l k ≡ byte_of base a l k
   register_byte (G r) k a b h g f = ap (λ xs. get_or (to_le_bytes w64 (get_or xs r 0)) k 0) g
   register_byte (F r) k a b h g f = ap (λ xs. get_or (to_le_bytes w64 (get_or xs r 0)) k 0) f
-  register_byte (S n) k a b h g f = cc
+  register_byte (S n w) k a b h g f = cc
 
   pub none_moved : (pieces : List Piece) (m : State) → AreMovedTo base to pieces 0 m m
   none_moved pieces m = record { right = λ o x have right. right; only = λ size all. only_nothing to (to + size) m }
@@ -186,8 +191,8 @@ byte_there base m at o x [] have c = absurd c
 byte_there base m at o x (p ∷ ps) have c =
     by_piece (stack_byte m (base + at) ≡ x) at o p.loc p (stack_runs ps) here (byte_there base m at o x ps have.1) c
   where
-    here : (n : ℕ) → p.loc ≡ S n → n ≤ at → at < n + p.len → o + n ≡ p.off + at → stack_byte m (base + at) ≡ x
-    here n is from up same =
+    here : (n w : ℕ) → p.loc ≡ S n w → n ≤ at → at < n + p.len → o + n ≡ p.off + at → stack_byte m (base + at) ≡ x
+    here n w is from up same =
         let there : base + n + (o - p.off) ≡ base + at = omega (arith, from, same) in
         ap (stack_byte m) (sym there) ∙ ap (λ l. byte_of base m l (o - p.off)) (sym is) ∙ have.0 (omega (arith, from, same), omega (arith, from, up, same))
 
@@ -199,7 +204,7 @@ CarriedSomewhere o pieces =
 somewhere_here : (o : ℕ) (l : Loc) (p : Piece) (rest : List Run) → p.loc ≡ l → Carries o p → CarriesInRegister o p ⊎ ((at : ℕ) × OneCopies at o (run_then (run_at l p) rest))
 somewhere_here o (G r) p rest is c = inl (ap is_on_stack is, c)
 somewhere_here o (F r) p rest is c = inl (ap is_on_stack is, c)
-somewhere_here o (S n) p rest is c =
+somewhere_here o (S n w) p rest is c =
     inr (n + (o - p.off), inl (record { from = omega arith; to = omega (arith, c.0, c.1); same = omega (arith, c.0) }))
 
 somewhere_first : (o : ℕ) (p : Piece) (ps : List Piece) → CarriesInRegister o p ⊎ ((at : ℕ) × OneCopies at o (stack_runs (p ∷ ps))) → CarriedSomewhere o (p ∷ ps)
@@ -227,7 +232,7 @@ carried_within t o (p ∷ ps) parts (suc k, q, below, is, c) = carried_within t 
 have_stays : (t : Tree) (low high base : ℕ) (a b : State) (o x : ℕ) (pieces : List Piece) → STACK ≤ base → high ≤ base → WroteOnly low high a b → AllByRecursion (IsPieceOf t) pieces → HaveByte base a o x pieces → HaveByte base b o x pieces
 have_stays t low high base a b o x [] inside above w parts have = tt
 have_stays t low high base a b o x (p ∷ ps) inside above w parts have = (
-  λ c. let short = parts.0.short in same_byte base p.loc a b (place_above low high base p.loc a b inside above w) (o - p.off) (omega (arith, c.0, c.1, short)) ∙ have.0 c,
+  λ c. let fits = parts.0.fits in same_byte base p.loc a b (place_above low high base p.loc a b inside above w) (o - p.off) (omega (arith, c.0, c.1, fits)) ∙ have.0 c,
   have_stays t low high base a b o x ps inside above w parts.1 have.1,
 )
 
@@ -246,7 +251,7 @@ module _ (base to : ℕ) (t : Tree) (pieces : List Piece) (runs : List Run) (low
 
 pub within_wider : (n m : ℕ) (pieces : List Piece) → n ≤ m → AllByRecursion (IsWithin n) pieces → AllByRecursion (IsWithin m) pieces
 within_wider n m [] h all = tt
-within_wider n m (p ∷ ps) h all = ((all.0.0, omega (arith, h, all.0.1)), within_wider n m ps h all.1)
+within_wider n m (p ∷ ps) h all = ((all.0.0, omega (arith, h, all.0.1), all.0.2), within_wider n m ps h all.1)
 
 -- ---- a copy by reference
 

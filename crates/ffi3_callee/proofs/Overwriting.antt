@@ -17,7 +17,7 @@ use Rattle.ffi3_place_rules.specs.Sound.{IsNoneOf}
 use Rattle.ffi3_place_rules.proofs.Tests.{and_left, and_right, each_of_eight, not_true}
 use Rattle.ffi3_machine.specs.State.{State, filled, stored}
 use Rattle.ffi3_pieces.specs.Stored.{IsPlace, IsWordPut, WroteOnly, byte_of, stack_byte, word_in}
-use Rattle.ffi3_pieces.proofs.Composing.{only_nothing, only_then, only_wider, same_byte, wrote_nothing, wrote_then, wrote_wider}
+use Rattle.ffi3_pieces.proofs.Composing.{register_is_whole, only_nothing, only_then, only_wider, same_byte, wrote_nothing, wrote_then, wrote_wider}
 use Rattle.ffi3_pieces.proofs.Putting.{only_stored, stored_inside, stored_outside}
 use Rattle.ffi3_pieces.proofs.Stepping.{same_word_in}
 use Rattle.ffi3_callee.specs.Poison.{belongs, carries, is_argument_register, is_free, is_register}
@@ -61,10 +61,10 @@ pub same_register : (P : Loc → Type 0) (l m : Loc) → is_register l m ≡ tru
 same_register P (G a) (G b) is h = subst (λ n. P (G n)) (sym (eqb-true a b is)) h
 same_register P (F a) (F b) is h = subst (λ n. P (F n)) (sym (eqb-true a b is)) h
 same_register P (G a) (F b) is h = cc
-same_register P (G a) (S b) is h = cc
+same_register P (G a) (S b w) is h = cc
 same_register P (F a) (G b) is h = cc
-same_register P (F a) (S b) is h = cc
-same_register P (S n) m is h = cc
+same_register P (F a) (S b w) is h = cc
+same_register P (S n w) m is h = cc
 
 same_or_apart : (at l : Loc) → IsPlace 0 at → IsPlace 0 l → (l ≡ at) ⊎ IsNoneOf (at ∷ []) l
 same_or_apart (G a) (G b) h k =
@@ -79,25 +79,25 @@ same_or_apart (F a) (F b) h k =
     ]
 same_or_apart (G a) (F b) h k = inr (tt, tt)
 same_or_apart (F a) (G b) h k = inr (tt, tt)
-same_or_apart (S n) l h k = absurd (omega (arith, h))
-same_or_apart (G a) (S n) h k = absurd (omega (arith, k))
-same_or_apart (F a) (S n) h k = absurd (omega (arith, k))
+same_or_apart (S n w) l h k = absurd (omega (arith, h.0, h.1))
+same_or_apart (G a) (S n w) h k = absurd (omega (arith, k.0, k.1))
+same_or_apart (F a) (S n w) h k = absurd (omega (arith, k.0, k.1))
 
 word_byte : (base : ℕ) (m : State) (l : Loc) (k : ℕ) → IsPlace 0 l → byte_of base m l k ≡ get_or (to_le_bytes w64 (word_in base m l)) k 0
 word_byte base m (G r) k h = refl
 word_byte base m (F r) k h = refl
-word_byte base m (S n) k h = absurd (omega (arith, h))
+word_byte base m (S n w) k h = absurd (omega (arith, h.0, h.1))
 
 module _ (std : Standard) (s : Signature) where
   passing_belongs : (l : Loc) (k : ℕ) → IsPlace 0 l → is_argument_register std l ≡ true → belongs std s l k ≡ true
   passing_belongs (G r) k h passing = passing
   passing_belongs (F r) k h passing = passing
-  passing_belongs (S n) k h passing = absurd (omega (arith, h))
+  passing_belongs (S n w) k h passing = absurd (omega (arith, h.0, h.1))
 
   pub other_not_free : (l : Loc) (k : ℕ) → IsPlace 0 l → is_argument_register std l ≡ false → is_free std s l k ≡ false
   other_not_free (G r) k h other = and_false (is_argument_register std (G r)) (not (carries std s (G r) k)) other
   other_not_free (F r) k h other = and_false (is_argument_register std (F r)) (not (carries std s (F r) k)) other
-  other_not_free (S n) k h passing = absurd (omega (arith, h))
+  other_not_free (S n w) k h passing = absurd (omega (arith, h.0, h.1))
 
   pub free_carries : (l : Loc) (k : ℕ) → is_free std s l k ≡ true → carries std s l k ≡ false
   free_carries l k free =
@@ -110,21 +110,21 @@ module _ (std : Standard) (s : Signature) where
   belongs_free l k own has =
       and_both (belongs std s l k) (not (carries std s l k)) own (not_false (carries std s l k) has)
 
-  pub frame_free : (n : ℕ) → n < frame_of std s → carries std s (S n) 0 ≡ false → is_free std s (S n) 0 ≡ true
+  pub frame_free : (n : ℕ) → n < frame_of std s → carries std s (S n 1) 0 ≡ false → is_free std s (S n 1) 0 ≡ true
   frame_free n h has =
       let own : nat_lt (n + 0) (frame_of std s) ≡ true = grind (arith, nat_tests, h) in
-      belongs_free (S n) 0 own has
+      belongs_free (S n 1) 0 own has
 
-  pub free_in_frame : (n : ℕ) → is_free std s (S n) 0 ≡ true → n < frame_of std s
+  pub free_in_frame : (n : ℕ) → is_free std s (S n 1) 0 ≡ true → n < frame_of std s
   free_in_frame n free =
-      let own : nat_lt (n + 0) (frame_of std s) ≡ true = and_left (belongs std s (S n) 0) (not (carries std s (S n) 0)) free in
+      let own : nat_lt (n + 0) (frame_of std s) ≡ true = and_left (belongs std s (S n 1) 0) (not (carries std s (S n 1) 0)) free in
       grind (arith, nat_tests, own)
 
-  pub frame_tested : (n : ℕ) → is_free std s (S n) 0 ≡ true → (nat_lt n (frame_of std s) && is_free std s (S n) 0) ≡ true
+  pub frame_tested : (n : ℕ) → is_free std s (S n 1) 0 ≡ true → (nat_lt n (frame_of std s) && is_free std s (S n 1) 0) ≡ true
   frame_tested n free =
       let inside = free_in_frame n free in
       let test : nat_lt n (frame_of std s) ≡ true = grind (arith, nat_tests, inside) in
-      and_both (nat_lt n (frame_of std s)) (is_free std s (S n) 0) test free
+      and_both (nat_lt n (frame_of std s)) (is_free std s (S n 1) 0) test free
 
 module _ (std : Standard) (s : Signature) (base byte : ℕ) where
   keep_nothing : (m : State) → RegistersKeep std s base byte m m
@@ -185,7 +185,7 @@ module _ (std : Standard) (s : Signature) (base byte : ℕ) where
         each l k register h =
             elim (same_or_apart at l lies register) [
               | inl is ↦ subst (λ m. IsLeftOrFree std s base byte old new m k) (sym is) (at_itself k h (carries std s at k) refl)
-              | inr other ↦ inl (same_byte base l old new (put.stays.others l other) k h)
+              | inr other ↦ inl (same_byte base l old new (put.stays.others l other) k (omega (arith, h, register_is_whole l register)))
             ]
 
         all : (l : Loc) → IsPlace 0 l → ((k : ℕ) → k < 8 → is_free std s l k ≡ false) → word_in base new l ≡ word_in base old l
@@ -230,19 +230,19 @@ module _ (std : Standard) (s : Signature) (base byte : ℕ) where
     };
   }
     where
-      none : (n : ℕ) → (nat_lt n 0 && is_free std s (S n) 0) ≡ true → ⊥
+      none : (n : ℕ) → (nat_lt n 0 && is_free std s (S n 1) 0) ≡ true → ⊥
       none n is =
-          let below : nat_lt n 0 ≡ true = and_left (nat_lt n 0) (is_free std s (S n) 0) is in
+          let below : nat_lt n 0 ≡ true = and_left (nat_lt n 0) (is_free std s (S n 1) 0) is in
           grind (arith, nat_tests, below)
 
   module _ (n : ℕ) (first a : State) (before : IsFrameDone std s base byte n first a) where
-    later : (i : ℕ) → (nat_lt i n && is_free std s (S i) 0) ≡ true → (nat_lt i (n + 1) && is_free std s (S i) 0) ≡ true
+    later : (i : ℕ) → (nat_lt i n && is_free std s (S i 1) 0) ≡ true → (nat_lt i (n + 1) && is_free std s (S i 1) 0) ≡ true
     later i is =
-        let below : nat_lt i n ≡ true = and_left (nat_lt i n) (is_free std s (S i) 0) is in
+        let below : nat_lt i n ≡ true = and_left (nat_lt i n) (is_free std s (S i 1) 0) is in
         let more : nat_lt i (n + 1) ≡ true = grind (arith, nat_tests, below) in
-        and_both (nat_lt i (n + 1)) (is_free std s (S i) 0) more (and_right (nat_lt i n) (is_free std s (S i) 0) is)
+        and_both (nat_lt i (n + 1)) (is_free std s (S i 1) 0) more (and_right (nat_lt i n) (is_free std s (S i 1) 0) is)
 
-    still_lower : (mark : ℕ) → mark ≡ a.mark → (mark ≡ first.mark) ⊎ ((i : ℕ) × ((nat_lt i (n + 1) && is_free std s (S i) 0) ≡ true) × (mark ≡ base + i))
+    still_lower : (mark : ℕ) → mark ≡ a.mark → (mark ≡ first.mark) ⊎ ((i : ℕ) × ((nat_lt i (n + 1) && is_free std s (S i 1) 0) ≡ true) × (mark ≡ base + i))
     still_lower mark same =
         elim before.mark.no_lower [
           | inl is ↦ inl (same ∙ is)
@@ -250,7 +250,7 @@ module _ (std : Standard) (s : Signature) (base byte : ℕ) where
         ]
 
     -- a byte that carries something is left
-    pub byte_left : is_free std s (S n) 0 ≡ false → IsFrameDone std s base byte (n + 1) first a
+    pub byte_left : is_free std s (S n 1) 0 ≡ false → IsFrameDone std s base byte (n + 1) first a
     byte_left taken = record {
       free = λ i below is. before.free i (earlier i below is) is;
       kept = before.kept;
@@ -262,27 +262,27 @@ module _ (std : Standard) (s : Signature) (base byte : ℕ) where
       };
     }
       where
-        earlier : (i : ℕ) → i < n + 1 → is_free std s (S i) 0 ≡ true → i < n
+        earlier : (i : ℕ) → i < n + 1 → is_free std s (S i 1) 0 ≡ true → i < n
         earlier i below is =
             elim (cases_lt i n) [
               | inl less ↦ less
               | inr more ↦ (
                   let here : i ≡ n = omega (arith, below, more) in
-                  absurd (cc (subst (λ j. is_free std s (S j) 0 ≡ true) here is, taken))
+                  absurd (cc (subst (λ j. is_free std s (S j 1) 0 ≡ true) here is, taken))
                   )
             ]
 
-        tested : (i : ℕ) → (nat_lt i (n + 1) && is_free std s (S i) 0) ≡ true → (nat_lt i n && is_free std s (S i) 0) ≡ true
+        tested : (i : ℕ) → (nat_lt i (n + 1) && is_free std s (S i 1) 0) ≡ true → (nat_lt i n && is_free std s (S i 1) 0) ≡ true
         tested i is =
-            let free = and_right (nat_lt i (n + 1)) (is_free std s (S i) 0) is in
-            let below : nat_lt i (n + 1) ≡ true = and_left (nat_lt i (n + 1)) (is_free std s (S i) 0) is in
+            let free = and_right (nat_lt i (n + 1)) (is_free std s (S i 1) 0) is in
+            let below : nat_lt i (n + 1) ≡ true = and_left (nat_lt i (n + 1)) (is_free std s (S i 1) 0) is in
             let close : i < n + 1 = grind (arith, nat_tests, below) in
             let less : i < n = earlier i close free in
             let test : nat_lt i n ≡ true = grind (arith, nat_tests, less) in
-            and_both (nat_lt i n) (is_free std s (S i) 0) test free
+            and_both (nat_lt i n) (is_free std s (S i 1) 0) test free
 
     -- a free one is overwritten
-    pub byte_written : (b : State) → b ≡ filled (base + n) 1 byte a → STACK ≤ base → base + frame_of std s ≤ STACK_TOP → length a.stack ≡ STACK_BYTES → n < frame_of std s → is_free std s (S n) 0 ≡ true → IsFrameDone std s base byte (n + 1) first b
+    pub byte_written : (b : State) → b ≡ filled (base + n) 1 byte a → STACK ≤ base → base + frame_of std s ≤ STACK_TOP → length a.stack ≡ STACK_BYTES → n < frame_of std s → is_free std s (S n 1) 0 ≡ true → IsFrameDone std s base byte (n + 1) first b
     byte_written b b_is low high sized inside free_here = subst (IsFrameDone std s base byte (n + 1) first) (sym is) done
       where
         c : State
@@ -309,45 +309,45 @@ module _ (std : Standard) (s : Signature) (base byte : ℕ) where
             let there : base + n + 0 ≡ base + n = omega arith in
             ap (stack_byte c) (sym there) ∙ stored_inside (base + n) (byte ∷ []) a low_n fits 0 (omega arith)
 
-        free : (i : ℕ) → i < n + 1 → is_free std s (S i) 0 ≡ true → stack_byte c (base + i) ≡ byte
+        free : (i : ℕ) → i < n + 1 → is_free std s (S i 1) 0 ≡ true → stack_byte c (base + i) ≡ byte
         free i below is_free_there =
             elim (cases_eq i n) [
               | inl same ↦ ap (λ j. stack_byte c (base + j)) same ∙ here
               | inr apart ↦ other i apart ∙ before.free i (omega (arith, below, apart)) is_free_there
             ]
 
-        kept : (i : ℕ) → is_free std s (S i) 0 ≡ false → stack_byte c (base + i) ≡ stack_byte first (base + i)
+        kept : (i : ℕ) → is_free std s (S i 1) 0 ≡ false → stack_byte c (base + i) ≡ stack_byte first (base + i)
         kept i taken =
             elim (cases_eq i n) [
-              | inl same ↦ absurd (cc (free_here, subst (λ j. is_free std s (S j) 0 ≡ false) same taken))
+              | inl same ↦ absurd (cc (free_here, subst (λ j. is_free std s (S j 1) 0 ≡ false) same taken))
               | inr apart ↦ other i apart ∙ before.kept i taken
             ]
 
         mark_is : c.mark ≡ min a.mark (base + n)
         mark_is = refl
 
-        falls : (i : ℕ) → (nat_lt i (n + 1) && is_free std s (S i) 0) ≡ true → c.mark ≤ base + i
+        falls : (i : ℕ) → (nat_lt i (n + 1) && is_free std s (S i 1) 0) ≡ true → c.mark ≤ base + i
         falls i is =
             elim (cases_eq i n) [
               | inl same ↦ omega (arith, mark_is, same)
               | inr apart ↦ (
-                  let below : nat_lt i (n + 1) ≡ true = and_left (nat_lt i (n + 1)) (is_free std s (S i) 0) is in
+                  let below : nat_lt i (n + 1) ≡ true = and_left (nat_lt i (n + 1)) (is_free std s (S i 1) 0) is in
                   let close : i < n + 1 = grind (arith, nat_tests, below) in
                   let less : i < n = omega (arith, close, apart) in
                   let test : nat_lt i n ≡ true = grind (arith, nat_tests, less) in
-                  let before_is = before.mark.falls i (and_both (nat_lt i n) (is_free std s (S i) 0) test (and_right (nat_lt i (n + 1)) (is_free std s (S i) 0) is)) in
+                  let before_is = before.mark.falls i (and_both (nat_lt i n) (is_free std s (S i 1) 0) test (and_right (nat_lt i (n + 1)) (is_free std s (S i 1) 0) is)) in
                   omega (arith, mark_is, before_is)
                   )
             ]
 
-        no_lower : (c.mark ≡ first.mark) ⊎ ((i : ℕ) × ((nat_lt i (n + 1) && is_free std s (S i) 0) ≡ true) × (c.mark ≡ base + i))
+        no_lower : (c.mark ≡ first.mark) ⊎ ((i : ℕ) × ((nat_lt i (n + 1) && is_free std s (S i 1) 0) ≡ true) × (c.mark ≡ base + i))
         no_lower =
             elim (cases_lt a.mark (base + n)) [
               | inl above ↦ still_lower c.mark (omega (arith, mark_is, above))
               | inr below ↦ (
                   let last : nat_lt n (n + 1) ≡ true = grind (arith, nat_tests) in
                   let lowest : c.mark ≡ base + n = omega (arith, mark_is, below) in
-                  inr (n, and_both (nat_lt n (n + 1)) (is_free std s (S n) 0) last free_here, lowest)
+                  inr (n, and_both (nat_lt n (n + 1)) (is_free std s (S n 1) 0) last free_here, lowest)
                   )
             ]
 

@@ -20,12 +20,12 @@ use Rattle.ffi3_callee.proofs.Keeping.{reserved_there}
 pub word_same : (base from : ℕ) (l : Loc) (a b : State) → IsPlace 0 l → SameAt 0 l a b → word_in base b l ≡ word_in from a l
 word_same base from (G r) a b lies h = h
 word_same base from (F r) a b lies h = h
-word_same base from (S n) a b lies h = absurd (omega (arith, lies))
+word_same base from (S n w) a b lies h = absurd (omega (arith, lies.0, lies.1))
 
 pub same_word_at : (base : ℕ) (l : Loc) (a b : State) → IsPlace 0 l → word_in base b l ≡ word_in base a l → SameAt 0 l a b
 same_word_at base (G r) a b lies h = h
 same_word_at base (F r) a b lies h = h
-same_word_at base (S n) a b lies h = absurd (omega (arith, lies))
+same_word_at base (S n w) a b lies h = absurd (omega (arith, lies.0, lies.1))
 
 module _ (a b : State) (before : IsMachine a) (after : IsMachine b) where
   own_stays : b.target ≡ a.target → (passing b).exchange ≡ (passing a).exchange → (l : Loc) → IsPlace 0 l → SameAt 0 l (passing a) (passing b) → SameAt 0 l a b
@@ -44,7 +44,7 @@ module _ (a b : State) (before : IsMachine a) (after : IsMachine b) where
       listed_same : (l : Loc) → IsPlace 0 l → SameAt 0 l (passing a) (passing b)
       listed_same (G r) h = ap (λ xs. get_or xs r 0) w.general
       listed_same (F r) h = ap (λ xs. get_or xs r 0) w.floating
-      listed_same (S n) h = absurd (omega (arith, h))
+      listed_same (S n w) h = absurd (omega (arith, h.0, h.1))
 
   pub own_reserved_of : (std : Standard) → AgreesWithMachine std → (low high : ℕ) → WroteOnly low high (passing a) (passing b) → ReservedStay std a b
   own_reserved_of std agrees low high w =

@@ -21,13 +21,13 @@ use Rattle.ffi3_callee.specs.Loaded.{AreLoaded, HaveByte, IsRead, image_from}
 
 pub parts_within : (t : Tree) (pieces : List Piece) (size : ℕ) → size ≡ size_of t → HaveAll t pieces → AllByRecursion (IsWithin size) pieces
 parts_within t pieces size is all =
-    each_weaker (IsPieceOf t) (IsWithin size) (λ p h. (h.short, omega (arith, is, h.within))) pieces all.each
+    each_weaker (IsPieceOf t) (IsWithin size) (λ p h. (h.short, omega (arith, is, h.within), h.fits)) pieces all.each
 
 module _ (base room : ℕ) (m : State) (low : STACK ≤ base) where
   have_byte : (t : Tree) (o x : ℕ) (pieces : List Piece) → AllByRecursion (IsPieceOf t) pieces → AllByRecursion (IsPlace room) (piece_locs pieces) → AllByRecursion (λ p. Carries o p → byte_at (image_from base room m) 0 p.loc (o - p.off) ≡ x) pieces → HaveByte base m o x pieces
   have_byte t o x [] parts lie each = tt
   have_byte t o x (p ∷ ps) parts lie each =
-      (λ c. let short = parts.0.short in sym (image_byte (with_sp base m) room low p.loc (o - p.off) lie.0 (omega (arith, c.0, c.1, short))) ∙ each.0 c, have_byte t o x ps parts.1 lie.1 each.1)
+      (λ c. let fits = parts.0.fits in sym (image_byte (with_sp base m) room low p.loc (o - p.off) lie.0 (omega (arith, c.0, c.1, fits))) ∙ each.0 c, have_byte t o x ps parts.1 lie.1 each.1)
 
   leaf_loaded : (t : Tree) (pieces : List Piece) (out : List ℕ) (l : Leaf) (b : List ℕ) → AllByRecursion (IsPieceOf t) pieces → AllByRecursion (IsPlace room) (piece_locs pieces) → AreLoaded base m pieces out → CoversLeaf pieces l → StandsInPieces (image_from base room m) 0 pieces l b → ReadsLeaf out l b
   leaf_loaded t pieces out l b parts lie loaded covers stands k h =

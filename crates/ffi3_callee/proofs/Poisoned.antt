@@ -50,10 +50,10 @@ other_register : (l m : Loc) → IsPlace 0 l → Apart l m → is_register l m �
 other_register (G a) (G b) h apart = not_equal a b apart
 other_register (F a) (F b) h apart = not_equal a b apart
 other_register (G a) (F b) h apart = refl
-other_register (G a) (S b) h apart = refl
+other_register (G a) (S b w) h apart = refl
 other_register (F a) (G b) h apart = refl
-other_register (F a) (S b) h apart = refl
-other_register (S n) m h apart = absurd (omega (arith, h))
+other_register (F a) (S b w) h apart = refl
+other_register (S n w) m h apart = absurd (omega (arith, h.0, h.1))
 
 other_registers : (l : Loc) → IsPlace 0 l → (ls : List Loc) → AllByRecursion (Apart l) ls → list_any (is_register l) ls ≡ false
 other_registers l register [] h = refl
@@ -80,7 +80,7 @@ is_passing std i at lies below read =
     itself : (l : Loc) → IsPlace 0 l → is_register l l ≡ true
     itself (G r) h = eq-eqb r r refl
     itself (F r) h = eq-eqb r r refl
-    itself (S n) h = absurd (omega (arith, h))
+    itself (S n w) h = absurd (omega (arith, h.0, h.1))
 
 -- ---- what is closed to arguments are registers
 
@@ -120,17 +120,17 @@ closed_are std agrees =
 free_passing : (std : Standard) (s : Signature) (l : Loc) (k : ℕ) → IsPlace 0 l → is_free std s l k ≡ true → is_argument_register std l ≡ true
 free_passing std s (G r) k h free = and_left (is_argument_register std (G r)) (not (carries std s (G r) k)) free
 free_passing std s (F r) k h free = and_left (is_argument_register std (F r)) (not (carries std s (F r) k)) free
-free_passing std s (S n) k h free = absurd (omega (arith, h))
+free_passing std s (S n w) k h free = absurd (omega (arith, h.0, h.1))
 
 register_still : (base : ℕ) (a b : State) (l : Loc) (k : ℕ) → IsPlace 0 l → b.general ≡ a.general → b.floating ≡ a.floating → byte_of base b l k ≡ byte_of base a l k
 register_still base a b (G r) k h general floating = ap (λ xs. get_or (to_le_bytes w64 (get_or xs r 0)) k 0) general
 register_still base a b (F r) k h general floating = ap (λ xs. get_or (to_le_bytes w64 (get_or xs r 0)) k 0) floating
-register_still base a b (S n) k h general floating = absurd (omega (arith, h))
+register_still base a b (S n w) k h general floating = absurd (omega (arith, h.0, h.1))
 
 word_still : (base : ℕ) (a b : State) (l : Loc) → IsPlace 0 l → b.general ≡ a.general → b.floating ≡ a.floating → word_in base b l ≡ word_in base a l
 word_still base a b (G r) h general floating = ap (λ xs. get_or xs r 0) general
 word_still base a b (F r) h general floating = ap (λ xs. get_or xs r 0) floating
-word_still base a b (S n) h general floating = absurd (omega (arith, h))
+word_still base a b (S n w) h general floating = absurd (omega (arith, h.0, h.1))
 
 pub poisoned : (std : Standard) (s : Signature) (base byte : ℕ) (first a b : State) → AgreesWithMachine std → STACK ≤ base → AreRegistersDone std s base byte (length std.argument_registers) first a → IsFrameDone std s base byte (frame_of std s) a b → IsPoisoned std s base byte first b
 poisoned std s base byte first a b agrees low registers frame = record {
@@ -143,7 +143,7 @@ poisoned std s base byte first a b agrees low registers frame = record {
   closed = each_both (IsPlace 0) (λ l. AllByRecursion (Apart l) std.argument_registers) (λ l. word_in base b l ≡ word_in base first l) (λ l lies apart. others l lies (other_registers l lies std.argument_registers apart)) (closed_to_arguments std) (closed_are std agrees) (across_none std.argument_registers (closed_to_arguments std) agrees.arguments_plain);
   sp = frame.only.sp ∙ registers.keep.sp;
   within = wrote_then base (base + frame_of std s) first a b (wrote_wider base base base (base + frame_of std s) first a (omega arith) (omega arith) registers.keep.within) frame.only.within;
-  mark = subst (λ m. MarkFalls (λ n. is_free std s (S n) 0) base m b.mark) registers.keep.mark marked;
+  mark = subst (λ m. MarkFalls (λ n. is_free std s (S n 1) 0) base m b.mark) registers.keep.mark marked;
 }
   where
     among : (l : Loc) (k : ℕ) → IsPlace 0 l → is_free std s l k ≡ true → list_any (is_register l) (take (length std.argument_registers) std.argument_registers) ≡ true
@@ -164,13 +164,13 @@ poisoned std s base byte first a b agrees low registers frame = record {
     others : (l : Loc) → IsPlace 0 l → is_argument_register std l ≡ false → word_in base b l ≡ word_in base first l
     others l lies other = whole l lies (λ k h. other_not_free std s l k lies other)
 
-    marked : MarkFalls (λ n. is_free std s (S n) 0) base a.mark b.mark
+    marked : MarkFalls (λ n. is_free std s (S n 1) 0) base a.mark b.mark
     marked = record {
       falls = λ n free. frame.mark.falls n (frame_tested std s n free);
       no_higher = frame.mark.no_higher;
       no_lower = elim frame.mark.no_lower [
         | inl same ↦ inl same
-        | inr found ↦ inr (found.0, and_right (nat_lt found.0 (frame_of std s)) (is_free std s (S found.0) 0) found.1, found.2)
+        | inr found ↦ inr (found.0, and_right (nat_lt found.0 (frame_of std s)) (is_free std s (S found.0 1) 0) found.1, found.2)
       ];
     }
 
@@ -186,7 +186,7 @@ module _ (std : Standard) (s : Signature) (byte : ℕ) (a b : State) (low : STAC
   agree = record {
     bytes = bytes;
     words = words;
-    stack = λ n below has. frame_byte b n is.sp below ∙ is.frame_kept n (carries_not_free std s (S n) 0 has) ∙ sym (frame_byte a n refl below);
+    stack = λ n below has. frame_byte b n is.sp below ∙ is.frame_kept n (carries_not_free std s (S n 1) 0 has) ∙ sym (frame_byte a n refl below);
     sp = is.sp;
     reaches = omega (arith, length_part b.stack (b.sp - STACK) (std.link + frame_of std s) (omega (arith, is.sp, is.within.size, low, high, sized)));
   }
@@ -194,12 +194,12 @@ module _ (std : Standard) (s : Signature) (byte : ℕ) (a b : State) (low : STAC
       bytes : (l : Loc) (k : ℕ) → IsPlace 0 l → k < 8 → carries std s l k ≡ true → byte_at (image_of (std.link + frame_of std s) b) std.link l k ≡ byte_at (image_of (std.link + frame_of std s) a) std.link l k
       bytes (G r) k lies h has = is.register_kept (G r) k lies h (carries_not_free std s (G r) k has)
       bytes (F r) k lies h has = is.register_kept (F r) k lies h (carries_not_free std s (F r) k has)
-      bytes (S n) k lies h has = absurd (omega (arith, lies))
+      bytes (S n w) k lies h has = absurd (omega (arith, lies.0, lies.1))
 
       words : (l : Loc) → IsPlace 0 l → ((k : ℕ) → k < 8 → carries std s l k ≡ true) → word_at (image_of (std.link + frame_of std s) b) std.link l ≡ word_at (image_of (std.link + frame_of std s) a) std.link l
       words (G r) lies has = is.whole (G r) lies (λ k h. carries_not_free std s (G r) k (has k h))
       words (F r) lies has = is.whole (F r) lies (λ k h. carries_not_free std s (F r) k (has k h))
-      words (S n) lies has = absurd (omega (arith, lies))
+      words (S n w) lies has = absurd (omega (arith, lies.0, lies.1))
 
   pub still_owned : IsSound std s → SignatureHasNoFault s → (vs : List ValueTree) → OwnsAtEntry std s a vs → OwnsAtEntry std s b vs
   still_owned sound right vs own =

@@ -57,7 +57,7 @@ quiet low high a b h w = record {
 pub register_word : (base from : ℕ) (l : Loc) (m : State) → IsPlace 0 l → word_in base m l ≡ word_in from m l
 register_word base from (G r) m h = refl
 register_word base from (F r) m h = refl
-register_word base from (S n) m h = absurd (omega (arith, h))
+register_word base from (S n w) m h = absurd (omega (arith, h.0, h.1))
 
 pub registers_stay : (base : ℕ) (ls : List Loc) (a b : State) → Stays base ls a b → RegistersStay ls a b
 registers_stay base ls a b s = λ l lies none.
@@ -84,12 +84,12 @@ module _ (base : ℕ) (m : State) (t : Tree) (v : ValueTree) where
   same_bytes : (l : Loc) (k : ℕ) → byte_of base (with_sp base m) l k ≡ byte_of base m l k
   same_bytes (G r) k = refl
   same_bytes (F r) k = refl
-  same_bytes (S n) k = refl
+  same_bytes (S n w) k = refl
 
   same_words : (l : Loc) → word_in base m l ≡ word_in base (with_sp base m) l
   same_words (G r) = refl
   same_words (F r) = refl
-  same_words (S n) = refl
+  same_words (S n w) = refl
 
   pieces_there : (pieces : List Piece) → PiecesStand base m t v pieces → PiecesStand base (with_sp base m) t v pieces
   pieces_there [] stand = tt
@@ -155,7 +155,7 @@ buffer_within std s at buffer is =
 told_by : (base frame n k : ℕ) (target : Target) (m : State) (returned : Option Loc) → n ≡ k → IsSettable target returned → RegisterHoldsWord m returned n → RegisterHolds (image_from base frame m) returned k
 told_by base frame n k target m (Some (G r)) same set told = told ∙ same
 told_by base frame n k target m (Some (F r)) same set told = told ∙ same
-told_by base frame n k target m (Some (S q)) same set told = absurd (omega (arith, set.0))
+told_by base frame n k target m (Some (S q w)) same set told = absurd (omega (arith, set.0.0, set.0.1))
 told_by base frame n k target m None same set told = tt
 
 pub hidden_held : (std : Standard) (s : Signature) (base address : ℕ) (target : Target) (a m : State) (v : ValueTree) (at : Loc) (buffer : ℕ) (returned : Option Loc) → STACK ≤ base → base + frame_of std s ≤ STACK_TOP → length a.stack ≡ STACK_BYTES → (plan_of std s).res ≡ Hidden at buffer → address ≡ base + buffer → fits s.result_type v ≡ true → returned ≡ std.returned_address → IsSettable target returned → value_in s.result_type (stack_at address (size_of s.result_type) a) ≡ v → WroteWithin STACK_TOP STACK_TOP a m → RegisterHoldsWord m returned address → HoldsResult std s v (image_from base (frame_of std s) m)
@@ -179,7 +179,7 @@ below_stays base t (Hidden at buffer) a b w i h = w.outside i (inl (omega (arith
 -- and so do words that are saved there
 pub saved_below : (from base start : ℕ) (t : Tree) (res : Res) (hidden : Option Loc) (words : List SaveWord) (entry a b : State) → STACK ≤ from → from + 8 * length words ≤ base → ResultWrites base t res a b → AreSaved from start hidden words entry a → AreSaved from start hidden words entry b
 saved_below from base start t res hidden words entry a b low high writes saved = λ i w below is.
-    let same : saved_word from i b ≡ saved_word from i a = same_word_in from (S (8 * i)) a b (λ k h. below_stays base t res a b writes (from + 8 * i + k - STACK) (omega (arith, low, high, below, h))) in
+    let same : saved_word from i b ≡ saved_word from i a = same_word_in from (S (8 * i) 8) a b (λ k h. below_stays base t res a b writes (from + 8 * i + k - STACK) (omega (arith, low, high, below, h))) in
     subst (IsToSave start entry hidden w) (sym same) (saved i w below is)
 
 pub written_target : (base : ℕ) (t : Tree) (res : Res) (a b : State) → ResultWrites base t res a b → b.target ≡ a.target

@@ -26,7 +26,7 @@ use Rattle.ffi3_callee.specs.Saved.{AreGivenBack}
 pub any_sp : (base sp : ℕ) (m : State) (l : Loc) → word_in base (with_sp sp m) l ≡ word_in base m l
 any_sp base sp m (G r) = refl
 any_sp base sp m (F r) = refl
-any_sp base sp m (S n) = refl
+any_sp base sp m (S n w) = refl
 
 pub back_any_sp : (from sp : ℕ) (words : List SaveWord) (value : Loc → ℕ) (a b c : State) → c ≡ with_sp sp b → AreGivenBack from words value a b → AreGivenBack from words value a c
 back_any_sp from sp words value a b c is back =
@@ -63,7 +63,7 @@ told_lies target None set = tt
 register_stays : (base frame : ℕ) (a b : State) (l : Loc) → IsPlace 0 l → word_in STACK_TOP b l ≡ word_in STACK_TOP a l → register (image_from base frame b) l ≡ register (image_from base frame a) l
 register_stays base frame a b (G r) lies h = h
 register_stays base frame a b (F r) lies h = h
-register_stays base frame a b (S n) lies h = absurd (omega (arith, lies))
+register_stays base frame a b (S n w) lies h = absurd (omega (arith, lies.0, lies.1))
 
 pub result_kept : (base : ℕ) (ls : List Loc) (a b : State) → RegistersStay ls a b → WroteWithin STACK_TOP STACK_TOP a b → (std : Standard) (s : Signature) (target : Target) (v : ValueTree) → IsSound std s → AllByRecursion (IsNoneOf ls) (result_locs (plan_of std s).res) → IsSettable target std.returned_address → AllByRecursion (IsNoneOf ls) (to_list std.returned_address) → HoldsResult std s v (image_from base (frame_of std s) a) → HoldsResult std s v (image_from base (frame_of std s) b)
 result_kept base ls a b stay quiet std s target v sound none set clear h =

@@ -97,12 +97,12 @@ module _ (from base : ℕ) (hidden : Option Loc) (words : List SaveWord) (first 
           same_element (x ∷ xs) (suc j) zero w word h e w_is is = absurd (omega (arith, e))
           same_element (x ∷ xs) (suc j) (suc i) w word h e w_is is = same_element xs j i w word (omega (arith, h)) (omega (arith, e)) w_is is
 
-      kept : (j : ℕ) → j < i → SameAt from (S (8 * j)) a b
+      kept : (j : ℕ) → j < i → SameAt from (S (8 * j) 8) a b
       kept j h = λ k less. ap (λ m. get_or m.stack (from + 8 * j + k - STACK) 0) b_is ∙ stored_outside addr bytes a start fits (from + 8 * j + k - STACK) (inl (omega (arith, low, addr_is, h, less)))
 
       each : (j : ℕ) (w : SaveWord) → j < i + 1 → j < length words → w ≡ get_or words j w → saved_word from j b ≡ word_to_save base first hidden w
       each j w h below_j w_is = elim (cases_lt j i) [
-        | inl earlier ↦ same_word_in from (S (8 * j)) a b (kept j earlier) ∙ before.each j w earlier below_j w_is
+        | inl earlier ↦ same_word_in from (S (8 * j) 8) a b (kept j earlier) ∙ before.each j w earlier below_j w_is
         | inr last ↦ here j w (omega (arith, h, last)) below_j w_is
       ]
 
@@ -127,7 +127,7 @@ registers_none (Spare ∷ ws) (suc i) w l h is none = registers_none ws i w l (o
 
 -- the bytes of words stay where no register's write reaches
 stack_same : (from i : ℕ) (a b : State) → STACK ≤ from → WroteWithin STACK_TOP STACK_TOP a b → saved_word from i b ≡ saved_word from i a
-stack_same from i a b low w = same_word_in from (S (8 * i)) a b (λ k h. w.outside (from + 8 * i + k - STACK) (cases_lt (STACK + (from + 8 * i + k - STACK)) STACK_TOP))
+stack_same from i a b low w = same_word_in from (S (8 * i) 8) a b (λ k h. w.outside (from + 8 * i + k - STACK) (cases_lt (STACK + (from + 8 * i + k - STACK)) STACK_TOP))
 
 different : (m n : ℕ) → (m < n) ⊎ (n ≤ m) → (n < m) ⊎ (m ≤ n) → (m ≡ n) ⊎ (m ≢ n)
 different m n (inl less) other = inr (λ e. absurd (omega (arith, less, e)))
@@ -146,10 +146,10 @@ same_or_apart (F a) (F b) h =
       | inr apart ↦ inr apart
     ]
 same_or_apart (G a) (F b) h = inr tt
-same_or_apart (G a) (S b) h = inr tt
+same_or_apart (G a) (S b w) h = inr tt
 same_or_apart (F a) (G b) h = inr tt
-same_or_apart (F a) (S b) h = inr tt
-same_or_apart (S a) l h = absurd (omega (arith, h))
+same_or_apart (F a) (S b w) h = inr tt
+same_or_apart (S a w) l h = absurd (omega (arith, h.0, h.1))
 
 module _ (from : ℕ) (words : List SaveWord) (first : State) where
   pub record AreBackTo (i : ℕ) (m : State) : Type 0 where
@@ -196,13 +196,13 @@ module _ (from : ℕ) (words : List SaveWord) (first : State) where
           clear_of : (r at : Loc) → Apart r at → Apart at r
           clear_of (G x) (G y) h = λ e. h (sym e)
           clear_of (F x) (F y) h = λ e. h (sym e)
-          clear_of (S x) (S y) h = ⊎_elim (λ x. inr x) (λ x. inl x) h
+          clear_of (S x v) (S y w) h = ⊎_elim (λ x. inr x) (λ x. inl x) h
           clear_of (G x) (F y) h = tt
-          clear_of (G x) (S y) h = tt
+          clear_of (G x) (S y w) h = tt
           clear_of (F x) (G y) h = tt
-          clear_of (F x) (S y) h = tt
-          clear_of (S x) (G y) h = tt
-          clear_of (S x) (F y) h = tt
+          clear_of (F x) (S y w) h = tt
+          clear_of (S x w) (G y) h = tt
+          clear_of (S x w) (F y) h = tt
       kept value hold Hidden e at lies before_at = same_word_in STACK_TOP at a b (stays.others at (subst (λ u. IsNoneOf (saved_registers (u ∷ [])) at) (sym e) tt)) ∙ before_at
       kept value hold Spare e at lies before_at = same_word_in STACK_TOP at a b (stays.others at (subst (λ u. IsNoneOf (saved_registers (u ∷ [])) at) (sym e) tt)) ∙ before_at
 

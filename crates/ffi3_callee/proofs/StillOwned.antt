@@ -1,6 +1,6 @@
 -- An image in which each byte that carries something is the same still owns what it owned.
 use Rattle.std.specs.Prelude.{◌==◌, nat_lt, if◌then◌else◌, Bool, true, false, not, ◌&&◌, ◌||◌, Some, None}
-use Rattle.std.proofs.Common.{◌≡◌, ℕ, ◌+◌, ◌-◌, ◌<◌, ◌≤◌, List, [], ◌∷◌, take, drop, get_or, length, refl, ap, sym, ◌∙◌, subst, arith, lit<, eq-eqb}
+use Rattle.std.proofs.Common.{◌≡◌, ℕ, ◌+◌, ◌-◌, ◌<◌, ◌≤◌, List, [], ◌∷◌, take, drop, get_or, length, refl, ap, sym, ◌∙◌, subst, arith, eq-eqb}
 use Rattle.std.specs.List.{AllByRecursion, list_any}
 use Rattle.std.specs.Int.{w64, from_le_bytes}
 use Rattle.std.proofs.lemmas.Bool.Decides.{nat_tests}
@@ -18,7 +18,8 @@ use Rattle.ffi3_place_rules.specs.declared.Res.{Res}
 use Rattle.ffi3_place_rules.specs.declared.Res.TheVariants.{Nothing, Direct as DirectRes, Hidden}
 use Rattle.ffi3_place_rules.specs.Image.{Image, byte_at, word_at}
 use Rattle.ffi3_place_rules.specs.Holds.{leaf_bytes, Carries, LeavesStand, OwnsArgument, OwnsArguments, OwnsHidden}
-use Rattle.ffi3_place_rules.specs.Sound.{IsPieceOf, hidden_locs, piece_locs}
+use Rattle.ffi3_place_rules.specs.Sound.{IsPieceOf, hidden_locs, piece_locs, place_size}
+use Rattle.ffi3_place_rules.proofs.Words.{same_bytes}
 use Rattle.ffi3_place_rules.proofs.Covered.{EndsIn, leaves_end}
 use Rattle.ffi3_pieces.specs.Stored.{IsPlace}
 use Rattle.ffi3_pieces.specs.Standing.{AreReady, IsReady}
@@ -58,17 +59,17 @@ not_less a b h = grind (arith, nat_tests, h)
 abbrev pub At : (Loc → ℕ → Type 0) → Loc → ℕ → Type 0
 At P (G r) k = P (G r) k
 At P (F r) k = P (F r) k
-At P (S n) k = P (S (n + k)) 0
+At P (S n w) k = P (S (n + k) 1) 0
 
 at_map : (P Q : Loc → ℕ → Type 0) → ((m : Loc) (j : ℕ) → P m j → Q m j) → (l : Loc) (k : ℕ) → At P l k → At Q l k
 at_map P Q f (G r) k h = f (G r) k h
 at_map P Q f (F r) k h = f (F r) k h
-at_map P Q f (S n) k h = f (S (n + k)) 0 h
+at_map P Q f (S n w) k h = f (S (n + k) 1) 0 h
 
 number_at : (l : Loc) (k : ℕ) → At (λ m j. byte_number m j l ≡ Some k) l k
 number_at (G r) k = if_true (r == r) (Some k) None (eq-eqb r r refl)
 number_at (F r) k = if_true (r == r) (Some k) None (eq-eqb r r refl)
-number_at (S n) k =
+number_at (S n w) k =
     let back : n + k + 0 - n ≡ k = omega arith in
     if_false (nat_lt (n + k + 0) n) None (Some (n + k + 0 - n)) (not_less (n + k + 0) n (omega arith)) ∙ ap Some back
 
@@ -82,8 +83,8 @@ address_at : (at : Loc) (k : ℕ) → k < 8 → At (λ m j. address_has m j at �
 address_at at k h =
     at_map (λ m j. byte_number m j at ≡ Some k) (λ m j. address_has m j at ≡ true) (λ m j is. ap (passes (λ i. nat_lt i 8)) is ∙ less k 8 h) at k (number_at at k)
 
-copy_at : (t : Tree) (copy k : ℕ) → is_leaf_byte t k ≡ true → copy_has t (S (copy + k)) 0 copy ≡ true
-copy_at t copy k leaf = ap (passes (is_leaf_byte t)) (number_at (S copy) k) ∙ leaf
+copy_at : (t : Tree) (copy k : ℕ) → is_leaf_byte t k ≡ true → copy_has t (S (copy + k) 1) 0 copy ≡ true
+copy_at t copy k leaf = ap (passes (is_leaf_byte t)) (number_at (S copy 8) k) ∙ leaf
 
 leaf_here : (l : Leaf) (k : ℕ) → k < scalar_size l.kind → leaf_has (l.at + k) l ≡ true
 leaf_here l k h =
@@ -95,7 +96,7 @@ leaf_here l k h =
 pub record AgreeWhere (base room : ℕ) (test : Loc → ℕ → Bool) (old new : Image) : Type 0 where
   pub bytes : (l : Loc) (k : ℕ) → IsPlace 0 l → k < 8 → test l k ≡ true → byte_at new base l k ≡ byte_at old base l k
   pub words : (l : Loc) → IsPlace 0 l → ((k : ℕ) → k < 8 → test l k ≡ true) → word_at new base l ≡ word_at old base l
-  pub stack : (n : ℕ) → n < room → test (S n) 0 ≡ true → get_or new.stack (base + n) 0 ≡ get_or old.stack (base + n) 0
+  pub stack : (n : ℕ) → n < room → test (S n 1) 0 ≡ true → get_or new.stack (base + n) 0 ≡ get_or old.stack (base + n) 0
   pub sp : new.sp ≡ old.sp
   pub reaches : base + room ≤ length new.stack
 
@@ -103,27 +104,23 @@ module _ (base room : ℕ) (test : Loc → ℕ → Bool) (old new : Image) (agre
   abbrev Tested : Loc → ℕ → Type 0
   Tested m j = test m j ≡ true
 
-  same_byte : (l : Loc) (k : ℕ) → IsPlace room l → k < 8 → At Tested l k → byte_at new base l k ≡ byte_at old base l k
+  same_byte : (l : Loc) (k : ℕ) → IsPlace room l → k < place_size l → At Tested l k → byte_at new base l k ≡ byte_at old base l k
   same_byte (G r) k lies h is = agree.bytes (G r) k lies h is
   same_byte (F r) k lies h is = agree.bytes (F r) k lies h is
-  same_byte (S n) k lies h is =
+  same_byte (S n w) k lies h is =
       let there : base + (n + k) ≡ base + n + k = omega arith in
-      ap (λ i. get_or new.stack i 0) (sym there) ∙ agree.stack (n + k) (omega (arith, lies, h)) is ∙ ap (λ i. get_or old.stack i 0) there
+      ap (λ i. get_or new.stack i 0) (sym there) ∙ agree.stack (n + k) (omega (arith, lies.0, h)) is ∙ ap (λ i. get_or old.stack i 0) there
 
-  same_word : (l : Loc) → IsPlace room l → ((k : ℕ) → k < 8 → At Tested l k) → word_at new base l ≡ word_at old base l
+  same_word : (l : Loc) → IsPlace room l → ((k : ℕ) → k < place_size l → At Tested l k) → word_at new base l ≡ word_at old base l
   same_word (G r) lies is = agree.words (G r) lies is
   same_word (F r) lies is = agree.words (F r) lies is
-  same_word (S n) lies is =
-      let one : (k : ℕ) → k < 8 → byte_at new base (S n) k ≡ byte_at old base (S n) k = λ k h. same_byte (S n) k lies h (is k h) in
-      let e0 = one 0 (lit< tt) in
-      let e1 = one 1 (lit< tt) in
-      let e2 = one 2 (lit< tt) in
-      let e3 = one 3 (lit< tt) in
-      let e4 = one 4 (lit< tt) in
-      let e5 = one 5 (lit< tt) in
-      let e6 = one 6 (lit< tt) in
-      let e7 = one 7 (lit< tt) in
-      λ i. from_le_bytes w64 (e0 i ∷ e1 i ∷ e2 i ∷ e3 i ∷ e4 i ∷ e5 i ∷ e6 i ∷ e7 i ∷ [])
+  same_word (S n w) lies is =
+      ap (from_le_bytes w64) (same_bytes (byte_at new base (S n w)) (byte_at old base (S n w)) w (λ k h. same_byte (S n w) k lies h (is k h)))
+
+  place_small : (l : Loc) → IsPlace room l → place_size l ≤ 8
+  place_small (G r) lies = omega arith
+  place_small (F r) lies = omega arith
+  place_small (S n w) lies = lies.2
 
   -- ---- pieces
 
@@ -146,8 +143,8 @@ module _ (base room : ℕ) (test : Loc → ℕ → Bool) (old new : Image) (agre
         one : Carries o p → byte_at new base p.loc (o - p.off) ≡ x
         one c =
             let index : o ≡ p.off + (o - p.off) = omega (arith, c.0) in
-            let short = parts.0.short in
-            same_byte p.loc (o - p.off) lie.0 (omega (arith, c.0, c.1, short)) (tested.0 (o - p.off) (omega (arith, c.0, c.1)) (subst (λ n. is_leaf_byte t n ≡ true) index leaf)) ∙ h.0 c
+            let fits = parts.0.fits in
+            same_byte p.loc (o - p.off) lie.0 (omega (arith, c.0, c.1, fits)) (tested.0 (o - p.off) (omega (arith, c.0, c.1)) (subst (λ n. is_leaf_byte t n ≡ true) index leaf)) ∙ h.0 c
 
     leaves_same : (pieces : List Piece) → AllByRecursion (IsPieceOf t) pieces → AllByRecursion (IsPlace room) (piece_locs pieces) → AllByRecursion LeavesTested pieces → (ls : List Leaf) (bs : List (List ℕ)) → ((o : ℕ) → list_any (leaf_has o) ls ≡ true → is_leaf_byte t o ≡ true) → LeavesStand old base pieces ls bs → LeavesStand new base pieces ls bs
     leaves_same pieces parts lie tested [] [] f h = tt
@@ -160,7 +157,7 @@ module _ (base room : ℕ) (test : Loc → ℕ → Bool) (old new : Image) (agre
 
     -- ---- copies
 
-    copy_read : (copy : ℕ) → copy + size_of t ≤ room → ((k : ℕ) → is_leaf_byte t k ≡ true → test (S (copy + k)) 0 ≡ true) → (ls : List Leaf) (bs : List (List ℕ)) → AllByRecursion (EndsIn (size_of t)) ls → ((o : ℕ) → list_any (leaf_has o) ls ≡ true → is_leaf_byte t o ≡ true) → LeavesRead (take (size_of t) (drop (base + copy) old.stack)) ls bs → LeavesRead (take (size_of t) (drop (base + copy) new.stack)) ls bs
+    copy_read : (copy : ℕ) → copy + size_of t ≤ room → ((k : ℕ) → is_leaf_byte t k ≡ true → test (S (copy + k) 1) 0 ≡ true) → (ls : List Leaf) (bs : List (List ℕ)) → AllByRecursion (EndsIn (size_of t)) ls → ((o : ℕ) → list_any (leaf_has o) ls ≡ true → is_leaf_byte t o ≡ true) → LeavesRead (take (size_of t) (drop (base + copy) old.stack)) ls bs → LeavesRead (take (size_of t) (drop (base + copy) new.stack)) ls bs
     copy_read copy fit g [] [] ends f h = tt
     copy_read copy fit g [] (b ∷ bs) ends f h = absurd h
     copy_read copy fit g (l ∷ ls) [] ends f h = absurd h
@@ -174,7 +171,7 @@ module _ (base room : ℕ) (test : Loc → ℕ → Bool) (old new : Image) (agre
             let there : base + (copy + (l.at + k)) ≡ base + copy + (l.at + k) = omega arith in
             index_part new.stack (base + copy) (size_of t) (l.at + k) inside ∙ ap (λ i. get_or new.stack i 0) (sym there) ∙ agree.stack (copy + (l.at + k)) (omega (arith, inside, fit)) (g (l.at + k) leaf) ∙ ap (λ i. get_or old.stack i 0) there ∙ sym (index_part old.stack (base + copy) (size_of t) (l.at + k) inside) ∙ h.0 k below
 
-    copy_same : (v : ValueTree) (copy : ℕ) → fits t v ≡ true → copy + size_of t ≤ room → ((k : ℕ) → is_leaf_byte t k ≡ true → test (S (copy + k)) 0 ≡ true) → value_in t (take (size_of t) (drop (base + copy) old.stack)) ≡ v → value_in t (take (size_of t) (drop (base + copy) new.stack)) ≡ v
+    copy_same : (v : ValueTree) (copy : ℕ) → fits t v ≡ true → copy + size_of t ≤ room → ((k : ℕ) → is_leaf_byte t k ≡ true → test (S (copy + k) 1) 0 ≡ true) → value_in t (take (size_of t) (drop (base + copy) old.stack)) ≡ v → value_in t (take (size_of t) (drop (base + copy) new.stack)) ≡ v
     copy_same v copy fit room_is g is =
         let before = subst (λ w. LeavesRead (take (size_of t) (drop (base + copy) old.stack)) (leaves_of t) (leaf_bytes w)) is (leaves_read t (take (size_of t) (drop (base + copy) old.stack))) in
         reads t v (take (size_of t) (drop (base + copy) new.stack)) fit (length_part new.stack (base + copy) (size_of t) (omega (arith, room_is, agree.reaches))) (copy_read copy room_is g (leaves_of t) (leaf_bytes v) (leaves_end t) (λ o has. has) before)
@@ -187,8 +184,8 @@ module _ (base room : ℕ) (test : Loc → ℕ → Bool) (old new : Image) (agre
   argument_same target t (ByRef at copy) v ready f own =
       let address : old.sp + base + copy ≡ new.sp + base + copy = ap (λ n. n + base + copy) (sym agree.sp) in (
         own.0,
-        same_word at ready.lies.0 (λ k h. at_map (λ m j. address_has m j at ≡ true) Tested (λ m j has. f m j (or_left (address_has m j at) (copy_has t m j copy) has)) at k (address_at at k h)) ∙ own.1 ∙ address,
-        copy_same t v copy own.0 ready.lies.1 (λ k leaf. f (S (copy + k)) 0 (or_right (address_has (S (copy + k)) 0 at) (copy_has t (S (copy + k)) 0 copy) (copy_at t copy k leaf))) own.2,
+        same_word at ready.lies.0 (λ k h. at_map (λ m j. address_has m j at ≡ true) Tested (λ m j has. f m j (or_left (address_has m j at) (copy_has t m j copy) has)) at k (address_at at k (omega (arith, h, place_small at ready.lies.0)))) ∙ own.1 ∙ address,
+        copy_same t v copy own.0 ready.lies.1 (λ k leaf. f (S (copy + k) 1) 0 (or_right (address_has (S (copy + k) 1) 0 at) (copy_has t (S (copy + k) 1) 0 copy) (copy_at t copy k leaf))) own.2,
       )
 
   pub arguments_same : (target : Target) (ts : List Tree) (ps : List Place) (vs : List ValueTree) → AreReady target room ts ps → ((m : Loc) (j : ℕ) → places_have m j ts ps ≡ true → test m j ≡ true) → OwnsArguments old base ts ps vs → OwnsArguments new base ts ps vs
@@ -207,4 +204,4 @@ module _ (base room : ℕ) (test : Loc → ℕ → Bool) (old new : Image) (agre
   hidden_same (DirectRes pieces) lie f own = tt
   hidden_same (Hidden at buffer) lie f own =
       let address : old.sp + base + buffer ≡ new.sp + base + buffer = ap (λ n. n + base + buffer) (sym agree.sp) in
-      same_word at lie.0 (λ k h. at_map (λ m j. address_has m j at ≡ true) Tested (λ m j has. f m j has) at k (address_at at k h)) ∙ own ∙ address
+      same_word at lie.0 (λ k h. at_map (λ m j. address_has m j at ≡ true) Tested (λ m j has. f m j has) at k (address_at at k (omega (arith, h, place_small at lie.0)))) ∙ own ∙ address

@@ -210,15 +210,15 @@ alone_reserved std agrees false = reserved_not_saved std agrees
 register_returned : (b : Bool) (room : ℕ) (m : State) (l : Loc) → IsPlace 0 l → register (image_of room (returned_if b m)) l ≡ word_in STACK_TOP m l
 register_returned true room m (G r) lies = refl
 register_returned true room m (F r) lies = refl
-register_returned true room m (S k) lies = absurd (omega (arith, lies))
+register_returned true room m (S k w) lies = absurd (omega (arith, lies.0, lies.1))
 register_returned false room m (G r) lies = refl
 register_returned false room m (F r) lies = refl
-register_returned false room m (S k) lies = absurd (omega (arith, lies))
+register_returned false room m (S k w) lies = absurd (omega (arith, lies.0, lies.1))
 
 pub register_own : (room : ℕ) (m : State) (l : Loc) → IsPlace 0 l → register (image_of room m) l ≡ word_in STACK_TOP m l
 register_own room m (G r) lies = refl
 register_own room m (F r) lies = refl
-register_own room m (S k) lies = absurd (omega (arith, lies))
+register_own room m (S k w) lies = absurd (omega (arith, lies.0, lies.1))
 
 module _ (std : Standard) (agrees : AgreesWithMachine std) (entry : ℕ) (m n : State) (back : HasGoneBack std entry m n) where
   pub gone_reserved : ReservedStay std m n
@@ -247,7 +247,7 @@ module _ (std : Standard) (agrees : AgreesWithMachine std) (entry : ℕ) (m n : 
   image_register : (base frame : ℕ) (a b : State) (l : Loc) → IsPlace 0 l → SameAt 0 l a b → register (image_from base frame b) l ≡ register (image_from base frame a) l
   image_register base frame a b (G r) lies h = h
   image_register base frame a b (F r) lies h = h
-  image_register base frame a b (S k) lies h = absurd (omega (arith, lies))
+  image_register base frame a b (S k w) lies h = absurd (omega (arith, lies.0, lies.1))
 
   pub gone_keeps : (s : Signature) → IsSound std s → (by_exchange m.target ≡ true → AgreesWithStubs std) → (by_exchange m.target ≡ true → ResultGoesByStubs std s) → (base : ℕ) (v : ValueTree) → HoldsResult std s v (image_from base (frame_of std s) (passing m)) → HoldsResult std s v (image_from base (frame_of std s) n)
   gone_keeps s sound law result_law base v held =
@@ -264,7 +264,7 @@ held_registers std agrees from base len hidden entry m saved = λ i at below is.
     image_word : (at : Loc) → IsPlace 0 at → word_in base entry at ≡ register (image_of len entry) at
     image_word (G r) lies = refl
     image_word (F r) lies = refl
-    image_word (S k) lies = absurd (omega (arith, lies))
+    image_word (S k w) lies = absurd (omega (arith, lies.0, lies.1))
 
 pub same_reserved : (std : Standard) → AgreesWithMachine std → (len : ℕ) (entry m : State) → ReservedStay std entry m → SameIn std.reserved (image_of len entry) (image_of 0 m)
 same_reserved std agrees len entry m stay =

@@ -19,7 +19,7 @@ pub record AreRunsMoved (base to : ℕ) (runs : List Run) (old new : State) : Ty
   pub only : (room size : ℕ) → AllByRecursion (RunLies room size) runs → WroteOnly to (to + size) old new
 
 abbrev pub is_on_stack : Loc → Bool
-is_on_stack (S n) = true
+is_on_stack (S n w) = true
 is_on_stack (G r) = false
 is_on_stack (F r) = false
 

@@ -38,7 +38,7 @@ pub record AreRegistersDone (std : Standard) (s : Signature) (base byte count : 
 
 -- those of the first bytes of the frame are
 pub record IsFrameDone (std : Standard) (s : Signature) (base byte count : ℕ) (old new : State) : Type 0 where
-  pub free : (n : ℕ) → n < count → is_free std s (S n) 0 ≡ true → stack_byte new (base + n) ≡ byte
-  pub kept : (n : ℕ) → is_free std s (S n) 0 ≡ false → stack_byte new (base + n) ≡ stack_byte old (base + n)
+  pub free : (n : ℕ) → n < count → is_free std s (S n 1) 0 ≡ true → stack_byte new (base + n) ≡ byte
+  pub kept : (n : ℕ) → is_free std s (S n 1) 0 ≡ false → stack_byte new (base + n) ≡ stack_byte old (base + n)
   pub only : WroteOnly base (base + frame_of std s) old new
-  pub mark : MarkFalls (λ n. nat_lt n count && is_free std s (S n) 0) base old.mark new.mark
+  pub mark : MarkFalls (λ n. nat_lt n count && is_free std s (S n 1) 0) base old.mark new.mark

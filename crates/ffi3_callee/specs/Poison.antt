@@ -23,7 +23,7 @@ use Rattle.ffi3_pieces.specs.Stored.{IsPlace, WroteWithin, byte_of, stack_byte, 
 abbrev pub byte_number : Loc → ℕ → Loc → Option ℕ
 byte_number (G a) k (G b) = if a == b then Some k else None
 byte_number (F a) k (F b) = if a == b then Some k else None
-byte_number (S a) k (S b) = if nat_lt (a + k) b then None else Some (a + k - b)
+byte_number (S a v) k (S b w) = if nat_lt (a + k) b then None else Some (a + k - b)
 byte_number _ k _ = None
 
 -- there is a number, and it passes
@@ -52,7 +52,7 @@ address_has l k at = passes (λ j. nat_lt j 8) (byte_number l k at)
 
 -- it is a leaf's of a copy that begins so many bytes from the frame's start
 abbrev pub copy_has : Tree → Loc → ℕ → ℕ → Bool
-copy_has t l k copy = passes (is_leaf_byte t) (byte_number l k (S copy))
+copy_has t l k copy = passes (is_leaf_byte t) (byte_number l k (S copy 8))
 
 abbrev pub place_has : Tree → Loc → ℕ → Place → Bool
 place_has t l k (Direct pieces) = list_any (piece_has t l k) pieces
@@ -87,7 +87,7 @@ is_argument_register std l = list_any (is_register l) std.argument_registers
 abbrev pub belongs : Standard → Signature → Loc → ℕ → Bool
 belongs std s (G r) k = is_argument_register std (G r)
 belongs std s (F r) k = is_argument_register std (F r)
-belongs std s (S n) k = nat_lt (n + k) (frame_of std s)
+belongs std s (S n w) k = nat_lt (n + k) (frame_of std s)
 
 -- it is, and carries nothing
 abbrev pub is_free : Standard → Signature → Loc → ℕ → Bool
@@ -106,8 +106,8 @@ pub record IsPoisoned (std : Standard) (s : Signature) (base byte : ℕ) (old ne
   pub register_free : (l : Loc) (k : ℕ) → IsPlace 0 l → k < 8 → is_free std s l k ≡ true → byte_of base new l k ≡ byte
   pub register_kept : (l : Loc) (k : ℕ) → IsPlace 0 l → k < 8 → is_free std s l k ≡ false
       → byte_of base new l k ≡ byte_of base old l k
-  pub frame_free : (n : ℕ) → is_free std s (S n) 0 ≡ true → stack_byte new (base + n) ≡ byte
-  pub frame_kept : (n : ℕ) → is_free std s (S n) 0 ≡ false → stack_byte new (base + n) ≡ stack_byte old (base + n)
+  pub frame_free : (n : ℕ) → is_free std s (S n 1) 0 ≡ true → stack_byte new (base + n) ≡ byte
+  pub frame_kept : (n : ℕ) → is_free std s (S n 1) 0 ≡ false → stack_byte new (base + n) ≡ stack_byte old (base + n)
   -- a register without a free byte, whole; those that are no argument registers are among them, and so those that are closed to arguments
   pub whole : (l : Loc) → IsPlace 0 l → ((k : ℕ) → k < 8 → is_free std s l k ≡ false)
       → word_in base new l ≡ word_in base old l
@@ -116,4 +116,4 @@ pub record IsPoisoned (std : Standard) (s : Signature) (base byte : ℕ) (old ne
   pub sp : new.sp ≡ old.sp
   -- of the stack the frame alone, and nothing of pc, code, journal and target
   pub within : WroteWithin base (base + frame_of std s) old new
-  pub mark : MarkFalls (λ n. is_free std s (S n) 0) base old.mark new.mark
+  pub mark : MarkFalls (λ n. is_free std s (S n 1) 0) base old.mark new.mark

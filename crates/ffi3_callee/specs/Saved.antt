@@ -12,7 +12,7 @@ use Rattle.ffi3_pieces.specs.Stored.{IsPlace, IsWritable, word_in}
 
 -- word i of those that stand one behind the other from an address on
 abbrev pub saved_word : ℕ → ℕ → State → ℕ
-saved_word from i m = word_in from m (S (8 * i))
+saved_word from i m = word_in from m (S (8 * i) 8)
 
 abbrev pub HiddenLies : ℕ → Option Loc → Type 0
 HiddenLies room (Some at) = IsPlace room at
@@ -86,7 +86,7 @@ with_saved from base hidden i (w ∷ ws) s =
 abbrev pub with_register : Loc → ℕ → State → State
 with_register (G k) value s = with_general k value s
 with_register (F k) value s = with_floating k value s
-with_register (S n) value s = s
+with_register (S n w) value s = s
 
 -- a register gets what its word holds
 abbrev pub with_word : SaveWord → ℕ → State → State

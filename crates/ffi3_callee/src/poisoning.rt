@@ -27,17 +27,17 @@ fn byte_number(at: Loc, k: u64, other: Loc) -> Option<u64>
         Loc::G(a) => match other {
             Loc::G(b) => if a == b { Some(k) } else { None },
             Loc::F(_) => None,
-            Loc::S(_) => None,
+            Loc::S(_, _) => None,
         },
         Loc::F(a) => match other {
             Loc::G(_) => None,
             Loc::F(b) => if a == b { Some(k) } else { None },
-            Loc::S(_) => None,
+            Loc::S(_, _) => None,
         },
-        Loc::S(a) => match other {
+        Loc::S(a, _) => match other {
             Loc::G(_) => None,
             Loc::F(_) => None,
-            Loc::S(b) => (a as u64 + k).checked_sub(b as u64),
+            Loc::S(b, _) => (a as u64 + k).checked_sub(b as u64),
         },
     }
 }
@@ -84,7 +84,7 @@ fn copy_has(at: Loc, k: u64, copy: u32, ty: &CheckedType<'_>) -> bool
     requires { k < 8 }
     ensures { result ≡ copy_has ty.now at k copy }
 {
-    match byte_number(at, k, Loc::S(copy)) {
+    match byte_number(at, k, Loc::S(copy, 8)) {
         Some(j) => is_leaf_byte(ty, j),
         None => false,
     }
@@ -172,7 +172,7 @@ pub fn set_register(machine: &mut Machine, at: Loc, word: u64)
     match at {
         Loc::G(r) => machine.set_g(r, word),
         Loc::F(r) => machine.set_f(r, word),
-        Loc::S(_) => {}
+        Loc::S(_, _) => {}
     }
 }
 
@@ -207,7 +207,7 @@ fn poison_frame<A: Abi>(machine: &mut Machine, cif: &Cif<A>, base: StackBase, by
     let _m = machine.sp();
     let start = base.address();
     for n in 0..cif.frame() {
-        if !carries(cif, Loc::S(n as u32), 0) {
+        if !carries(cif, Loc::S(n as u32, 1), 0) {
             machine.fill_stack(start + n, 1, byte);
         }
     }

@@ -95,7 +95,7 @@ fn restore_word(machine: &mut Machine, from: StackBase, i: u32, word: SaveWord)
     let _m = machine.sp();
     let _at = from.address();
     if let SaveWord::Register(at) = word {
-        let saved = own_word(machine, from, Loc::S(8 * i));
+        let saved = own_word(machine, from, Loc::S(8 * i, 8));
         set_register(machine, at, saved);
     }
 }

@@ -41,7 +41,7 @@ fn is_on_stack(at: Loc) -> bool
     ensures { result ≡ is_on_stack at }
 {
     match at {
-        Loc::S(_) => true,
+        Loc::S(_, _) => true,
         Loc::G(_) => false,
         Loc::F(_) => false,
     }

@@ -81,7 +81,7 @@ stub_passed true e addr m n same came (G r) lies some =
     loaded_as_passed true refl (call_loads (isa_of m.target)) m (told addr m) n same came (G r) lies some
 stub_passed true e addr m n same came (F r) lies some =
     loaded_as_passed true refl (call_loads (isa_of m.target)) m (told addr m) n same came (F r) lies some
-stub_passed true e addr m n same came (S k) lies some = absurd (omega (arith, lies))
+stub_passed true e addr m n same came (S k w) lies some = absurd (omega (arith, lies.0, lies.1))
 
 left_by_stub : (b : Bool) → b ≡ true → (isa : Isa) (l : Loc) → IsLeft b isa l → IsNoneOf (call_scratch isa ++ call_loads isa) l
 left_by_stub true e isa l h = h
@@ -123,7 +123,7 @@ linked_same Riscv general r none = get_or-set_other general 1 r RETURN 0 none.0
 left_alone : (addr : ℕ) (m n : State) → n ≡ called addr m → (l : Loc) → IsPlace 0 l → IsNoneOf (to_list (link_place (isa_of m.target))) l → SameAt 0 l m n
 left_alone addr m n n_is (G r) lies none = ap (λ q. get_or q.general r 0) n_is ∙ linked_same (isa_of m.target) m.general r none
 left_alone addr m n n_is (F r) lies none = ap (λ q. get_or q.floating r 0) n_is
-left_alone addr m n n_is (S k) lies none = absurd (omega (arith, lies))
+left_alone addr m n n_is (S k w) lies none = absurd (omega (arith, lies.0, lies.1))
 
 own_passed : (b : Bool) → b ≡ false → (addr : ℕ) (m n : State) → n ≡ called addr m → (l : Loc) → IsPlace 0 l → IsCarried b (isa_of m.target) l → SameAt 0 l (passing_if b m) n
 own_passed true e addr m n n_is l lies some = absurd cc

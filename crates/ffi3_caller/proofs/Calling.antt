@@ -60,7 +60,7 @@ register_apart : (l : Loc) (at n : ℕ) → IsPlace 0 l → AllByRecursion (Apar
 register_apart l at zero h = tt
 register_apart (G r) at (suc n) h = (tt, register_apart (G r) (at + 8) n h)
 register_apart (F r) at (suc n) h = (tt, register_apart (F r) (at + 8) n h)
-register_apart (S k) at (suc n) h = absurd (omega (arith, h))
+register_apart (S k w) at (suc n) h = absurd (omega (arith, h.0, h.1))
 
 register_apart_copies : (l : Loc) (ts : List Tree) (ps : List Place) → IsPlace 0 l → AllByRecursion (Apart l) (copy_locs ts ps)
 register_apart_copies l [] ps h = tt
@@ -99,7 +99,7 @@ module _ (std : Standard) (s : Signature) (sound : IsSound std s) where
       more n m h [] all = tt
       more n m h (G r ∷ ls) all = (all.0, more n m h ls all.1)
       more n m h (F r ∷ ls) all = (all.0, more n m h ls all.1)
-      more n m h (S k ∷ ls) all = (omega (arith, h, all.0), more n m h ls all.1)
+      more n m h (S k w ∷ ls) all = ((omega (arith, h, all.0.0), all.0.1, all.0.2), more n m h ls all.1)
 
   -- the register that tells the number carries no argument
   count_free : AllByRecursion (IsNoneOf (to_list std.vector_count)) (argument_locs (plan_of std s))
@@ -137,7 +137,7 @@ pub count_told : (m : State) (len : ℕ) (at : Option Loc) (n : ℕ) → STACK �
 count_told m len None n low registers stands = tt
 count_told m len (Some (G r)) n low registers stands = stands
 count_told m len (Some (F r)) n low registers stands = stands
-count_told m len (Some (S k)) n low registers stands = absurd (omega (arith, registers.0))
+count_told m len (Some (S k w)) n low registers stands = absurd (omega (arith, registers.0.0, registers.0.1))
 
 -- ---- the three stores together
 
@@ -158,7 +158,7 @@ called_all std s sound right vs target base a b c low write registers stand hidd
 register_same : (base other : ℕ) (l : Loc) (a b : State) → IsPlace 0 l → SameAt base l a b → SameAt other l a b
 register_same base other (G r) a b h same = same
 register_same base other (F r) a b h same = same
-register_same base other (S n) a b h same = absurd (omega (arith, h))
+register_same base other (S n w) a b h same = absurd (omega (arith, h.0, h.1))
 
 -- the other registers, after all stores
 pub others_same : (std : Standard) (s : Signature) → IsSound std s → (base : ℕ) (l : Loc) (z o a b c : State) → IsPlace 0 l → IsNoneOf (argument_locs (plan_of std s) ++ to_list std.vector_count) l → SameAt 0 l z o → Stays base (all_uses s.arguments (plan_of std s).places) o a → Stays base (hidden_locs (plan_of std s).res) a b → Stays base (to_list std.vector_count) b c → SameAt 0 l z c
@@ -168,26 +168,26 @@ others_same std s sound base l z o a b c h none zero_same first second third =
     let in_uses = none_of_uses l s.arguments (plan_of std s).places sound.has_all h both.1 in
     same_then 0 l z o c zero_same (register_same base 0 l o c h (same_then base l o b c (same_then base l o a b (first.others l in_uses) (second.others l both.0)) (third.others l parts.1)))
 
--- eight bytes of the frame that carry nothing, after all stores
-free_same : (std : Standard) (s : Signature) → IsSound std s → (base at : ℕ) (o a b c : State) → AllByRecursion (IsPlace 0) (to_list std.vector_count) → IsNoneOf (argument_locs (plan_of std s) ++ copy_locs s.arguments (plan_of std s).places) (S at) → Stays base (all_uses s.arguments (plan_of std s).places) o a → Stays base (hidden_locs (plan_of std s).res) a b → Stays base (to_list std.vector_count) b c → SameAt base (S at) o c
-free_same std s sound base at o a b c registers none first second third =
-    let parts = none_append (argument_locs (plan_of std s)) (copy_locs s.arguments (plan_of std s).places) (S at) none in
-    let both = none_append (hidden_locs (plan_of std s).res) (flat_map place_locs (plan_of std s).places) (S at) parts.0 in
-    let in_uses = uses_each (Apart (S at)) s.arguments (plan_of std s).places sound.has_all both.1 parts.1 in
-    same_then base (S at) o b c (same_then base (S at) o a b (first.others (S at) in_uses) (second.others (S at) both.0)) (third.others (S at) (none_of_registers (to_list std.vector_count) registers))
+-- bytes of the frame that carry nothing, after all stores
+free_same : (std : Standard) (s : Signature) → IsSound std s → (base at w : ℕ) (o a b c : State) → AllByRecursion (IsPlace 0) (to_list std.vector_count) → IsNoneOf (argument_locs (plan_of std s) ++ copy_locs s.arguments (plan_of std s).places) (S at w) → Stays base (all_uses s.arguments (plan_of std s).places) o a → Stays base (hidden_locs (plan_of std s).res) a b → Stays base (to_list std.vector_count) b c → SameAt base (S at w) o c
+free_same std s sound base at w o a b c registers none first second third =
+    let parts = none_append (argument_locs (plan_of std s)) (copy_locs s.arguments (plan_of std s).places) (S at w) none in
+    let both = none_append (hidden_locs (plan_of std s).res) (flat_map place_locs (plan_of std s).places) (S at w) parts.0 in
+    let in_uses = uses_each (Apart (S at w)) s.arguments (plan_of std s).places sound.has_all both.1 parts.1 in
+    same_then base (S at w) o b c (same_then base (S at w) o a b (first.others (S at w) in_uses) (second.others (S at w) both.0)) (third.others (S at w) (none_of_registers (to_list std.vector_count) registers))
   where
-    none_of_registers : (ls : List Loc) → AllByRecursion (IsPlace 0) ls → IsNoneOf ls (S at)
+    none_of_registers : (ls : List Loc) → AllByRecursion (IsPlace 0) ls → IsNoneOf ls (S at w)
     none_of_registers [] h = tt
     none_of_registers (G r ∷ ls) h = (tt, none_of_registers ls h.1)
     none_of_registers (F r ∷ ls) h = (tt, none_of_registers ls h.1)
-    none_of_registers (S k ∷ ls) h = absurd (omega (arith, h.0))
+    none_of_registers (S k v ∷ ls) h = absurd (omega (arith, h.0.0, h.0.1))
 
 -- ---- the frame that is opened
 
 pub frame_registers : (sp frame byte : ℕ) (x : State) (l : Loc) → IsPlace 0 l → SameAt 0 l x (filled sp frame byte (with_sp sp x))
 frame_registers sp frame byte x (G r) h = refl
 frame_registers sp frame byte x (F r) h = refl
-frame_registers sp frame byte x (S k) h = absurd (omega (arith, h))
+frame_registers sp frame byte x (S k w) h = absurd (omega (arith, h.0, h.1))
 
 lowered_within : (sp low high : ℕ) (x : State) → WroteWithin low high x (with_sp sp x)
 lowered_within sp low high x = record {
@@ -222,7 +222,7 @@ pub record IsCallStored (std : Standard) (s : Signature) (vs : List ValueTree) (
   pub vectors : RegisterHolds (image_of (frame_of std s) d) std.vector_count (plan_of std s).vectors
   pub others : (l : Loc) → IsPlace 0 l → IsNoneOf (argument_locs (plan_of std s) ++ to_list std.vector_count) l → SameAt 0 l z d
   pub unused : AllKeepUnused o.sp o d s.arguments (plan_of std s).places
-  pub free : (at : ℕ) → IsNoneOf (argument_locs (plan_of std s) ++ copy_locs s.arguments (plan_of std s).places) (S at) → SameAt o.sp (S at) o d
+  pub free : (at w : ℕ) → IsNoneOf (argument_locs (plan_of std s) ++ copy_locs s.arguments (plan_of std s).places) (S at w) → SameAt o.sp (S at w) o d
   pub within : WroteWithin o.sp (o.sp + frame_of std s) o d
 
 pub call_stored : (std : Standard) (s : Signature) → IsSound std s → SignatureHasNoFault s → (vs : List ValueTree) (target : Target) (base : ℕ) (r : Res) (k : Option Loc) (n : ℕ) (z o a b d : State) → base ≡ o.sp → STACK ≤ base → r ≡ (plan_of std s).res → k ≡ std.vector_count → n ≡ (plan_of std s).vectors → AllByRecursion (IsWritable target) (argument_locs (plan_of std s)) → AllByRecursion (IsPlace 0) (to_list k) → all_fit (trees_of s.arguments) (values_of vs) ≡ true →
@@ -256,14 +256,14 @@ call_stored std s sound right vs target base r k n z o a b d is low res_is count
           (all_keep_stay base (to_list std.vector_count) o b d s.arguments (plan_of std s).places (count_clear std s sound in_registers) third
           (all_keep_stay base (hidden_locs (plan_of std s).res) o a b s.arguments (plan_of std s).places (hidden_clear std s sound) second
           (subst (λ x. AllKeepUnused x o a s.arguments (plan_of std s).places) (sym is) places_keep)));
-      free = λ at none. subst (λ x. SameAt x (S at) o d) is (free_same std s sound base at o a b d in_registers none first second third);
+      free = λ at w none. subst (λ x. SameAt x (S at w) o d) is (free_same std s sound base at w o a b d in_registers none first second third);
       within = wrote_then o.sp (o.sp + frame_of std s) o a d places_within later;
     }
 
 pub register_lies : (room : ℕ) (l : Loc) → IsPlace 0 l → IsPlace room l
 register_lies room (G r) h = h
 register_lies room (F r) h = h
-register_lies room (S k) h = absurd (omega (arith, h))
+register_lies room (S k w) h = absurd (omega (arith, h.0, h.1))
 
 pub call_within : (frame : ℕ) (x o d : State) → o.sp + frame ≡ x.sp → WroteWithin o.sp (o.sp + frame) x o → d.sp ≡ o.sp → WroteWithin o.sp (o.sp + frame) o d → WroteWithin d.sp x.sp x d
 call_within frame x o d top first same second =

@@ -26,7 +26,7 @@ frame_below false frame m e h = absurd cc
 register_moved : (sp : ℕ) (m : State) (l : Loc) → register_of (with_sp sp m) l ≡ register_of m l
 register_moved sp m (G r) = refl
 register_moved sp m (F r) = refl
-register_moved sp m (S n) = refl
+register_moved sp m (S n w) = refl
 
 pub loaded_moved : (sp : ℕ) (m : State) (ps : List Piece) (out : List ℕ) → loaded (with_sp sp m) ps out ≡ loaded m ps out
 loaded_moved sp m [] out = refl

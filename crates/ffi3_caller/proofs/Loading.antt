@@ -57,7 +57,7 @@ module _ (m : State) (frame size : ℕ) where
   same_byte : (at : Loc) (k : ℕ) → IsPlace 0 at → byte_at at_return 0 at k ≡ get_or (to_le_bytes w64 (register_of m at)) k 0
   same_byte (G r) k h = refl
   same_byte (F r) k h = refl
-  same_byte (S n) k h = absurd (omega (arith, h))
+  same_byte (S n w) k h = absurd (omega (arith, h.0, h.1))
 
   module _ (p : Piece) (out : List ℕ) (sized : length out ≡ size) (within : IsWithin size p) (register : IsPlace 0 p.loc) where
     abbrev low : List ℕ

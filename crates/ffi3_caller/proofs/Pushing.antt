@@ -63,12 +63,12 @@ result_law_of std s target law same e = law (ap has_stubs same ∙ stubs_there t
 on_stack_or_in : (ls ms : List Loc) → AllByRecursion (IsOneOf ms) ls → (l : Loc) → IsOnStackOrIn ls l → IsOnStackOrIn ms l
 on_stack_or_in ls ms all (G r) some = one_of_each (IsOneOf ms) (G r) ls all some
 on_stack_or_in ls ms all (F r) some = one_of_each (IsOneOf ms) (F r) ls all some
-on_stack_or_in ls ms all (S n) some = tt
+on_stack_or_in ls ms all (S n w) some = tt
 
 one_is_in : (ms : List Loc) (l : Loc) → IsOneOf ms l → IsOnStackOrIn ms l
 one_is_in ms (G r) some = some
 one_is_in ms (F r) some = some
-one_is_in ms (S n) some = tt
+one_is_in ms (S n w) some = tt
 
 all_free : (ls : List Loc) → AllByRecursion (λ l. ⊤) ls
 all_free [] = tt
@@ -213,7 +213,7 @@ module _ (std : Standard) (s : Signature) (sound : IsSound std s) (agrees : Agre
         lies_wider : (room : ℕ) (l : Loc) → IsPlace 0 l → IsPlace room l
         lies_wider room (G r) lies = lies
         lies_wider room (F r) lies = lies
-        lies_wider room (S k) lies = absurd (omega (arith, lies))
+        lies_wider room (S k w) lies = absurd (omega (arith, lies.0, lies.1))
 
     -- where the frame holds the arguments before a call, registers and the stack behind the return address hold them after it
     pub holds_after_call : (vs : List ValueTree) → OwnsArguments (image_of (frame_of std s) (passing m)) 0 s.arguments (plan_of std s).places vs → FillArguments (image_of (frame_of std s) (passing m)) 0 s.arguments (plan_of std s).places vs → OwnsHidden (image_of (frame_of std s) (passing m)) 0 (plan_of std s).res → RegisterHolds (image_of (frame_of std s) (passing m)) std.vector_count (plan_of std s).vectors → Holds std s vs (image_of (std.link + frame_of std s) n)
@@ -244,7 +244,7 @@ module _ (std : Standard) (s : Signature) (sound : IsSound std s) (agrees : Agre
 register_same : (n k : ℕ) (a b : State) (l : Loc) → IsPlace 0 l → SameAt 0 l a b → register (image_of n b) l ≡ register (image_of k a) l
 register_same n k a b (G r) lies h = h
 register_same n k a b (F r) lies h = h
-register_same n k a b (S i) lies h = absurd (omega (arith, lies))
+register_same n k a b (S i w) lies h = absurd (omega (arith, lies.0, lies.1))
 
 passed_back : (std : Standard) (s : Signature) (b : Bool) → (b ≡ true → ResultGoesByStubs std s) → AllByRecursion (IsPassedBack b (isa_of std.target)) (result_locs (plan_of std s).res)
 passed_back std s true law = let laws = law refl in laws.loaded
@@ -260,4 +260,4 @@ result_back std s m n v sound same law back own =
     moved : (l : Loc) → IsPlace 0 l → SameAt 0 l m (passing n) → SameAt 0 l m (at_frame (frame_of std s) n)
     moved (G r) lies h = h
     moved (F r) lies h = h
-    moved (S i) lies h = absurd (omega (arith, lies))
+    moved (S i w) lies h = absurd (omega (arith, lies.0, lies.1))

@@ -40,7 +40,7 @@ has_all t r pieces is h = subst (ResultHasAll t) is h
 -- and lie in the value
 pub are_within : (t : Tree) (r : Res) (pieces : List Piece) → r ≡ DirectRes pieces → ResultHasAll t r → AreWithin (size_of t) pieces
 are_within t r pieces is h =
-    each_weaker (IsPieceOf t) (IsWithin (size_of t)) (λ p k. (k.short, k.within)) pieces (has_all t r pieces is h).each
+    each_weaker (IsPieceOf t) (IsWithin (size_of t)) (λ p k. (k.short, k.within, k.fits)) pieces (has_all t r pieces is h).each
 
 pub direct_value : (m : State) (frame : ℕ) (std : Standard) (s : Signature) (pieces : List Piece) (old : List ℕ) (v : ValueTree) → IsSound std s → (plan_of std s).res ≡ DirectRes pieces → length old ≡ size_of s.result_type → length (loaded m pieces old) ≡ length old → OwnResult std s v (image_of frame m) → value_in s.result_type (loaded m pieces old) ≡ v
 direct_value m frame std s pieces old v sound is sized still own =

@@ -16,7 +16,7 @@ AreWithin size pieces = AllByRecursion (IsWithin size) pieces
 abbrev pub register_of : State → Loc → ℕ
 register_of m (G k) = slice_index m.general k
 register_of m (F k) = slice_index m.floating k
-register_of m (S n) = 0
+register_of m (S n w) = 0
 
 -- the low bytes of the piece's register stand at its offset
 abbrev pub with_piece : State → Piece → List ℕ → List ℕ

@@ -111,7 +111,7 @@ fn load_piece(machine: &Machine, piece: &Piece, out: &mut [u8])
     let word = match piece.loc {
         Loc::G(k) => passed_general(machine, k),
         Loc::F(k) => passed_floating(machine, k),
-        Loc::S(_) => unreachable!(),
+        Loc::S(_, _) => unreachable!(),
     };
     let start = piece.off as usize;
     let end = start + piece.len as usize;

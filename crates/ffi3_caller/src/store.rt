@@ -74,8 +74,8 @@ pub fn store_args<A: Abi>(machine: &mut Machine, cif: &Cif<A>, values: &Values)
     ensures reserved { AllByRecursion (λ l. SameAt 0 l machine.old machine.new) A.standard.reserved }
     // what a call passes by the exchange region for such a register stays
     ensures passed { (l : Loc) → IsPlace 0 l → IsNoneOf (argument_locs (plan_of A.standard cif.now) ++ to_list A.standard.vector_count) l → SameAt 0 l (passing (scribbled (length machine.old.events) machine.old)) (passing machine.new) }
-    // eight bytes of the frame that carry nothing are A5
-    ensures free { (at k : ℕ) → at + 8 ≤ frame_of A.standard cif.now → IsNoneOf (argument_locs (plan_of A.standard cif.now) ++ copy_locs cif.now.arguments (plan_of A.standard cif.now).places) (S at) → k < 8 → stack_byte machine.new (machine.new.sp + at + k) ≡ 0xA5 }
+    // bytes of the frame that carry nothing are A5
+    ensures free { (at w k : ℕ) → at + w ≤ frame_of A.standard cif.now → IsNoneOf (argument_locs (plan_of A.standard cif.now) ++ copy_locs cif.now.arguments (plan_of A.standard cif.now).places) (S at w) → k < w → stack_byte machine.new (machine.new.sp + at + k) ≡ 0xA5 }
     // what no leaf of an argument has is as the scribble and the A5 bytes left it
     ensures unused { AllKeepUnused machine.new.sp (passing (with_frame (frame_of A.standard cif.now) machine.old)) (passing machine.new) cif.now.arguments (plan_of A.standard cif.now).places }
     // below the new and at or above the old stack pointer nothing is written, nor behind what a call passes but for the

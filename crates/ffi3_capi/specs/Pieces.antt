@@ -1,5 +1,5 @@
 -- Where everything stands in a call, piece by piece, as C is told it.
-use Rattle.std.specs.Prelude.{ℕ, ◌+◌, Bool, cond, ◌&&◌, ◌==◌, List, [], ◌∷◌, ◌++◌, map, Option, Some, None}
+use Rattle.std.specs.Prelude.{ℕ, ◌+◌, Bool, cond, nat_lt, ◌&&◌, ◌==◌, List, [], ◌∷◌, ◌++◌, map, Option, Some, None}
 use Rattle.ffi3_type_rules.specs.Signature.{Signature}
 use Rattle.ffi3_place_rules.specs.declared.Loc.{Loc}
 use Rattle.ffi3_place_rules.specs.declared.Loc.TheVariants.{G, F, S}
@@ -10,28 +10,37 @@ use Rattle.ffi3_place_rules.specs.declared.Place.{Place}
 use Rattle.ffi3_place_rules.specs.declared.Place.TheVariants.{Direct, ByRef}
 use Rattle.ffi3_place_rules.specs.declared.Res.{Res}
 use Rattle.ffi3_place_rules.specs.declared.Res.TheVariants.{Nothing, Direct as DirectRes, Hidden}
+use Rattle.ffi3_place_rules.specs.Locs.{place_size}
 use Rattle.ffi3_place_rules.specs.Standard.{Standard, plan_of}
 use Rattle.ffi3_capi.specs.declared.codes.TheConstants.{RESULT_PART, HIDDEN_PART, HOLDS_BYTES, HOLDS_ADDRESS}
 use Rattle.ffi3_capi.specs.declared.codes.TheConstants.{IN_GENERAL, IN_FLOATING, ON_STACK, REST_FREE, REST_EXTENDED}
-use Rattle.ffi3_capi.specs.declared.codes.TheConstants.{REST_EXTENDED_BY_32, REST_ONES, ADDRESS_BYTES}
+use Rattle.ffi3_capi.specs.declared.codes.TheConstants.{REST_EXTENDED_BY_32, REST_ONES, REST_NONE, ADDRESS_BYTES}
 use Rattle.ffi3_capi.specs.declared.pieces.PlacedPiece.{PlacedPiece}
 
 abbrev pub place_of : Loc → ℕ
 place_of (G r) = IN_GENERAL
 place_of (F r) = IN_FLOATING
-place_of (S n) = ON_STACK
+place_of (S n w) = ON_STACK
 
 -- a register's number, or the offset from the first stack argument
 abbrev pub number_of : Loc → ℕ
 number_of (G r) = r
 number_of (F r) = r
-number_of (S n) = n
+number_of (S n w) = n
 
-abbrev pub rest_of : Ext → ℕ
-rest_of Free = REST_FREE
-rest_of Widen = REST_EXTENDED
-rest_of Riscv = REST_EXTENDED_BY_32
-rest_of Boxed = REST_ONES
+-- what fills the rest of a place of eight bytes
+abbrev pub rest_by : Ext → ℕ
+rest_by Free = REST_FREE
+rest_by Widen = REST_EXTENDED
+rest_by Riscv = REST_EXTENDED_BY_32
+rest_by Boxed = REST_ONES
+
+-- a place of fewer bytes has no rest
+abbrev pub is_packed : Loc → Bool
+is_packed at = nat_lt (place_size at) 8
+
+abbrev pub rest_of : Loc → Ext → ℕ
+rest_of at e = cond (is_packed at) REST_NONE (rest_by e)
 
 -- bytes of an argument or of the result
 abbrev pub value_piece : ℕ → Piece → PlacedPiece
@@ -42,7 +51,7 @@ value_piece part p = record {
   number = number_of p.loc;
   offset = p.off;
   length = p.len;
-  rest = rest_of p.ext;
+  rest = rest_of p.loc p.ext;
 }
 
 -- the address of what stands so many bytes from the start of the caller's frame
@@ -62,11 +71,12 @@ address_piece part at frame = record {
 -- the second stands on the stack right behind the first, and has the bytes of the value that follow
 abbrev pub goes_on : PlacedPiece → PlacedPiece → Bool
 goes_on p n =
-    (p.place == ON_STACK) && (n.place == ON_STACK) && (p.rest == n.rest)
+    (p.place == ON_STACK) && (n.place == ON_STACK)
     && (p.number + p.length == n.number) && (p.offset + p.length == n.offset)
 
+-- the rest is that of the last
 abbrev pub longer : PlacedPiece → PlacedPiece → PlacedPiece
-longer p n = record p { length = p.length + n.length }
+longer p n = record p { length = p.length + n.length; rest = n.rest }
 
 -- a piece, and those behind it
 abbrev pub joined_to : PlacedPiece → List PlacedPiece → List PlacedPiece

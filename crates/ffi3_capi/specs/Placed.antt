@@ -1,7 +1,7 @@
 -- What `ffi3_place` and `ffi3_place_nodes` answer, and what they write. What they are given declares a signature, or has a fault.
 use Rattle.std.specs.Prelude.{◌≡◌, ℕ, List, [], ◌∷◌, ◌++◌, length, Some, None, IsSome, slice_get}
 use Rattle.ffi3_type_rules.specs.declared.Target.{Target}
-use Rattle.ffi3_type_rules.specs.declared.Target.TheVariants.{Amd64, Aapcs64, Riscv, Win64}
+use Rattle.ffi3_type_rules.specs.declared.Target.TheVariants.{Amd64, Aapcs64, Riscv, Win64, Apple}
 use Rattle.ffi3_type_rules.specs.Signature.{Signature}
 use Rattle.ffi3_place_rules.specs.Standard.{Standard, plan_of}
 use Rattle.ffi3_explain_rules.specs.Standards.{standard_of}
@@ -19,7 +19,7 @@ use Rattle.ffi3_capi.specs.Refused.{status_of, fault_in}
 
 -- by number, from 0
 abbrev pub targets : List Target
-targets = Amd64 ∷ Aapcs64 ∷ Riscv ∷ Win64 ∷ []
+targets = Amd64 ∷ Aapcs64 ∷ Riscv ∷ Win64 ∷ Apple ∷ []
 
 -- what is passed, and then what is given back
 abbrev pub pieces_of : Standard → Signature → List PlacedPiece

@@ -53,6 +53,8 @@ pub const REST_EXTENDED: u32 = 1;
 pub const REST_EXTENDED_BY_32: u32 = 2;
 /// `FFI3_REST_ONES`: all ones.
 pub const REST_ONES: u32 = 3;
+/// `FFI3_REST_NONE`: there is none, and what stands behind on the stack is another argument's.
+pub const REST_NONE: u32 = 4;
 
 /// The addresses of an argument's copy and of a result's buffer have so many bytes.
 pub const ADDRESS_BYTES: u32 = 8;

@@ -23,6 +23,7 @@ use crate::placing::target_numbered;
 use crate::status::Refusal;
 use ffi3_aapcs64::Aapcs64;
 use ffi3_amd64::Amd64;
+use ffi3_apple::Apple;
 use ffi3_cif::Cif;
 use ffi3_explain::{Outside, least_stack};
 use ffi3_place::{Abi, Place};
@@ -230,6 +231,7 @@ fn see_on(
         Target::Aapcs64 => see_by::<Aapcs64>(alloc, sig, registers, stack),
         Target::Riscv => see_by::<Riscv>(alloc, sig, registers, stack),
         Target::Win64 => see_by::<Win64>(alloc, sig, registers, stack),
+        Target::Apple => see_by::<Apple>(alloc, sig, registers, stack),
     }
 }
 

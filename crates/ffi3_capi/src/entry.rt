@@ -18,6 +18,7 @@ use crate::placing::target_numbered;
 use crate::status::Refusal;
 use ffi3_aapcs64::Aapcs64;
 use ffi3_amd64::Amd64;
+use ffi3_apple::Apple;
 use ffi3_cif::Cif;
 use ffi3_explain::{Outside, least_stack};
 use ffi3_place::Abi;
@@ -200,6 +201,7 @@ fn read_on(
         Target::Aapcs64 => read_by::<Aapcs64>(alloc, sig, registers, stack),
         Target::Riscv => read_by::<Riscv>(alloc, sig, registers, stack),
         Target::Win64 => read_by::<Win64>(alloc, sig, registers, stack),
+        Target::Apple => read_by::<Apple>(alloc, sig, registers, stack),
     }
 }
 

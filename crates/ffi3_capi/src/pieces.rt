@@ -3,11 +3,11 @@ ghost use Rattle.std.specs.Prelude.{◌≡◌, ◌+◌, ◌<◌, ◌≤◌, ◌^
 ghost use Rattle.std.specs.List.{AllByRecursion};
 ghost use Rattle.ffi3_type_rules.specs.declared.limits.TheConstants.{LARGEST_TYPE};
 ghost use Rattle.ffi3_capi.specs.Within.{EndsWithin, PlaceEndsWithin};
-ghost use Rattle.ffi3_capi.specs.Pieces.{place_of, number_of, rest_of, value_piece, address_piece, goes_on, joined_to, joined, argument_pieces, arguments_from, hidden_pieces, returned_address, returned_pieces};
+ghost use Rattle.ffi3_capi.specs.Pieces.{place_of, number_of, is_packed, rest_of, value_piece, address_piece, goes_on, joined_to, joined, argument_pieces, arguments_from, hidden_pieces, returned_address, returned_pieces};
 
 use crate::codes::{
     ADDRESS_BYTES, HIDDEN_PART, HOLDS_ADDRESS, HOLDS_BYTES, IN_FLOATING, IN_GENERAL, ON_STACK,
-    REST_EXTENDED, REST_EXTENDED_BY_32, REST_FREE, REST_ONES, RESULT_PART,
+    REST_EXTENDED, REST_EXTENDED_BY_32, REST_FREE, REST_NONE, REST_ONES, RESULT_PART,
 };
 use ffi3_place::{Ext, Loc, Piece, Pieces, Place, Places, Res};
 use ffi3_place_rules::Listed;
@@ -42,7 +42,7 @@ fn place_of(at: Loc) -> u32
     match at {
         Loc::G(_) => IN_GENERAL,
         Loc::F(_) => IN_FLOATING,
-        Loc::S(_) => ON_STACK,
+        Loc::S(_, _) => ON_STACK,
     }
 }
 
@@ -52,13 +52,27 @@ fn number_of(at: Loc) -> u32
     match at {
         Loc::G(r) => r as u32,
         Loc::F(r) => r as u32,
-        Loc::S(n) => n,
+        Loc::S(n, _) => n,
     }
 }
 
-fn rest_of(ext: Ext) -> u32
-    ensures { result ≡ rest_of ext }
+/// Whether a place has fewer than eight bytes.
+fn is_packed(at: Loc) -> bool
+    ensures { result ≡ is_packed at }
 {
+    match at {
+        Loc::G(_) => false,
+        Loc::F(_) => false,
+        Loc::S(_, len) => len < 8,
+    }
+}
+
+fn rest_of(at: Loc, ext: Ext) -> u32
+    ensures { result ≡ rest_of at ext }
+{
+    if is_packed(at) {
+        return REST_NONE;
+    }
     match ext {
         Ext::Free => REST_FREE,
         Ext::Widen => REST_EXTENDED,
@@ -78,7 +92,7 @@ fn value_piece(part: u32, piece: &Piece) -> PlacedPiece
         number: number_of(piece.loc),
         offset: piece.off,
         length: piece.len as u32,
-        rest: rest_of(piece.ext),
+        rest: rest_of(piece.loc, piece.ext),
     }
 }
 
@@ -103,7 +117,6 @@ fn goes_on(piece: PlacedPiece, next: PlacedPiece) -> bool
 {
     piece.place == ON_STACK
         && next.place == ON_STACK
-        && piece.rest == next.rest
         && piece.number as u64 + piece.length as u64 == next.number as u64
         && piece.offset as u64 + piece.length as u64 == next.offset as u64
 }
@@ -120,6 +133,7 @@ fn with_next(
     if goes_on(piece, next) {
         return Ok(PlacedPiece {
             length: piece.length + next.length,
+            rest: next.rest,
             ..piece
         });
     }

@@ -11,6 +11,7 @@ use crate::pieces::{PlacedPiece, PlacedPieces, put_arguments, put_hidden, put_re
 use crate::status::Refusal;
 use ffi3_aapcs64::Aapcs64;
 use ffi3_amd64::Amd64;
+use ffi3_apple::Apple;
 use ffi3_place::Abi;
 use ffi3_riscv::Riscv;
 use ffi3_types::{CheckedSig, NoMemory, Target};
@@ -44,7 +45,13 @@ pub struct Placement {
     pub pieces: PlacedPieces,
 }
 
-const TARGETS: [Target; 4] = [Target::Amd64, Target::Aapcs64, Target::Riscv, Target::Win64];
+const TARGETS: [Target; 5] = [
+    Target::Amd64,
+    Target::Aapcs64,
+    Target::Riscv,
+    Target::Win64,
+    Target::Apple,
+];
 
 /// The target of this number.
 pub fn target_numbered(n: u32) -> Option<Target>
@@ -102,6 +109,7 @@ fn placed_on(alloc: Global, target: Target, sig: &CheckedSig<'_>) -> Result<Plac
         Target::Aapcs64 => placed::<Aapcs64>(alloc, sig),
         Target::Riscv => placed::<Riscv>(alloc, sig),
         Target::Win64 => placed::<Win64>(alloc, sig),
+        Target::Apple => placed::<Apple>(alloc, sig),
     }
 }
 

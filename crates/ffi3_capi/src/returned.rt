@@ -21,6 +21,7 @@ use crate::placing::target_numbered;
 use crate::status::Refusal;
 use ffi3_aapcs64::Aapcs64;
 use ffi3_amd64::Amd64;
+use ffi3_apple::Apple;
 use ffi3_cif::Cif;
 use ffi3_place::{Abi, Loc, Pieces, Res};
 use ffi3_riscv::Riscv;
@@ -211,6 +212,7 @@ fn find_on(
         Target::Aapcs64 => find_by::<Aapcs64>(alloc, sig, registers, stack),
         Target::Riscv => find_by::<Riscv>(alloc, sig, registers, stack),
         Target::Win64 => find_by::<Win64>(alloc, sig, registers, stack),
+        Target::Apple => find_by::<Apple>(alloc, sig, registers, stack),
     }
 }
 

@@ -40,7 +40,7 @@ no_run isa [] h = refl
 no_run isa (p ∷ ps) h = by_place p.loc h.0 (no_run isa ps h.1)
   where
     by_place : (l : Loc) → LiesIn isa 0 l → stack_runs ps ≡ [] → run_then (run_at l p) (stack_runs ps) ≡ []
-    by_place (S n) low e = absurd (omega (arith, low))
+    by_place (S n w) low e = absurd (omega (arith, low.0, low.1))
     by_place (G r) low e = e
     by_place (F r) low e = e
 

@@ -37,13 +37,13 @@ abbrev run_of : ℕ → Piece → Run
 run_of start p = record { at = start; off = p.off; len = p.len }
 
 -- the run of a piece rises to the runs of those after it
-first_rises : (p : Piece) (start : ℕ) → p.loc ≡ S start → (qs : List Piece) → AllByRecursion (RisesTo p) qs → Neighbours Rises (stack_runs qs) → Neighbours Rises (run_of start p ∷ stack_runs qs)
-first_rises p start at [] h k = tt
-first_rises p start at (q ∷ qs) h k = by_place q.loc refl (first_rises p start at qs h.1) k
+first_rises : (p : Piece) (start size : ℕ) → p.loc ≡ S start size → (qs : List Piece) → AllByRecursion (RisesTo p) qs → Neighbours Rises (stack_runs qs) → Neighbours Rises (run_of start p ∷ stack_runs qs)
+first_rises p start size at [] h k = tt
+first_rises p start size at (q ∷ qs) h k = by_place q.loc refl (first_rises p start size at qs h.1) k
   where
     by_place : (l : Loc) → q.loc ≡ l → (Neighbours Rises (stack_runs qs) → Neighbours Rises (run_of start p ∷ stack_runs qs)) → Neighbours Rises (run_then (run_at l q) (stack_runs qs)) → Neighbours Rises (run_of start p ∷ run_then (run_at l q) (stack_runs qs))
-    by_place (S high) there rest k =
-        let rises = h.0 start high at there in
+    by_place (S high w) there rest k =
+        let rises = h.0 start size high w at there in
         (record { at = rises.0; off = rises.1 }, k)
     by_place (G r) there rest k = rest k
     by_place (F r) there rest k = rest k
@@ -53,7 +53,7 @@ runs_rise [] h = tt
 runs_rise (p ∷ ps) h = by_place p.loc refl (runs_rise ps h.1)
   where
     by_place : (l : Loc) → p.loc ≡ l → Neighbours Rises (stack_runs ps) → Neighbours Rises (run_then (run_at l p) (stack_runs ps))
-    by_place (S start) at k = first_rises p start at ps h.0 k
+    by_place (S start w) at k = first_rises p start w at ps h.0 k
     by_place (G r) at k = k
     by_place (F r) at k = k
 
@@ -131,7 +131,7 @@ run_ends size pieces i p n inside read e all = ends p.loc e
     here = each_at (EndsWithin size) pieces i p inside (sym read) all
 
     ends : (l : Loc) → run_at l p ≡ Some n → n.off + n.len ≤ size
-    ends (S k) f =
+    ends (S k w) f =
         let off : p.off ≡ n.off = cc in
         let len : p.len ≡ n.len = cc in
         omega (arith, here, off, len)

@@ -16,7 +16,7 @@ pieces_of (ByRef at copy) = []
 
 -- a piece on the stack is a run of its own
 abbrev pub run_at : Loc → Piece → Option Run
-run_at (S start) p = Some (record { at = start; off = p.off; len = p.len })
+run_at (S start w) p = Some (record { at = start; off = p.off; len = p.len })
 run_at (G r) p = None
 run_at (F r) p = None
 

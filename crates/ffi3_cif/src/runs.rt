@@ -145,7 +145,7 @@ fn run_at(piece: &Piece) -> Option<Run>
     ensures { result ≡ run_at piece.now.loc piece.now }
 {
     match piece.loc {
-        Loc::S(at) => Some(Run {
+        Loc::S(at, _) => Some(Run {
             at,
             off: piece.off,
             len: piece.len as u32,

@@ -3,7 +3,7 @@ use Rattle.std.proofs.Common.{◌≡◌, ℕ, suc, ◌+◌, ◌*◌, ◌%◌, �
 use Rattle.std.proofs.Math.Nat.{mod-add-mod, mod-eq_of_lt, mul-suc, add-mul, mul-zero}
 use Rattle.std.proofs.lemmas.Nat.{mod_below}
 use Rattle.ffi3_type_rules.specs.declared.Target.{Target}
-use Rattle.ffi3_type_rules.specs.declared.Target.TheVariants.{Amd64, Aapcs64, Riscv, Win64}
+use Rattle.ffi3_type_rules.specs.declared.Target.TheVariants.{Amd64, Aapcs64, Riscv, Win64, Apple}
 use Rattle.ffi3_type_rules.specs.Isa.{isa_of}
 use Rattle.ffi3_type_rules.specs.Value.{ValueTree}
 use Rattle.ffi3_run_rules.specs.Meaning.{End, returned, stopped}
@@ -81,6 +81,7 @@ one_entry Amd64 n = all_three n 18 3 25
 one_entry Aapcs64 n = all_three n 22 3 43
 one_entry Riscv n = all_three n 21 3 47
 one_entry Win64 n = refl
+one_entry Apple n = all_three n 22 3 43
 
 one_return : (target : Target) (n : ℕ) → n < 2 ^ 64 → ended_steps target n ≡ (n + return_steps target) % 2 ^ 64
 unfolding by_exchange
@@ -88,6 +89,7 @@ one_return Amd64 n small = both n 14 6
 one_return Aapcs64 n small = both n 31 9
 one_return Riscv n small = both n 34 7
 one_return Win64 n small = unmoved n small
+one_return Apple n small = both n 31 9
 
 one_item : (target : Target) (h : TraceItem) (n : ℕ) → n < 2 ^ 64 → counted target h n ≡ (n + steps_of_item target h) % 2 ^ 64
 one_item target (Enter ptr sig args) n small = one_entry target n

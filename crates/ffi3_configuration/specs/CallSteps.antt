@@ -1,7 +1,7 @@
 -- How many instructions a run's calls take, by what happens in it.
 use Rattle.std.specs.Prelude.{◌≡◌, ℕ, suc, ◌+◌, List, [], ◌∷◌, refl}
 use Rattle.ffi3_type_rules.specs.declared.Target.{Target}
-use Rattle.ffi3_type_rules.specs.declared.Target.TheVariants.{Amd64, Aapcs64, Riscv, Win64}
+use Rattle.ffi3_type_rules.specs.declared.Target.TheVariants.{Amd64, Aapcs64, Riscv, Win64, Apple}
 use Rattle.ffi3_run_rules.specs.Trace.{TraceItem, Enter, Line, Leave, StopLine}
 
 -- an entry: the stub Call, the trampoline, the stub Entry; where calls go by no stubs the trampoline alone
@@ -10,6 +10,7 @@ entry_steps Amd64 = 18 + 3 + 25
 entry_steps Aapcs64 = 22 + 3 + 43
 entry_steps Riscv = 21 + 3 + 47
 entry_steps Win64 = 3
+entry_steps Apple = 22 + 3 + 43
 
 -- a return: the stubs Exit and Return
 abbrev pub return_steps : Target → ℕ
@@ -17,6 +18,7 @@ return_steps Amd64 = 14 + 6
 return_steps Aapcs64 = 31 + 9
 return_steps Riscv = 34 + 7
 return_steps Win64 = 0
+return_steps Apple = 31 + 9
 
 -- a call that has returned
 abbrev pub call_steps : Target → ℕ

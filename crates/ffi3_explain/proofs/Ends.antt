@@ -24,14 +24,14 @@ pub stack_end-append : (ls ks : List Loc) → stack_end (ls ++ ks) ≡ max (stac
 stack_end-append [] ks = omega arith
 stack_end-append (G r ∷ ls) ks = stack_end-append ls ks
 stack_end-append (F r ∷ ls) ks = stack_end-append ls ks
-stack_end-append (S n ∷ ls) ks =
-    ap (max (n + 8)) (stack_end-append ls ks) ∙ max_assoc (n + 8) (stack_end ls) (stack_end ks)
+stack_end-append (S n w ∷ ls) ks =
+    ap (max (n + w)) (stack_end-append ls ks) ∙ max_assoc (n + w) (stack_end ls) (stack_end ks)
 
 -- one place more
 one_more : (l : Loc) (ls : List Loc) → stack_end (l ∷ ls) ≡ max (stack_end (l ∷ [])) (stack_end ls)
 one_more (G r) ls = omega arith
 one_more (F r) ls = omega arith
-one_more (S n) ls = omega arith
+one_more (S n w) ls = omega arith
 
 -- the pieces from number j on are still to be looked at
 abbrev pub IsPieceEnd : List Piece → ℕ → ℕ → Type 0

@@ -11,9 +11,9 @@ use Rattle.ffi3_place_rules.specs.declared.Piece.{Piece}
 use Rattle.ffi3_place_rules.specs.Image.{Image, byte_at}
 use Rattle.ffi3_place_rules.specs.Sound.{IsPieceOf, IsWithin}
 use Rattle.ffi3_explain_rules.specs.declared.Check.{Check}
-use Rattle.ffi3_explain_rules.specs.Explain.{carries, eight, first_byte, first_bytes, check_of_piece, checks_of_pieces, first_broken}
+use Rattle.ffi3_explain_rules.specs.Explain.{carries, place_byte, eight, first_byte, first_bytes, check_of_piece, checks_of_pieces, first_broken}
 use Rattle.ffi3_explain_rules.proofs.Pieces.{carries_is, is_carried, first_bytes-length, first_bytes-index}
-use Rattle.ffi3_explain_rules.proofs.Words.{index_eight}
+use Rattle.ffi3_explain_rules.proofs.Words.{index_eight, place_byte_is}
 use Rattle.ffi3_explain.specs.Places.{IsPieceRead}
 
 -- item i is the first of those from number i on
@@ -57,7 +57,7 @@ module _ (xs ys : List ℕ) (i j : ℕ) (counted : i + length ys ≡ j) (fits : 
   range_length =
       omega (arith, length-append (take i xs ++ ys) (drop j xs), both_length, length-drop j xs, fits)
 
-pub piece_read : (m : Image) (base : ℕ) (p : Piece) (bytes old : List ℕ) → bytes ≡ eight (byte_at m base p.loc) → IsWithin (length old) p → IsPieceRead m base p old (replace_range old p.off (p.off + p.len) (take p.len bytes))
+pub piece_read : (m : Image) (base : ℕ) (p : Piece) (bytes old : List ℕ) → bytes ≡ eight (place_byte m base p.loc) → IsWithin (length old) p → IsPieceRead m base p old (replace_range old p.off (p.off + p.len) (take p.len bytes))
 piece_read m base p bytes old is within =
     let eight : length bytes ≡ 8 = ap length is in
     let counted : p.off + length (take p.len bytes) ≡ p.off + p.len = ap (λ n. p.off + n) (length-take-le p.len bytes (omega (arith, eight, within.0))) in
@@ -65,7 +65,7 @@ piece_read m base p bytes old is within =
     record {
       sized = range_length old (take p.len bytes) p.off (p.off + p.len) counted room;
       here = λ o c. let k : o - p.off < p.len = omega (arith, c.0, c.1) in
-          in_range old (take p.len bytes) p.off (p.off + p.len) counted room o c.0 c.1 ∙ get_or-take p.len bytes (o - p.off) 0 k ∙ ap (λ xs. get_or xs (o - p.off) 0) is ∙ index_eight (byte_at m base p.loc) (o - p.off) (omega (arith, k, within.0));
+          in_range old (take p.len bytes) p.off (p.off + p.len) counted room o c.0 c.1 ∙ get_or-take p.len bytes (o - p.off) 0 k ∙ ap (λ xs. get_or xs (o - p.off) 0) is ∙ index_eight (place_byte m base p.loc) (o - p.off) (omega (arith, k, within.0)) ∙ place_byte_is m base p.loc (o - p.off) (omega (arith, k, within.2));
       others = λ o. elim (cases_lt o p.off) [
         | inl below ↦ inr (below_range old (take p.len bytes) p.off (p.off + p.len) counted room o below)
         | inr from ↦
@@ -76,10 +76,18 @@ piece_read m base p bytes old is within =
       ];
     }
 
+abbrev pub zeros : ℕ → List ℕ
+zeros n = replicate n 0
+
+pub zeros_all : (n o : ℕ) → get_or (zeros n) o 0 ≡ 0
+zeros_all zero o = refl
+zeros_all (suc n) zero = refl
+zeros_all (suc n) (suc o) = zeros_all n o
+
 -- a part of a value lies within it
 pub all_within : (t : Tree) (size : ℕ) (ps : List Piece) → size ≡ size_of t → AllByRecursion (IsPieceOf t) ps → AllByRecursion (IsWithin size) ps
 all_within t size [] sized of = tt
-all_within t size (p ∷ ps) sized of = ((of.0.short, omega (arith, of.0.within, sized)), all_within t size ps sized of.1)
+all_within t size (p ∷ ps) sized of = ((of.0.short, omega (arith, of.0.within, sized), of.0.fits), all_within t size ps sized of.1)
 
 -- ---- bytes of pieces, read from the last piece to the first
 
@@ -88,14 +96,6 @@ pub record ArePiecesRead (m : Image) (base : ℕ) (pieces : List Piece) (size j 
   pub sized : length out ≡ size
   pub few : j ≤ length pieces
   pub same : (o : ℕ) → get_or out o 0 ≡ first_byte m base (drop j pieces) o
-
-abbrev pub zeros : ℕ → List ℕ
-zeros n = replicate n 0
-
-zeros_all : (n o : ℕ) → get_or (zeros n) o 0 ≡ 0
-zeros_all zero o = refl
-zeros_all (suc n) zero = refl
-zeros_all (suc n) (suc o) = zeros_all n o
 
 zeros_length : (n : ℕ) → length (zeros n) ≡ n
 zeros_length zero = refl

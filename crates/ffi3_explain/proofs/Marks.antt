@@ -9,13 +9,13 @@ use Rattle.ffi3_type_rules.specs.Tree.{Tree}
 use Rattle.ffi3_type_rules.specs.Layout.{Leaf, leaves_of, size_of, scalar_size}
 use Rattle.ffi3_type_rules.specs.Value.{ValueTree, IsWritten}
 use Rattle.ffi3_place_rules.specs.declared.Piece.{Piece}
-use Rattle.ffi3_place_rules.specs.Image.{Image, byte_at, word_at}
+use Rattle.ffi3_place_rules.specs.Image.{Image, word_at}
 use Rattle.ffi3_place_rules.specs.Holds.{leaf_bytes}
 use Rattle.ffi3_place_rules.specs.Sound.{IsPieceOf, IsWithin}
 use Rattle.ffi3_place_rules.proofs.Tests.{and_left, and_right}
 use Rattle.ffi3_explain_rules.specs.declared.Part.TheVariants.{Arg}
 use Rattle.ffi3_explain_rules.specs.declared.Check.{Check}
-use Rattle.ffi3_explain_rules.specs.Explain.{check_of_piece, eight, extended, first_byte, first_bytes, value_in_pieces, in_leaf, wanted_byte, wanted_word}
+use Rattle.ffi3_explain_rules.specs.Explain.{check_of_piece, place_byte, eight, extended, first_byte, first_bytes, value_in_pieces, in_leaf, wanted_byte, wanted_word}
 use Rattle.ffi3_place_rules.proofs.Reading.{LeavesRead, leaves_read}
 use Rattle.ffi3_explain_rules.proofs.Pieces.{first_bytes-index, is_le, is_lt, or_cases}
 use Rattle.ffi3_explain_rules.proofs.Words.{index_eight, same_eight}
@@ -85,11 +85,11 @@ same_test a b x e f = grind (arith, nat_tests, e, f)
 other_test : (a b : ℕ) → a ≡ 0 → b ≡ 255 → (a == b) ≡ false
 other_test a b e f = grind (arith, nat_tests, e, f)
 
-module _ (m : Image) (base : ℕ) (t : Tree) (pieces : List Piece) (low high : List ℕ) (marks : AreMarks m base t pieces low high) (p : Piece) (of : IsPieceOf t p) (found : List ℕ) (is : found ≡ eight (byte_at m base p.loc)) where
-  as_found : (k : ℕ) → k < 8 → get_or found k 0 ≡ byte_at m base p.loc k
-  as_found k h = ap (λ xs. get_or xs k 0) is ∙ index_eight (byte_at m base p.loc) k h
+module _ (m : Image) (base : ℕ) (t : Tree) (pieces : List Piece) (low high : List ℕ) (marks : AreMarks m base t pieces low high) (p : Piece) (of : IsPieceOf t p) (found : List ℕ) (is : found ≡ eight (place_byte m base p.loc)) where
+  as_found : (k : ℕ) → k < 8 → get_or found k 0 ≡ place_byte m base p.loc k
+  as_found k h = ap (λ xs. get_or xs k 0) is ∙ index_eight (place_byte m base p.loc) k h
 
-  by_tests : (k : ℕ) → k < 8 → (a b : Bool) → nat_lt k p.len ≡ a → in_leaf (leaves_of t) (p.off + k) ≡ b → cond (a && (get_or low (p.off + k) 0 == get_or high (p.off + k) 0)) (get_or low (p.off + k) 0) (get_or found k 0) ≡ cond (a && b) (first_byte m base pieces (p.off + k)) (byte_at m base p.loc k)
+  by_tests : (k : ℕ) → k < 8 → (a b : Bool) → nat_lt k p.len ≡ a → in_leaf (leaves_of t) (p.off + k) ≡ b → cond (a && (get_or low (p.off + k) 0 == get_or high (p.off + k) 0)) (get_or low (p.off + k) 0) (get_or found k 0) ≡ cond (a && b) (first_byte m base pieces (p.off + k)) (place_byte m base p.loc k)
   by_tests k h false b e f = as_found k h
   by_tests k h true true e f =
       let inside : p.off + k < size_of t = omega (arith, is_lt k p.len e, of.within) in
@@ -108,7 +108,7 @@ module _ (m : Image) (base : ℕ) (t : Tree) (pieces : List Piece) (low high : L
 
 -- a part of a value lies within as many bytes as the value has
 pub part_within : (t : Tree) (n : ℕ) (p : Piece) → n ≡ size_of t → IsPieceOf t p → IsWithin n p
-part_within t n p sized of = (of.short, omega (arith, of.within, sized))
+part_within t n p sized of = (of.short, omega (arith, of.within, sized), of.fits)
 
 abbrev check_with : ℕ → Piece → ℕ → ℕ → Check
 check_with i p found wants = record { part = Arg i; place = p.loc; found = found; wants = wants }

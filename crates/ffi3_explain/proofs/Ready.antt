@@ -32,7 +32,7 @@ module _ (m : Image) (base : ℕ) where
   register_there Aarch64 stack (F r) h room = omega (arith, h)
   register_there Riscv stack (G r) h room = omega (arith, h)
   register_there Riscv stack (F r) h room = omega (arith, h)
-  register_there isa stack (S n) h room = omega (arith, h, room)
+  register_there isa stack (S n w) h room = (omega (arith, h.0, room), h.2)
 
   -- places that lie in so much of the stack
   pub places_there : (isa : Isa) (stack : ℕ) (ls : List Loc) → base + stack ≤ length m.stack → AllByRecursion (LiesIn isa stack) ls → AllByRecursion (HasPlace m base) ls
@@ -43,12 +43,12 @@ module _ (m : Image) (base : ℕ) where
   lies_lower : (isa : Isa) (stack : ℕ) (l : Loc) (ls : List Loc) → LiesIn isa stack l → LiesIn isa (stack_end (l ∷ ls)) l
   lies_lower isa stack (G r) ls lie = lie
   lies_lower isa stack (F r) ls lie = lie
-  lies_lower isa stack (S n) ls lie = omega arith
+  lies_lower isa stack (S n w) ls lie = (omega arith, lie.1, lie.2)
 
   less_later : (l : Loc) (ls : List Loc) → stack_end ls ≤ stack_end (l ∷ ls)
   less_later (G r) ls = omega arith
   less_later (F r) ls = omega arith
-  less_later (S n) ls = omega arith
+  less_later (S n w) ls = omega arith
 
   -- places of which the highest is there
   pub places_reached : (isa : Isa) (stack : ℕ) (ls : List Loc) → base + stack_end ls ≤ length m.stack → AllByRecursion (LiesIn isa stack) ls → AllByRecursion (HasPlace m base) ls

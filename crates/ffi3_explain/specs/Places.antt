@@ -17,11 +17,11 @@ use Rattle.ffi3_place_rules.specs.Sound.{PlaceHasAll}
 use Rattle.ffi3_explain_rules.specs.declared.Check.{Check}
 use Rattle.ffi3_explain_rules.specs.Explain.{first_byte, in_leaf}
 
--- one of 32 registers, or eight bytes of the stack that is there
+-- one of 32 registers, or up to eight bytes of the stack that is there
 abbrev pub HasPlace : Image → ℕ → Loc → Type 0
 HasPlace m base (G r) = r < 32
 HasPlace m base (F r) = r < 32
-HasPlace m base (S n) = base + n + 8 ≤ length m.stack
+HasPlace m base (S n w) = (base + n + w ≤ length m.stack) × (w ≤ 8)
 
 -- at most eight bytes in a place that is there
 abbrev pub CanBeRead : Image → ℕ → Piece → Type 0

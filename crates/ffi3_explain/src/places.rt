@@ -1,27 +1,28 @@
 // Bytes and words of places.
 ghost use Rattle.std.specs.Prelude.{◌≡◌};
-ghost use Rattle.ffi3_place_rules.specs.Image.{byte_at, word_at};
-ghost use Rattle.ffi3_explain_rules.specs.Explain.{eight};
+ghost use Rattle.ffi3_place_rules.specs.Image.{word_at};
+ghost use Rattle.ffi3_explain_rules.specs.Explain.{eight, place_byte};
 ghost use Rattle.ffi3_explain.specs.ImageOf.{image_of};
 ghost use Rattle.ffi3_explain.specs.Places.{HasPlace};
 
 use crate::Image;
 use ffi3_place::Loc;
 
-/// The eight bytes of a place. Stack places count from `base` bytes above the stack pointer.
+/// The bytes of a place, and zeros behind them. Stack places count from `base` bytes above the stack pointer.
 pub fn place_bytes(image: &Image, base: u64, at: Loc) -> [u8; 8]
     requires { HasPlace (image_of image.now) base at }
-    ensures { result ≡ eight (byte_at (image_of image.now) base at) }
+    ensures { result ≡ eight (place_byte (image_of image.now) base at) }
 {
     // its length tells that the sum below is small
     let _len = image.stack.len();
     match at {
         Loc::G(r) => image.general[r as usize].to_le_bytes(),
         Loc::F(r) => image.floating[r as usize].to_le_bytes(),
-        Loc::S(n) => {
+        Loc::S(n, len) => {
             let start = base as usize + n as usize;
+            let len = len as usize;
             let mut bytes = [0; 8];
-            bytes.copy_from_slice(&image.stack.as_slice()[start..start + 8]);
+            bytes[..len].copy_from_slice(&image.stack.as_slice()[start..start + len]);
             bytes
         }
     }
@@ -35,6 +36,6 @@ pub fn place_word(image: &Image, base: u64, at: Loc) -> u64
     match at {
         Loc::G(r) => image.general[r as usize],
         Loc::F(r) => image.floating[r as usize],
-        Loc::S(_) => u64::from_le_bytes(place_bytes(image, base, at)),
+        Loc::S(_, _) => u64::from_le_bytes(place_bytes(image, base, at)),
     }
 }

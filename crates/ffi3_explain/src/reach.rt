@@ -20,7 +20,7 @@ fn loc_end(at: Loc) -> u64
     ensures small { result < 2 ^ 33 }
 {
     match at {
-        Loc::S(n) => n as u64 + 8,
+        Loc::S(n, len) => n as u64 + len as u64,
         Loc::G(_) | Loc::F(_) => 0,
     }
 }

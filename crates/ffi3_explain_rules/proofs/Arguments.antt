@@ -150,12 +150,12 @@ module _ (n m : Image) (base : ℕ) (sp : n.sp ≡ m.sp) (stack : n.stack ≡ m.
   same_byte : (at : Loc) (k : ℕ) → register n at ≡ register m at → byte_at n base at k ≡ byte_at m base at k
   same_byte (G r) k e = ap (λ w. get_or (to_le_bytes w64 w) k 0) e
   same_byte (F r) k e = ap (λ w. get_or (to_le_bytes w64 w) k 0) e
-  same_byte (S i) k e = ap (λ bytes. get_or bytes (base + i + k) 0) stack
+  same_byte (S i w) k e = ap (λ bytes. get_or bytes (base + i + k) 0) stack
 
   same_word : (at : Loc) → register n at ≡ register m at → word_at n base at ≡ word_at m base at
   same_word (G r) e = e
   same_word (F r) e = e
-  same_word (S i) e = ap (λ bytes. word_at (record { general = []; floating = []; sp = 0; stack = bytes }) base (S i)) stack
+  same_word (S i w) e = ap (λ bytes. word_at (record { general = []; floating = []; sp = 0; stack = bytes }) base (S i w)) stack
 
   same_first_byte : (ps : List Piece) (o : ℕ) → SameIn (piece_locs ps) n m → first_byte n base ps o ≡ first_byte m base ps o
   same_first_byte [] o h = refl
@@ -222,9 +222,9 @@ end_within : (isa : Isa) (stack : ℕ) (ls : List Loc) → AllByRecursion (LiesI
 end_within isa stack [] lie = omega arith
 end_within isa stack (G r ∷ ls) lie = end_within isa stack ls lie.1
 end_within isa stack (F r ∷ ls) lie = end_within isa stack ls lie.1
-end_within isa stack (S n ∷ ls) lie =
+end_within isa stack (S n w ∷ ls) lie =
     let later = end_within isa stack ls lie.1 in
-    omega (arith, lie.0, later)
+    omega (arith, lie.0.0, later)
 
 -- ---- the laws
 

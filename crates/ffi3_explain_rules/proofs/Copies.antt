@@ -38,7 +38,7 @@ bytes_of_right t right = has_bytes 0 AsArgument t refl right
 
 module _ (isa : Isa) (frame : ℕ) where
   words_fit : (at count : ℕ) → AllByRecursion (LiesIn isa frame) (stack_words at (suc count)) → at + 8 * suc count ≤ frame
-  words_fit at zero h = omega (arith, h.0)
+  words_fit at zero h = omega (arith, h.0.0)
   words_fit at (suc count) h = omega (arith, words_fit (at + 8) count h.1)
 
   doublewords_fit : (copy count size : ℕ) → 1 ≤ size → count ≡ (size + 7) / 8 → AllByRecursion (LiesIn isa frame) (stack_words copy count) → copy + size ≤ frame

@@ -13,14 +13,15 @@ use Rattle.ffi3_place_rules.specs.declared.Ext.{Ext}
 use Rattle.ffi3_place_rules.specs.declared.Ext.TheVariants.{Free, Widen, Riscv, Boxed}
 use Rattle.ffi3_place_rules.specs.declared.Piece.{Piece}
 use Rattle.ffi3_place_rules.specs.Image.{Image, byte_at, word_at}
+use Rattle.ffi3_place_rules.specs.Locs.{place_size}
 use Rattle.ffi3_place_rules.specs.Holds.{Carries, LeavesStand, FillsAs, FillPieces, leaf_bytes}
 use Rattle.ffi3_place_rules.specs.Sound.{CoversLeaf, HaveAll, IsPieceOf, IsExtended, is_narrow_integer}
 use Rattle.ffi3_place_rules.proofs.Covered.{EndsIn, leaves_end}
 use Rattle.ffi3_place_rules.proofs.Tests.{each_at}
-use Rattle.ffi3_explain_rules.specs.Explain.{carries, first_byte, first_bytes, value_in_pieces, in_leaf, wanted_byte, wanted_word, wanted, extended}
+use Rattle.ffi3_explain_rules.specs.Explain.{carries, first_byte, first_bytes, value_in_pieces, in_leaf, place_byte, wanted_byte, wanted_word, wanted, extended}
 use Rattle.ffi3_explain_rules.specs.Laws.{HasWords}
 use Rattle.ffi3_place_rules.proofs.Reading.{LeavesRead, leaves_read, reads}
-use Rattle.ffi3_explain_rules.proofs.Words.{index_eight, same_eight, bytes_of_eight, byte_small, word_of_bytes, byte_of_word, low_half, boxed_half, fills, extends}
+use Rattle.ffi3_explain_rules.proofs.Words.{index_eight, same_eight, bytes_of_eight, place_byte_is, byte_small, place_byte_small, word_of_bytes, byte_of_word, low_half, boxed_half, fills, extends}
 
 -- ---- tests that compute
 
@@ -141,9 +142,9 @@ module _ (m : Image) (base : ℕ) (has : HasWords m) (t : Tree) (all : List Piec
 
   wanted_small : (p : Piece) (k : ℕ) → wanted_byte m base t all p k < 256
   wanted_small p k =
-      elim (nat_lt k p.len && in_leaf (leaves_of t) (p.off + k)) as (λ b. cond b (first_byte m base all (p.off + k)) (byte_at m base p.loc k) < 256) [
+      elim (nat_lt k p.len && in_leaf (leaves_of t) (p.off + k)) as (λ b. cond b (first_byte m base all (p.off + k)) (place_byte m base p.loc k) < 256) [
         | true ↦ first_small all (p.off + k)
-        | false ↦ byte_small m base has p.loc k
+        | false ↦ place_byte_small m base has p.loc k
       ]
 
   -- the bytes of the word without its extension
@@ -153,7 +154,7 @@ module _ (m : Image) (base : ℕ) (has : HasWords m) (t : Tree) (all : List Piec
 
   leaf_byte_wanted : (p : Piece) (k : ℕ) → k < p.len → in_leaf (leaves_of t) (p.off + k) ≡ true → wanted_byte m base t all p k ≡ first_byte m base all (p.off + k)
   leaf_byte_wanted p k h leaf =
-      ap (λ b. cond b (first_byte m base all (p.off + k)) (byte_at m base p.loc k)) (both _ _ (lt_is k p.len h) leaf)
+      ap (λ b. cond b (first_byte m base all (p.off + k)) (place_byte m base p.loc k)) (both _ _ (lt_is k p.len h) leaf)
 
   -- ---- a place that is as it is wanted has the leaf's byte
 
@@ -213,7 +214,7 @@ module _ (m : Image) (base : ℕ) (has : HasWords m) (t : Tree) (all : List Piec
       let back : p.off + (o - p.off) ≡ o = omega (arith, c.0) in
       let below : o - p.off < p.len = omega (arith, c.0, c.1) in
       let there : in_leaf (leaves_of t) (p.off + (o - p.off)) ≡ true = subst (λ n. in_leaf (leaves_of t) n ≡ true) (sym back) leaf in
-      byte_of_word m base has p.loc (o - p.off) (omega (arith, below, of.short)) ∙ extended_byte p p.ext t refl of.extended of.short (o - p.off) (word_at m base p.loc) below there is ∙ ap (first_byte m base all) back
+      sym (place_byte_is m base p.loc (o - p.off) (omega (arith, below, of.fits))) ∙ byte_of_word m base has p.loc (o - p.off) (omega (arith, below, of.short)) ∙ extended_byte p p.ext t refl of.extended of.short (o - p.off) (word_at m base p.loc) below there is ∙ ap (first_byte m base all) back
 
   pieces_byte : (ps : List Piece) → AllByRecursion (IsPieceOf t) ps → AllByRecursion IsAsWanted ps → (o : ℕ) → in_leaf (leaves_of t) o ≡ true → (x : ℕ) → first_byte m base all o ≡ x → AllByRecursion (λ p. Carries o p → byte_at m base p.loc (o - p.off) ≡ x) ps
   pieces_byte [] of is o leaf x e = tt
@@ -256,22 +257,22 @@ module _ (m : Image) (base : ℕ) (has : HasWords m) (t : Tree) (all : List Piec
         | inr later ↦ leaf_agrees ls bs o later stand.1
       ]
 
-  module _ (bs : List (List ℕ)) (stand : LeavesStand m base all (leaves_of t) bs) (i : ℕ) (p : Piece) (below : i < length all) (at : get_or all i p ≡ p) where
-    found_byte : (k : ℕ) (b : Bool) → (b ≡ true → (k < p.len) × (in_leaf (leaves_of t) (p.off + k) ≡ true)) → byte_at m base p.loc k ≡ cond b (first_byte m base all (p.off + k)) (byte_at m base p.loc k)
+  module _ (bs : List (List ℕ)) (stand : LeavesStand m base all (leaves_of t) bs) (i : ℕ) (p : Piece) (room : p.len ≤ place_size p.loc) (below : i < length all) (at : get_or all i p ≡ p) where
+    found_byte : (k : ℕ) (b : Bool) → (b ≡ true → (k < p.len) × (in_leaf (leaves_of t) (p.off + k) ≡ true)) → place_byte m base p.loc k ≡ cond b (first_byte m base all (p.off + k)) (place_byte m base p.loc k)
     found_byte k false f = refl
     found_byte k true f =
         let o = p.off + k in
         let c : Carries (p.off + k) p = (omega arith, omega (arith, (f refl).0)) in
         let agreed = leaf_agrees (leaves_of t) bs (p.off + k) (f refl).1 stand in
         let same : p.off + k - p.off ≡ k = omega arith in
-        ap (byte_at m base p.loc) (sym same) ∙ each_at (λ (q : Piece). Carries (p.off + k) q → byte_at m base q.loc (p.off + k - q.off) ≡ agreed.0) all i p below at agreed.1 c ∙ sym (first_agrees m base all (p.off + k) agreed.0 agreed.1 i p below at c)
+        place_byte_is m base p.loc k (omega (arith, (f refl).0, room)) ∙ ap (byte_at m base p.loc) (sym same) ∙ each_at (λ (q : Piece). Carries (p.off + k) q → byte_at m base q.loc (p.off + k - q.off) ≡ agreed.0) all i p below at agreed.1 c ∙ sym (first_agrees m base all (p.off + k) agreed.0 agreed.1 i p below at c)
 
     found_word : word_at m base p.loc ≡ wanted_word m base t all p
     found_word =
-        word_of_bytes m base has p.loc ∙ ap (from_le_bytes w64) (same_eight (byte_at m base p.loc) (wanted_byte m base t all p) (λ k h. found_byte k (nat_lt k p.len && in_leaf (leaves_of t) (p.off + k)) (λ e. (is_lt k p.len (and_left (nat_lt k p.len) (in_leaf (leaves_of t) (p.off + k)) e), and_right (nat_lt k p.len) (in_leaf (leaves_of t) (p.off + k)) e))))
+        word_of_bytes m base has p.loc ∙ ap (from_le_bytes w64) (same_eight (place_byte m base p.loc) (wanted_byte m base t all p) (λ k h. found_byte k (nat_lt k p.len && in_leaf (leaves_of t) (p.off + k)) (λ e. (is_lt k p.len (and_left (nat_lt k p.len) (in_leaf (leaves_of t) (p.off + k)) e), and_right (nat_lt k p.len) (in_leaf (leaves_of t) (p.off + k)) e))))
 
   pub stood_is_wanted : (v : ValueTree) → HaveAll t all → fits t v ≡ true → LeavesStand m base all (leaves_of t) (leaf_bytes v) → FillPieces m base t all v → AllByRecursion IsAsWanted all
   stood_is_wanted v have fit stand filled =
       each_of IsAsWanted all (λ i p h e. let same = stood_is_read m base t all v have fit stand in
       let fill = each_at (λ (q : Piece). FillsAs q.ext (word_at m base q.loc) t v) all i p h e filled in
-      extends p.ext t (value_in_pieces m base t all) (word_at m base p.loc) (wanted_word m base t all p) (found_word (leaf_bytes v) stand i p h e) (subst (FillsAs p.ext (word_at m base p.loc) t) (sym same) fill))
+      extends p.ext t (value_in_pieces m base t all) (word_at m base p.loc) (wanted_word m base t all p) (found_word (leaf_bytes v) stand i p (each_at (IsPieceOf t) all i p h e have.each).fits h e) (subst (FillsAs p.ext (word_at m base p.loc) t) (sym same) fill))

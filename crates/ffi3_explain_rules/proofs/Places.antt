@@ -36,7 +36,7 @@ right_part P (x ∷ xs) ys h = right_part P xs ys h.1
 
 words_end : (isa : Isa) (frame at n : ℕ) → AllByRecursion (LiesIn isa frame) (stack_words at n) → (n ≡ 0) ⊎ (at + 8 * n ≤ frame)
 words_end isa frame at zero h = inl refl
-words_end isa frame at (suc zero) h = inr (omega (arith, h.0))
+words_end isa frame at (suc zero) h = inr (omega (arith, h.0.0))
 words_end isa frame at (suc (suc n)) h =
     elim (words_end isa frame (at + 8) (suc n) h.1) [
       | inl none ↦ absurd (omega (arith, none))

@@ -1,14 +1,15 @@
 -- Worked rows, computed.
-use Rattle.std.specs.Prelude.{◌≡◌, ℕ, [], ◌∷◌, ◌++◌, replicate, refl}
+use Rattle.std.specs.Prelude.{◌≡◌, ℕ, List, [], ◌∷◌, ◌++◌, replicate, refl}
 use Rattle.ffi3_type_rules.specs.Tree.{Tree, void, scalar, struct_of, array_of, u8, u32, s32, float, pointer}
 use Rattle.ffi3_type_rules.specs.Layout.{least_multiple}
 use Rattle.ffi3_type_rules.specs.Value.{leaf_value, struct_value, values_of}
-use Rattle.ffi3_place_rules.specs.declared.Loc.TheVariants.{G, F}
+use Rattle.ffi3_place_rules.specs.declared.Loc.TheVariants.{G, F, S}
 use Rattle.ffi3_place_rules.specs.Image.{Image}
 use Rattle.ffi3_place_rules.proofs.Worked.{sig_of, variadic_from}
 use Rattle.ffi3_amd64_rules.specs.Amd64.{amd64}
 use Rattle.ffi3_riscv_rules.specs.Riscv.{riscv}
 use Rattle.ffi3_win64_rules.specs.Win64.{win64}
+use Rattle.ffi3_apple_rules.specs.Apple.{apple}
 use Rattle.ffi3_explain_rules.specs.declared.Part.TheVariants.{Arg, Count}
 use Rattle.ffi3_explain_rules.specs.Explain.{explained, holds_values, is_broken_at}
 use Rattle.ffi3_explain_rules.specs.Arguments.{held_by_standard, are_values, points_outside}
@@ -102,3 +103,22 @@ elsewhere = refl
 outside : held_by_standard win64 (sig_of void (triple ∷ [])) (with_address 0x100A) ≡ points_outside (record { argument = 0; address = 0x100A })
 unfolding least_multiple
 outside = refl
+
+-- ---- apple: eight floats in v0 to v7, and two on the stack, each in its own four bytes
+
+abbrev with_stack : List ℕ → Image
+with_stack stack = record {
+  general = replicate 32 0;
+  floating = replicate 32 0;
+  sp = 0;
+  stack = stack;
+}
+
+side_by_side : explained apple (sig_of void (replicate 8 (scalar float) ++ scalar float ∷ scalar float ∷ [])) (with_stack (0 ∷ 0 ∷ 128 ∷ 63 ∷ 0 ∷ 0 ∷ 0 ∷ 64 ∷ replicate 8 0)) ≡ holds_values (replicate 8 (leaf_value (0 ∷ 0 ∷ 0 ∷ 0 ∷ [])) ++ leaf_value (0 ∷ 0 ∷ 128 ∷ 63 ∷ []) ∷ leaf_value (0 ∷ 0 ∷ 0 ∷ 64 ∷ []) ∷ [])
+unfolding least_multiple
+side_by_side = refl
+
+-- apple, void(pointer;sint32): a variadic one has eight bytes, which it fills
+variadic_not_extended : explained apple (variadic_from void (scalar pointer ∷ scalar s32 ∷ []) 1) (with_stack (249 ∷ 255 ∷ 255 ∷ 255 ∷ replicate 12 0)) ≡ is_broken_at (record { part = Arg 1; place = S 0 8; found = 0xFFFFFFF9; wants = 0xFFFFFFFFFFFFFFF9 })
+unfolding least_multiple
+variadic_not_extended = refl

@@ -1,4 +1,4 @@
--- Which arguments an image at an entry has by the standard alone, whoever called: what it leaves free is not judged, and a copy stands wherever its address points. (System V psABI AMD64 3.2.3; Arm AAPCS64, "Parameter Passing"; RISC-V ELF psABI, "Integer Calling Convention" and "Hardware Floating-point Calling Convention"; Microsoft, "x64 calling convention". Where a caller has its copies, and what it leaves in the rest of a place, is its own affair by all four, but for narrow integers and floats on RISC-V)
+-- Which arguments an image at an entry has by the standard alone, whoever called: what it leaves free is not judged, and a copy stands wherever its address points. (System V psABI AMD64 3.2.3; Arm AAPCS64, "Parameter Passing"; RISC-V ELF psABI, "Integer Calling Convention" and "Hardware Floating-point Calling Convention"; Microsoft, "x64 calling convention"; Apple, "Writing ARM64 code for Apple platforms". Where a caller has its copies, and what it leaves in the rest of a place, is its own affair by all five, but for narrow integers and floats on RISC-V, and by Apple's standard for integers narrower than 32 bits in registers)
 use Rattle.std.specs.Prelude.{ℕ, suc, ◌+◌, ◌-◌, Bool, ◌&&◌, nat_le, cond, max, List, [], ◌∷◌, take}
 use Rattle.std.specs.Prelude.{drop, length, Option, Some, None}
 use Rattle.std.specs.List.{flat_map}
@@ -81,7 +81,7 @@ abbrev pub stack_end : List Loc → ℕ
 stack_end [] = 0
 stack_end (G r ∷ ls) = stack_end ls
 stack_end (F r ∷ ls) = stack_end ls
-stack_end (S n ∷ ls) = max (n + 8) (stack_end ls)
+stack_end (S n w ∷ ls) = max (n + w) (stack_end ls)
 
 -- the bytes from sp on that have the return address and the places of all arguments, without copies
 abbrev pub least_stack : Standard → Signature → ℕ

@@ -1,4 +1,4 @@
--- What an image at an entry is explained as: the values that it holds, or the first place that holds another number than a call with the values that are read puts there. (System V psABI AMD64 3.2.3; Arm AAPCS64, "Parameter Passing"; RISC-V ELF psABI, "Integer Calling Convention" and "Hardware Floating-point Calling Convention"; Microsoft, "x64 calling convention")
+-- What an image at an entry is explained as: the values that it holds, or the first place that holds another number than a call with the values that are read puts there. (System V psABI AMD64 3.2.3; Arm AAPCS64, "Parameter Passing"; RISC-V ELF psABI, "Integer Calling Convention" and "Hardware Floating-point Calling Convention"; Microsoft, "x64 calling convention"; Apple, "Writing ARM64 code for Apple platforms")
 use Rattle.std.specs.Prelude.{ℕ, zero, suc, ◌+◌, ◌-◌, ◌*◌, ◌%◌, ◌^◌, Bool, false, cond, ◌&&◌, ◌||◌, ◌==◌, nat_le}
 use Rattle.std.specs.Prelude.{nat_lt, List, [], ◌∷◌, ◌++◌, take, drop, Option, Some, None}
 use Rattle.std.specs.Int.{w64, from_le_bytes}
@@ -16,6 +16,7 @@ use Rattle.ffi3_place_rules.specs.declared.Place.TheVariants.{Direct, ByRef}
 use Rattle.ffi3_place_rules.specs.declared.Res.{Res}
 use Rattle.ffi3_place_rules.specs.declared.Res.TheVariants.{Hidden as HiddenRes}
 use Rattle.ffi3_place_rules.specs.Image.{Image, byte_at, word_at, register}
+use Rattle.ffi3_place_rules.specs.Locs.{place_size}
 use Rattle.ffi3_place_rules.specs.Standard.{Standard, plan_of}
 use Rattle.ffi3_explain_rules.specs.declared.Part.{Part}
 use Rattle.ffi3_explain_rules.specs.declared.Part.TheVariants.{Arg, Hidden, Count}
@@ -49,12 +50,16 @@ in_leaf [] o = false
 in_leaf (l ∷ ls) o =
     (nat_le l.at o && nat_lt o (l.at + scalar_size l.kind)) || in_leaf ls o
 
+-- byte k of the place as it is found, and 0 behind its end
+abbrev pub place_byte : Image → ℕ → Loc → ℕ → ℕ
+place_byte m base at k = cond (nat_lt k (place_size at)) (byte_at m base at k) 0
+
 -- byte k of the place: a leaf's byte is the value's, and any other is as it is found
 abbrev pub wanted_byte : Image → ℕ → Tree → List Piece → Piece → ℕ → ℕ
 wanted_byte m base t all p k =
     cond (nat_lt k p.len && in_leaf (leaves_of t) (p.off + k))
     (first_byte m base all (p.off + k))
-    (byte_at m base p.loc k)
+    (place_byte m base p.loc k)
 
 abbrev pub eight : (ℕ → ℕ) → List ℕ
 eight f = f 0 ∷ f 1 ∷ f 2 ∷ f 3 ∷ f 4 ∷ f 5 ∷ f 6 ∷ f 7 ∷ []

@@ -1,11 +1,12 @@
--- The calling standard of each target. It stands in the lowest crate that knows all four.
+-- The calling standard of each target. It stands in the lowest crate that knows all five.
 use Rattle.ffi3_type_rules.specs.declared.Target.{Target}
-use Rattle.ffi3_type_rules.specs.declared.Target.TheVariants.{Amd64, Aapcs64, Riscv, Win64}
+use Rattle.ffi3_type_rules.specs.declared.Target.TheVariants.{Amd64, Aapcs64, Riscv, Win64, Apple}
 use Rattle.ffi3_place_rules.specs.Standard.{Standard}
 use Rattle.ffi3_amd64_rules.specs.Amd64.{amd64}
 use Rattle.ffi3_aapcs64_rules.specs.Aapcs64.{aapcs64}
 use Rattle.ffi3_riscv_rules.specs.Riscv.{riscv}
 use Rattle.ffi3_win64_rules.specs.Win64.{win64}
+use Rattle.ffi3_apple_rules.specs.Apple.{apple}
 
 -- THE STANDARD that a target's calls follow
 abbrev pub standard_of : Target → Standard
@@ -13,3 +14,4 @@ standard_of Amd64 = amd64
 standard_of Aapcs64 = aapcs64
 standard_of Riscv = riscv
 standard_of Win64 = win64
+standard_of Apple = apple

@@ -210,9 +210,9 @@ fits_general : (b k : ℕ) → fits 31 18 b 18 (G k) ≡ true → k < 31
 unfolding fits
 fits_general b k h = less k 31 (both (nat_lt k 31) (not (k == 18) && (not (k == b) && not (k == 18))) h).0
 
-no_stack : (b k : ℕ) → ¬ (fits 31 18 b 18 (S k) ≡ true)
+no_stack : (b k w : ℕ) → ¬ (fits 31 18 b 18 (S k w) ≡ true)
 unfolding fits
-no_stack b k h = cc
+no_stack b k w h = cc
 
 fits_floating : (b k : ℕ) → fits 31 18 b 18 (F k) ≡ true → k < 32
 unfolding fits
@@ -221,12 +221,12 @@ fits_floating b k h = less k 32 h
 load_length : (b : ℕ) (l : Loc) (r o : ℕ) → fits 31 18 b 18 l ≡ true → length (row_bytes Aarch64 0 (load l r o)) ≡ 4
 load_length b (G k) r o ok = refl
 load_length b (F k) r o ok = refl
-load_length b (S k) r o ok = absurd (no_stack b k ok)
+load_length b (S k w) r o ok = absurd (no_stack b k w ok)
 
 store_length : (b : ℕ) (l : Loc) (r o : ℕ) → fits 31 18 b 18 l ≡ true → length (row_bytes Aarch64 0 (store l r o)) ≡ 4
 store_length b (G k) r o ok = refl
 store_length b (F k) r o ok = refl
-store_length b (S k) r o ok = absurd (no_stack b k ok)
+store_length b (S k w) r o ok = absurd (no_stack b k w ok)
 
 from_x : (b : ℕ) → b < 31 → (s : Processor) (x : ℕ) (l : Loc) (tail : List ℕ) → fits 31 18 b 18 l ≡ true → s.pc % 4 ≡ 0 → s.general b ≡ x → x + 552 ≤ half → IsRegionKept x s.sp s → HasCode s s.pc (row_bytes Aarch64 0 (load l b (exchanged_at l)) ++ tail) → Steps Aarch64 s (received 4 l (word_at (x + exchanged_at l) s) s)
 from_x b low s x (G k) tail ok al at far above h =
@@ -235,7 +235,7 @@ from_x b low s x (G k) tail ok al at far above h =
 from_x b low s x (F k) tail ok al at far above h =
     let small : k < 32 = fits_floating b k ok in
     load_floating_row s x k b (256 + 8 * k) tail small (omega (arith, low)) (omega arith) (omega (arith, small)) al (no_sp b s.sp low) (base_is s b low ∙ at) (omega (arith, far, small)) (kept_in Aarch64 s x (256 + 8 * k) (omega (arith, small)) above) h
-from_x b low s x (S k) tail ok al at far above h = absurd (no_stack b k ok)
+from_x b low s x (S k w) tail ok al at far above h = absurd (no_stack b k w ok)
 
 to_x : (b : ℕ) → b < 31 → (s : Processor) (x : ℕ) (l : Loc) (tail : List ℕ) → fits 31 18 b 18 l ≡ true → s.pc % 4 ≡ 0 → s.general b ≡ x → x + 552 ≤ half → HasCode s s.pc (row_bytes Aarch64 0 (store l b (exchanged_at l)) ++ tail) → Steps Aarch64 s (stored 4 (x + exchanged_at l) (held l s) s)
 to_x b low s x (G k) tail ok al at far h =
@@ -244,21 +244,21 @@ to_x b low s x (G k) tail ok al at far h =
 to_x b low s x (F k) tail ok al at far h =
     let small : k < 32 = fits_floating b k ok in
     store_floating_row s x k b (256 + 8 * k) tail small (omega (arith, low)) (omega arith) (omega (arith, small)) al (no_sp b s.sp low) (base_is s b low ∙ at) (omega (arith, far, small)) h
-to_x b low s x (S k) tail ok al at far h = absurd (no_stack b k ok)
+to_x b low s x (S k w) tail ok al at far h = absurd (no_stack b k w ok)
 
 from_stack : (b : ℕ) (s : Processor) (l : Loc) (at : ℕ) (tail : List ℕ) → fits 31 18 b 18 l ≡ true → s.pc % 4 ≡ 0 → s.sp % 16 ≡ 0 → at % 8 ≡ 0 → at < 2048 → s.sp + at ≤ half → HasCode s s.pc (row_bytes Aarch64 0 (load l 31 at) ++ tail) → Steps Aarch64 s (received 4 l (word_at (s.sp + at) s) s)
 from_stack b s (G k) at tail ok al sixteen eight short far h =
     load_general_row s s.sp k 31 at tail (fits_general b k ok) (omega arith) eight (omega (arith, short)) al (λ e. sixteen) refl far (inr (omega arith)) h
 from_stack b s (F k) at tail ok al sixteen eight short far h =
     load_floating_row s s.sp k 31 at tail (fits_floating b k ok) (omega arith) eight (omega (arith, short)) al (λ e. sixteen) refl far (inr (omega arith)) h
-from_stack b s (S k) at tail ok al sixteen eight short far h = absurd (no_stack b k ok)
+from_stack b s (S k w) at tail ok al sixteen eight short far h = absurd (no_stack b k w ok)
 
 to_stack : (b : ℕ) (s : Processor) (l : Loc) (at : ℕ) (tail : List ℕ) → fits 31 18 b 18 l ≡ true → s.pc % 4 ≡ 0 → s.sp % 16 ≡ 0 → at % 8 ≡ 0 → at < 2048 → s.sp + at ≤ half → HasCode s s.pc (row_bytes Aarch64 0 (store l 31 at) ++ tail) → Steps Aarch64 s (stored 4 (s.sp + at) (held l s) s)
 to_stack b s (G k) at tail ok al sixteen eight short far h =
     store_general_row s s.sp k 31 at tail (fits_general b k ok) (omega arith) eight (omega (arith, short)) al (λ e. sixteen) refl far h
 to_stack b s (F k) at tail ok al sixteen eight short far h =
     store_floating_row s s.sp k 31 at tail (fits_floating b k ok) (omega arith) eight (omega (arith, short)) al (λ e. sixteen) refl far h
-to_stack b s (S k) at tail ok al sixteen eight short far h = absurd (no_stack b k ok)
+to_stack b s (S k w) at tail ok al sixteen eight short far h = absurd (no_stack b k w ok)
 
 pub aarch64_laws : (b : ℕ) → b < 31 → Laws Aarch64 31 18 b 18
 aarch64_laws b low = record {

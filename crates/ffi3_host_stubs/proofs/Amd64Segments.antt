@@ -76,7 +76,7 @@ exchange_loaded x (F k ∷ ls) s tail ok base far above h =
     let row : List ℕ = amd64_row 0 (load (F k) 11 (256 + 8 * k)) in
     let step : Steps Amd64 s m = load_floating_row s x k (256 + 8 * k) rest small (omega (arith, small)) base (omega (arith, small, far)) (kept_in Amd64 s x (256 + 8 * k) (omega (arith, small)) above) h in
     joined s m _ x (length ls) tail step (exchange_loaded x ls m tail parts.1 base far above (onward s m row rest 9 refl refl refl h))
-exchange_loaded x (S k ∷ ls) s tail ok base far above h = absurd cc
+exchange_loaded x (S k w ∷ ls) s tail ok base far above h = absurd cc
 
 pub exchange_stored : (x : ℕ) (ls : List Loc) (s : Processor) (tail : List ℕ) → are_moved ls ≡ true → s.general 11 ≡ x → x + 552 ≤ half → HasCode s s.pc (row_list (exchange_stores 11 ls) ++ tail) → Came s (to_exchange Amd64 11 x ls s) x (length ls) tail
 unfolding are_moved row_list
@@ -98,7 +98,7 @@ exchange_stored x (F k ∷ ls) s tail ok base far h =
     let row : List ℕ = amd64_row 0 (store (F k) 11 (256 + 8 * k)) in
     let step : Steps Amd64 s m = store_floating_row s x k (256 + 8 * k) rest small (omega (arith, small)) base (omega (arith, small, far)) h in
     joined s m _ x (length ls) tail step (exchange_stored x ls m tail parts.1 base far (onward s m row rest 9 refl refl refl h))
-exchange_stored x (S k ∷ ls) s tail ok base far h = absurd cc
+exchange_stored x (S k w ∷ ls) s tail ok base far h = absurd cc
 
 -- ---- loads from the save area, and stores to it
 
@@ -115,7 +115,7 @@ area_loaded x (G k ∷ ls) s at tail ok base near far h =
     let step : Steps Amd64 s m = load_area_row s k at rest plain.in_range plain.not_sp (omega (arith, near)) (omega (arith, far)) h in
     joined s m _ x (length ls) tail step (area_loaded x ls m (at + 8) tail parts.1 (kept_base s.general k v x plain.not_base base) (omega (arith, near)) (omega (arith, far)) (onward s m row rest 8 refl refl refl h))
 area_loaded x (F k ∷ ls) s at tail ok base near far h = absurd cc
-area_loaded x (S k ∷ ls) s at tail ok base near far h = absurd cc
+area_loaded x (S k w ∷ ls) s at tail ok base near far h = absurd cc
 
 pub record Went (s t : Processor) (n : ℕ) (tail : List ℕ) : Type 0 where
   pub steps : TakesBy Amd64 n s t
@@ -139,4 +139,4 @@ area_stored (G k ∷ ls) s at tail ok near far h =
     let step : Steps Amd64 s m = store_area_row s k at rest plain.in_range plain.not_sp (omega (arith, near)) (omega (arith, far)) h in
     joined_area s m _ (length ls) tail step (area_stored ls m (at + 8) tail parts.1 (omega (arith, near)) (omega (arith, far)) (onward s m row rest 8 refl refl refl h))
 area_stored (F k ∷ ls) s at tail ok near far h = absurd cc
-area_stored (S k ∷ ls) s at tail ok near far h = absurd cc
+area_stored (S k w ∷ ls) s at tail ok near far h = absurd cc

@@ -12,7 +12,7 @@ use Rattle.ffi3_host_stubs.specs.Calls.{held}
 abbrev pub received : ℕ → Loc → ℕ → Processor → Processor
 received size (G k) value s = record s { general = set_at k value s.general; pc = s.pc + size }
 received size (F k) value s = record s { floating = set_at k value s.floating; pc = s.pc + size }
-received size (S k) value s = s
+received size (S k w) value s = s
 
 -- sp gets a value
 abbrev pub with_sp_by : ℕ → ℕ → Processor → Processor

@@ -83,18 +83,18 @@ bytes_other addr v m a (suc n) (inr h) =
 received_other : (size v : ℕ) (l m : Loc) (s : Processor) → same_loc l m ≡ false → held l (received size m v s) ≡ held l s
 received_other size v (G a) (G b) s h = ap (λ (t : Bool). if t then v else s.general a) h
 received_other size v (G a) (F b) s h = refl
-received_other size v (G a) (S b) s h = refl
+received_other size v (G a) (S b w) s h = refl
 received_other size v (F a) (G b) s h = refl
 received_other size v (F a) (F b) s h = ap (λ (t : Bool). if t then v else s.floating a) h
-received_other size v (F a) (S b) s h = refl
-received_other size v (S a) (G b) s h = refl
-received_other size v (S a) (F b) s h = refl
-received_other size v (S a) (S b) s h = refl
+received_other size v (F a) (S b w) s h = refl
+received_other size v (S a w) (G b) s h = refl
+received_other size v (S a w) (F b) s h = refl
+received_other size v (S a x) (S b y) s h = refl
 
 pub set_other : (k v : ℕ) (l : Loc) (s t : Processor) → t.general ≡ set_at k v s.general → t.floating ≡ s.floating → same_loc l (G k) ≡ false → held l t ≡ held l s
 set_other k v (G a) s t e f h = ap (λ (g : ℕ → ℕ). g a) e ∙ ap (λ (b : Bool). if b then v else s.general a) h
 set_other k v (F a) s t e f h = ap (λ (g : ℕ → ℕ). g a) f
-set_other k v (S a) s t e f h = refl
+set_other k v (S a w) s t e f h = refl
 
 -- ---- from the exchange region
 
@@ -121,7 +121,7 @@ came_from_exchange isa base x (F k ∷ ls) s ok =
     let v : ℕ = word_at (x + (256 + 8 * k)) s in
     let m : Processor = received (size_of isa (load (F k) base 0)) (F k) v s in
     (exchange_others isa base x ls m (F k) (negated (is_in (F k) ls) more.0) ∙ ap (λ (b : Bool). if b then v else s.floating k) (itself k), came_from_exchange isa base x ls m more.1)
-came_from_exchange isa base x (S k ∷ ls) s ok = absurd cc
+came_from_exchange isa base x (S k w ∷ ls) s ok = absurd cc
 
 -- ---- from the save area
 
@@ -150,7 +150,7 @@ came_from_area isa at addr (F k ∷ ls) s here ok =
     let m : Processor = received (size_of isa (load (F k) (stack_pointer isa) 0)) (F k) v s in
     let next : s.sp + (at + 8) ≡ addr + 8 = omega (arith, here) in
     (area_others isa (at + 8) ls m (F k) (negated (is_in (F k) ls) more.0) ∙ ap (λ (b : Bool). if b then v else s.floating k) (itself k) ∙ ap (λ a. word_at a s) here, came_from_area isa (at + 8) (addr + 8) ls m next more.1)
-came_from_area isa at addr (S k ∷ ls) s here ok = absurd cc
+came_from_area isa at addr (S k w ∷ ls) s here ok = absurd cc
 
 -- ---- to the exchange region
 
@@ -172,7 +172,7 @@ exchange_outside isa base x (F k ∷ ls) s a out ok =
     let m : Processor = stored (size_of isa (load (F k) base 0)) (x + (256 + 8 * k)) (s.floating k) s in
     let far : IsOutside (x + (256 + 8 * k)) (x + (256 + 8 * k) + 8) a = ⊎_elim (λ h. inl (omega (arith, h))) (λ h. inr (omega (arith, h, small))) out in
     exchange_outside isa base x ls m a out more.1 ∙ byte_other (x + (256 + 8 * k)) (s.floating k) a s.memory far
-exchange_outside isa base x (S k ∷ ls) s a out ok = absurd cc
+exchange_outside isa base x (S k w ∷ ls) s a out ok = absurd cc
 
 -- bytes in none of their places stay
 pub places_outside : (isa : Isa) (base x : ℕ) (ls : List Loc) (s : Processor) (a : ℕ) → IsInNoPlace x ls a → (to_exchange isa base x ls s).memory a ≡ s.memory a
@@ -221,7 +221,7 @@ exchange_kept isa base x (F k ∷ ls) s n out ok =
     let m : Processor = stored (size_of isa (load (F k) base 0)) (x + (256 + 8 * k)) (s.floating k) s in
     let at : 256 + 8 * k ≡ 8 * (32 + k) = omega arith in
     exchange_kept isa base x ls m n away.1 more.1 ∙ ap (λ i. bytes_at (put_word (x + i) (s.floating k) s.memory) (x + 8 * n) 8) at ∙ other_place x n (32 + k) (s.floating k) s.memory (unlike n (32 + k) away.0)
-exchange_kept isa base x (S k ∷ ls) s n out ok = absurd cc
+exchange_kept isa base x (S k w ∷ ls) s n out ok = absurd cc
 
 pub went_to_exchange : (isa : Isa) (base x : ℕ) (ls : List Loc) (s : Processor) → are_spread ls ≡ true → WentToExchange x ls s (to_exchange isa base x ls s)
 unfolding place misses are_spread
@@ -237,7 +237,7 @@ went_to_exchange isa base x (F k ∷ ls) s ok =
     let m : Processor = stored (size_of isa (load (F k) base 0)) (x + (256 + 8 * k)) (s.floating k) s in
     let at : 256 + 8 * k ≡ 8 * (32 + k) = omega arith in
     (ap (λ i. bytes_at (to_exchange isa base x ls m).memory (x + i) 8) at ∙ exchange_kept isa base x ls m (32 + k) more.0 more.1 ∙ ap (λ i. bytes_at m.memory (x + i) 8) (sym at) ∙ word_put (x + (256 + 8 * k)) (s.floating k) s.memory, went_to_exchange isa base x ls m more.1)
-went_to_exchange isa base x (S k ∷ ls) s ok = absurd cc
+went_to_exchange isa base x (S k w ∷ ls) s ok = absurd cc
 
 -- ---- to the save area
 
@@ -266,7 +266,7 @@ went_to_area isa at addr (l ∷ ls) s here =
 turned : (b : ℕ) (l : Loc) → same_loc (G b) l ≡ false → same_loc l (G b) ≡ false
 turned b (G a) h = grind (arith, nat_tests)
 turned b (F a) h = refl
-turned b (S a) h = refl
+turned b (S a w) h = refl
 
 -- registers that hold the same but for one that is none of the list
 pub went_from : (b x : ℕ) (ls : List Loc) (s t u : Processor) → is_in (G b) ls ≡ false → ((l : Loc) → same_loc l (G b) ≡ false → held l t ≡ held l s) → WentToExchange x ls t u → WentToExchange x ls s u
@@ -289,7 +289,7 @@ went_still x (F k ∷ ls) s t u same ok h =
     let more = both (misses (32 + k) ls) (are_spread ls) parts.1 in
     let small : k < 32 = less k 32 parts.0 in
     (same (256 + 8 * k) (omega (arith, small)) ∙ h.0, went_still x ls s t u same more.1 h.1)
-went_still x (S k ∷ ls) s t u same ok h = absurd cc
+went_still x (S k w ∷ ls) s t u same ok h = absurd cc
 
 -- and of words of the save area
 pub area_still : (addr : ℕ) (ls : List Loc) (s t u : Processor) → ((a : ℕ) → addr ≤ a → a < addr + 8 * length ls → u.memory a ≡ t.memory a) → WentToArea addr ls s t → WentToArea addr ls s u

@@ -274,9 +274,9 @@ plain_by b k h =
     let r = both (not (k == b)) (not (k == 2)) q.1 in
     record { in_range = less k 32 p.0; not_zero = unlike k 0 q.0; not_sp = unlike k 2 r.1 }
 
-no_stack : (b k : ℕ) → ¬ (fits 32 0 b 2 (S k) ≡ true)
+no_stack : (b k w : ℕ) → ¬ (fits 32 0 b 2 (S k w) ≡ true)
 unfolding fits
-no_stack b k h = cc
+no_stack b k w h = cc
 
 fits_floating : (b k : ℕ) → fits 32 0 b 2 (F k) ≡ true → k < 32
 unfolding fits
@@ -285,12 +285,12 @@ fits_floating b k h = less k 32 h
 load_length : (b : ℕ) (l : Loc) (r o : ℕ) → fits 32 0 b 2 l ≡ true → length (row_bytes Riscv 0 (load l r o)) ≡ 4
 load_length b (G k) r o ok = refl
 load_length b (F k) r o ok = refl
-load_length b (S k) r o ok = absurd (no_stack b k ok)
+load_length b (S k w) r o ok = absurd (no_stack b k w ok)
 
 store_length : (b : ℕ) (l : Loc) (r o : ℕ) → fits 32 0 b 2 l ≡ true → length (row_bytes Riscv 0 (store l r o)) ≡ 4
 store_length b (G k) r o ok = refl
 store_length b (F k) r o ok = refl
-store_length b (S k) r o ok = absurd (no_stack b k ok)
+store_length b (S k w) r o ok = absurd (no_stack b k w ok)
 
 from_x : (b : ℕ) → b < 32 → b ≢ 0 → b ≢ 2 → (s : Processor) (x : ℕ) (l : Loc) (tail : List ℕ) → fits 32 0 b 2 l ≡ true → s.pc % 4 ≡ 0 → s.general b ≡ x → x + 552 ≤ half → IsRegionKept x s.sp s → HasCode s s.pc (row_bytes Riscv 0 (load l b (exchanged_at l)) ++ tail) → Steps Riscv s (received 4 l (word_at (x + exchanged_at l) s) s)
 from_x b low nz ns s x (G k) tail ok al at far above h =
@@ -300,7 +300,7 @@ from_x b low nz ns s x (G k) tail ok al at far above h =
 from_x b low nz ns s x (F k) tail ok al at far above h =
     let small : k < 32 = fits_floating b k ok in
     load_floating_row s x k b (256 + 8 * k) tail small low (omega (arith, small)) al (base_is s b nz ns ∙ at) (omega (arith, far, small)) (kept_in Riscv s x (256 + 8 * k) (omega (arith, small)) above) h
-from_x b low nz ns s x (S k) tail ok al at far above h = absurd (no_stack b k ok)
+from_x b low nz ns s x (S k w) tail ok al at far above h = absurd (no_stack b k w ok)
 
 to_x : (b : ℕ) → b < 32 → b ≢ 0 → b ≢ 2 → (s : Processor) (x : ℕ) (l : Loc) (tail : List ℕ) → fits 32 0 b 2 l ≡ true → s.pc % 4 ≡ 0 → s.general b ≡ x → x + 552 ≤ half → HasCode s s.pc (row_bytes Riscv 0 (store l b (exchanged_at l)) ++ tail) → Steps Riscv s (stored 4 (x + exchanged_at l) (held l s) s)
 to_x b low nz ns s x (G k) tail ok al at far h =
@@ -310,7 +310,7 @@ to_x b low nz ns s x (G k) tail ok al at far h =
 to_x b low nz ns s x (F k) tail ok al at far h =
     let small : k < 32 = fits_floating b k ok in
     store_floating_row s x k b (256 + 8 * k) tail small low (omega (arith, small)) al (base_is s b nz ns ∙ at) (omega (arith, far, small)) h
-to_x b low nz ns s x (S k) tail ok al at far h = absurd (no_stack b k ok)
+to_x b low nz ns s x (S k w) tail ok al at far h = absurd (no_stack b k w ok)
 
 from_stack : (b : ℕ) (s : Processor) (l : Loc) (at : ℕ) (tail : List ℕ) → fits 32 0 b 2 l ≡ true → s.pc % 4 ≡ 0 → IsStackAligned Riscv s.sp → at % 8 ≡ 0 → at < 2048 → s.sp + at ≤ half → HasCode s s.pc (row_bytes Riscv 0 (load l 2 at) ++ tail) → Steps Riscv s (received 4 l (word_at (s.sp + at) s) s)
 from_stack b s (G k) at tail ok al sixteen eight short far h =
@@ -318,7 +318,7 @@ from_stack b s (G k) at tail ok al sixteen eight short far h =
     load_general_row s s.sp k 2 at tail p.in_range p.not_zero p.not_sp (omega arith) short al refl far (inr (omega arith)) h
 from_stack b s (F k) at tail ok al sixteen eight short far h =
     load_floating_row s s.sp k 2 at tail (fits_floating b k ok) (omega arith) short al refl far (inr (omega arith)) h
-from_stack b s (S k) at tail ok al sixteen eight short far h = absurd (no_stack b k ok)
+from_stack b s (S k w) at tail ok al sixteen eight short far h = absurd (no_stack b k w ok)
 
 to_stack : (b : ℕ) (s : Processor) (l : Loc) (at : ℕ) (tail : List ℕ) → fits 32 0 b 2 l ≡ true → s.pc % 4 ≡ 0 → IsStackAligned Riscv s.sp → at % 8 ≡ 0 → at < 2048 → s.sp + at ≤ half → HasCode s s.pc (row_bytes Riscv 0 (store l 2 at) ++ tail) → Steps Riscv s (stored 4 (s.sp + at) (held l s) s)
 to_stack b s (G k) at tail ok al sixteen eight short far h =
@@ -326,7 +326,7 @@ to_stack b s (G k) at tail ok al sixteen eight short far h =
     store_general_row s s.sp k 2 at tail p.in_range p.not_zero p.not_sp (omega arith) short al refl far h
 to_stack b s (F k) at tail ok al sixteen eight short far h =
     store_floating_row s s.sp k 2 at tail (fits_floating b k ok) (omega arith) short al refl far h
-to_stack b s (S k) at tail ok al sixteen eight short far h = absurd (no_stack b k ok)
+to_stack b s (S k w) at tail ok al sixteen eight short far h = absurd (no_stack b k w ok)
 
 pub riscv_laws : (b : ℕ) → b < 32 → b ≢ 0 → b ≢ 2 → Laws Riscv 32 0 b 2
 riscv_laws b low nz ns = record {

@@ -73,28 +73,28 @@ received_base : (n a b c v x : ℕ) (l : Loc) (s : Processor) → fits n a b c l
 unfolding fits
 received_base n a b c v x (G k) s h base = kept_base s.general b k v x (not_base n a b c k h) base
 received_base n a b c v x (F k) s h base = base
-received_base n a b c v x (S k) s h base = base
+received_base n a b c v x (S k w) s h base = base
 
 received_pc : (n a b c v : ℕ) (l : Loc) (s : Processor) → fits n a b c l ≡ true → (received 4 l v s).pc ≡ s.pc + 4
 unfolding fits
 received_pc n a b c v (G k) s h = refl
 received_pc n a b c v (F k) s h = refl
-received_pc n a b c v (S k) s h = absurd cc
+received_pc n a b c v (S k w) s h = absurd cc
 
 received_sp : (v : ℕ) (l : Loc) (s : Processor) → (received 4 l v s).sp ≡ s.sp
 received_sp v (G k) s = refl
 received_sp v (F k) s = refl
-received_sp v (S k) s = refl
+received_sp v (S k w) s = refl
 
 received_code : (v : ℕ) (l : Loc) (s : Processor) → (received 4 l v s).code ≡ s.code
 received_code v (G k) s = refl
 received_code v (F k) s = refl
-received_code v (S k) s = refl
+received_code v (S k w) s = refl
 
 still_kept : (v : ℕ) (l : Loc) (x : ℕ) (s : Processor) → IsRegionKept x s.sp s → IsRegionKept x (received 4 l v s).sp (received 4 l v s)
 still_kept v (G k) x s h = h
 still_kept v (F k) x s h = h
-still_kept v (S k) x s h = h
+still_kept v (S k w) x s h = h
 
 pub next_aligned : (p q : ℕ) → q ≡ p + 4 → p % 4 ≡ 0 → q % 4 ≡ 0
 next_aligned p q e h = omega (arith, e, h)

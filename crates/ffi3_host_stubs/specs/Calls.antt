@@ -17,7 +17,7 @@ use Rattle.ffi3_host_stubs.specs.Processor.{Processor, half, bytes_at, word_at, 
 abbrev pub held_in : Loc → (ℕ → ℕ) → (ℕ → ℕ) → ℕ
 held_in (G k) general floating = general k
 held_in (F k) general floating = floating k
-held_in (S k) general floating = 0
+held_in (S k w) general floating = 0
 
 abbrev pub held : Loc → Processor → ℕ
 held l s = held_in l s.general s.floating

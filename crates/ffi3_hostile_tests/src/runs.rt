@@ -5,6 +5,7 @@ ghost use Rattle.ffi3_ask.specs.Handed.{handed_in, signatures_in};
 use crate::{Again, DropSelf, Flood, Talker};
 use ffi3_aapcs64::Aapcs64;
 use ffi3_amd64::Amd64;
+use ffi3_apple::Apple;
 use ffi3_body::Native;
 use ffi3_place::Abi;
 use ffi3_riscv::Riscv;
@@ -90,6 +91,7 @@ fn again_nests_until_stack_or_moves_are_used_up(rt: HostRuntime) -> Result<(), F
     check_again::<Aapcs64>(&rt, alloc, "341", "341\n", RunEnd::Done, 9_313)?;
     check_again::<Riscv>(&rt, alloc, "292", "292\n", RunEnd::Done, 9_411)?;
     check_again::<Win64>(&rt, alloc, "315", "315\n", RunEnd::Done, 9_365)?;
+    check_again::<Apple>(&rt, alloc, "341", "341\n", RunEnd::Done, 9_313)?;
     check_again::<Amd64>(&rt, alloc, "4997", "4997\n", RunEnd::Done, 1)?;
     check_again::<Amd64>(
         &rt,
@@ -150,7 +152,8 @@ fn check_on_each(
     check::<Amd64>(rt, alloc, &natives, script, text, end, moves_left)?;
     check::<Aapcs64>(rt, alloc, &natives, script, text, end, moves_left)?;
     check::<Riscv>(rt, alloc, &natives, script, text, end, moves_left)?;
-    check::<Win64>(rt, alloc, &natives, script, text, end, moves_left)
+    check::<Win64>(rt, alloc, &natives, script, text, end, moves_left)?;
+    check::<Apple>(rt, alloc, &natives, script, text, end, moves_left)
 }
 
 #[test]

@@ -6,7 +6,7 @@ use Rattle.std.proofs.lemmas.Option.{get_or_from_slice_get}
 use Rattle.std.proofs.lemmas.Slice.Eq.{bytes_eq-Decides}
 use Rattle.serde_json.specs.Data.{Data, null}
 use Rattle.serde_json.specs.Find.{get}
-use Rattle.ffi3_type_rules.specs.declared.Target.TheVariants.{Amd64, Aapcs64, Riscv, Win64}
+use Rattle.ffi3_type_rules.specs.declared.Target.TheVariants.{Amd64, Aapcs64, Riscv, Win64, Apple}
 use Rattle.ffi3_script_rules.specs.Step.{PathStep}
 use Rattle.ffi3_script_rules.specs.Language.{JsonPath, value_under}
 use Rattle.ffi3_script_rules.specs.ReasonText.{text_of_step, text_of_steps}
@@ -30,16 +30,17 @@ not_named : (word name : List ℕ) → name ≢ word → bytes_eq word name ≡ 
 not_named word name other =
     not_so (bytes_eq word name) (λ same. other (sym ((bytes_eq-Decides word name).0 same)))
 
-four : (a b c d : Bool) → a ≡ false → b ≡ false → c ≡ false → d ≡ false → cond a (Some Amd64) (cond b (Some Aapcs64) (cond c (Some Riscv) (cond d (Some Win64) None))) ≡ None
-four false false false false ea eb ec ed = refl
-four true b c d ea eb ec ed = cc
-four false true c d ea eb ec ed = cc
-four false false true d ea eb ec ed = cc
-four false false false true ea eb ec ed = cc
+five : (a b c d e : Bool) → a ≡ false → b ≡ false → c ≡ false → d ≡ false → e ≡ false → cond a (Some Amd64) (cond b (Some Aapcs64) (cond c (Some Riscv) (cond d (Some Win64) (cond e (Some Apple) None)))) ≡ None
+five false false false false false ea eb ec ed ee = refl
+five true b c d e ea eb ec ed ee = cc
+five false true c d e ea eb ec ed ee = cc
+five false false true d e ea eb ec ed ee = cc
+five false false false true e ea eb ec ed ee = cc
+five false false false false true ea eb ec ed ee = cc
 
-pub no_target : (name : List ℕ) → name ≢ codes "amd64" → name ≢ codes "aapcs64" → name ≢ codes "riscv" → name ≢ codes "win64" → target_named name ≡ None
-no_target name a b c d =
-    four _ _ _ _ (not_named (codes "amd64") name a) (not_named (codes "aapcs64") name b) (not_named (codes "riscv") name c) (not_named (codes "win64") name d)
+pub no_target : (name : List ℕ) → name ≢ codes "amd64" → name ≢ codes "aapcs64" → name ≢ codes "riscv" → name ≢ codes "win64" → name ≢ codes "apple" → target_named name ≡ None
+no_target name a b c d e =
+    five _ _ _ _ _ (not_named (codes "amd64") name a) (not_named (codes "aapcs64") name b) (not_named (codes "riscv") name c) (not_named (codes "win64") name d) (not_named (codes "apple") name e)
 
 -- ---- places
 

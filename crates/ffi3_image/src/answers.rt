@@ -18,6 +18,7 @@ use crate::room::{buffer_address, room_for_arguments, room_for_explain};
 use crate::{ImageFault, read_snapshot};
 use ffi3_aapcs64::Aapcs64;
 use ffi3_amd64::Amd64;
+use ffi3_apple::Apple;
 use ffi3_cif::Cif;
 use ffi3_explain::{Image, Unexplained, Unread, arguments, explain};
 use ffi3_image_rules::Question;
@@ -70,6 +71,7 @@ fn answer_about(
         Target::Aapcs64 => answer_by::<Aapcs64>(alloc, question, sig, image),
         Target::Riscv => answer_by::<Riscv>(alloc, question, sig, image),
         Target::Win64 => answer_by::<Win64>(alloc, question, sig, image),
+        Target::Apple => answer_by::<Apple>(alloc, question, sig, image),
     }
 }
 

@@ -41,6 +41,7 @@ fn target_named(name: &str) -> Option<Target>
         "aapcs64" => Some(Target::Aapcs64),
         "riscv" => Some(Target::Riscv),
         "win64" => Some(Target::Win64),
+        "apple" => Some(Target::Apple),
         _ => None,
     }
 }

@@ -7,7 +7,7 @@ use Rattle.serde_json.specs.Data.{Data, Items, no_items, item}
 use Rattle.serde_json.specs.Find.{as_str, as_array}
 use Rattle.serde_json.specs.Events.{items_len}
 use Rattle.ffi3_type_rules.specs.declared.Target.{Target}
-use Rattle.ffi3_type_rules.specs.declared.Target.TheVariants.{Amd64, Aapcs64, Riscv, Win64}
+use Rattle.ffi3_type_rules.specs.declared.Target.TheVariants.{Amd64, Aapcs64, Riscv, Win64, Apple}
 use Rattle.ffi3_type_rules.specs.Signature.{Signature}
 use Rattle.ffi3_place_rules.specs.Image.{Image}
 use Rattle.ffi3_script_rules.specs.Language as language
@@ -49,7 +49,8 @@ target_named name =
     cond (bytes_eq (codes "amd64") name) (Some Amd64)
     (cond (bytes_eq (codes "aapcs64") name) (Some Aapcs64)
     (cond (bytes_eq (codes "riscv") name) (Some Riscv)
-    (cond (bytes_eq (codes "win64") name) (Some Win64) None)))
+    (cond (bytes_eq (codes "win64") name) (Some Win64)
+    (cond (bytes_eq (codes "apple") name) (Some Apple) None))))
 
 abbrev pub target_or_fault : JsonPath → Option Target → Read Target
 target_or_fault path (Some t) = read t

@@ -121,6 +121,7 @@ fn moves_on(alloc: Global, p: &Prepared, list: MoveList) -> Result<Moves, NoMemo
         Prepared::Aapcs64(cif) => moves_by(alloc, cif, list),
         Prepared::Riscv(cif) => moves_by(alloc, cif, list),
         Prepared::Win64(cif) => moves_by(alloc, cif, list),
+        Prepared::Apple(cif) => moves_by(alloc, cif, list),
     }
 }
 

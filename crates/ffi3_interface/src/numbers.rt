@@ -48,6 +48,7 @@ fn returned_on(p: &Prepared) -> Option<u64>
         Prepared::Aapcs64(cif) => returned_at(cif),
         Prepared::Riscv(cif) => returned_at(cif),
         Prepared::Win64(cif) => returned_at(cif),
+        Prepared::Apple(cif) => returned_at(cif),
     }
 }
 

@@ -39,7 +39,7 @@ module _ (std : Standard) (s : Signature) (agrees : AgreesWithMachine std) (m r 
   word_beside : (base : ℕ) (l : Loc) → word_in base entered l ≡ word_in base m l
   word_beside base (G k) = refl
   word_beside base (F k) = refl
-  word_beside base (S k) = refl
+  word_beside base (S k w) = refl
 
   pub reserved_beside : ReservedStay std entered r → ReservedStay std m r
   reserved_beside stay =
@@ -71,7 +71,7 @@ module _ (std : Standard) (s : Signature) (agrees : AgreesWithMachine std) (m r 
   word_is : (vs : List ValueTree) → IsSound std s → STACK ≤ m.sp → OwnsAtEntry std s m vs → (w : SaveWord) (n : ℕ) → IsSaveable 0 w → IsToSave (m.sp + std.link) entered (hidden_of (plan_of std s).res) w n → IsSavedOf std s (image_of (std.link + frame_of std s) m) w n
   word_is vs sound low own (Register (G k)) n lies saved = saved
   word_is vs sound low own (Register (F k)) n lies saved = saved
-  word_is vs sound low own (Register (S k)) n lies saved = absurd (omega (arith, lies))
+  word_is vs sound low own (Register (S k w)) n lies saved = absurd (omega (arith, lies.0, lies.1))
   word_is vs sound low own HiddenWord n lies saved =
       hidden_is (m.sp + std.link) n (plan_of std s).res saved (address_owned std s entered vs sound low own)
   word_is vs sound low own Spare n lies saved = tt

@@ -132,12 +132,12 @@ dropped_sp false frame sp n low start = omega (arith, start)
 register_then : (a b : State) (l : Loc) → IsPlace 0 l → SameAt 0 l a b → register (image_of 0 b) l ≡ register (image_of 0 a) l
 register_then a b (G k) lies h = h
 register_then a b (F k) lies h = h
-register_then a b (S k) lies h = absurd (omega (arith, lies))
+register_then a b (S k w) lies h = absurd (omega (arith, lies.0, lies.1))
 
 register_dropped : (d n : State) → IsDropped d n → (l : Loc) → IsPlace 0 l → register (image_of 0 d) l ≡ register (image_of 0 n) l
 register_dropped d n same (G k) lies = ap (λ xs. get_or xs k 0) same.general
 register_dropped d n same (F k) lies = ap (λ xs. get_or xs k 0) same.floating
-register_dropped d n same (S k) lies = absurd (omega (arith, lies))
+register_dropped d n same (S k w) lies = absurd (omega (arith, lies.0, lies.1))
 
 -- what was written, where no more is
 within_still : (low high : ℕ) (a b d : State) → WroteWithin low high a (with_journal_of a b) → d.stack ≡ b.stack → d.mark ≡ b.mark → d.target ≡ b.target → d.code ≡ b.code → WroteWithin low high a (with_journal_of a d)

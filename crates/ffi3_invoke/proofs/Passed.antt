@@ -37,7 +37,7 @@ use Rattle.ffi3_invoke.proofs.Reached.{passes, pushed_within, reserved_clear_of_
 pub register_is : (len : ℕ) (m : State) (l : Loc) → IsPlace 0 l → register (image_of len m) l ≡ word_in STACK_TOP m l
 register_is len m (G r) lies = refl
 register_is len m (F r) lies = refl
-register_is len m (S n) lies = absurd (omega (arith, lies))
+register_is len m (S n w) lies = absurd (omega (arith, lies.0, lies.1))
 
 -- reserved registers are registers
 reserved_lie : (isa : Isa) → AllByRecursion (IsPlace 0) (reserved_places isa)

@@ -94,7 +94,7 @@ return_address_passed d back = return_reached (isa_of d.target) d.pc d.sp d.gene
 pub passes : (d : State) (l : Loc) → IsPlace 0 l → IsNoneOf (trampoline_registers (isa_of d.target)) l → word_in STACK_TOP (reached d) l ≡ word_in STACK_TOP d l
 passes d (G r) lies trampoline = trampoline_leaves (isa_of d.target) d.pc d.general r trampoline
 passes d (F r) lies trampoline = refl
-passes d (S n) lies trampoline = absurd (omega (arith, lies))
+passes d (S n w) lies trampoline = absurd (omega (arith, lies.0, lies.1))
 
 -- none of them is reserved
 pub reserved_clear_of_trampoline : (isa : Isa) → AllByRecursion (IsNoneOf (trampoline_registers isa)) (reserved_places isa)
@@ -129,4 +129,4 @@ pub scribbled_there : (n : ℕ) (m : State) (l : Loc) → IsPlace 0 l → IsNone
 scribbled_there n m (G k) lies none =
     get_or-scribbled_general (isa_of m.target) n m.general k lies ∙ filled_new (is_reserved (isa_of m.target) k) (get_or m.general k 0) (scribble n (G k)) (not_reserved (isa_of m.target) k none)
 scribbled_there n m (F k) lies none = get_or-scribbled_floating n k lies
-scribbled_there n m (S k) lies none = absurd (omega (arith, lies))
+scribbled_there n m (S k w) lies none = absurd (omega (arith, lies.0, lies.1))

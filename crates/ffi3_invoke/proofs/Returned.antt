@@ -204,7 +204,7 @@ module _ (std : Standard) (s : Signature) (agrees : AgreesWithMachine std) (v : 
       one : (l : Loc) → IsPlace 0 l → register (image_of 0 r) l ≡ register (record { general = r.general; floating = r.floating; sp = (returned_by r).sp; stack = [] }) l
       one (G k) lies = refl
       one (F k) lies = refl
-      one (S k) lies = absurd (omega (arith, lies))
+      one (S k w) lies = absurd (omega (arith, lies.0, lies.1))
 
       moved : (ls : List Loc) → AllByRecursion (IsPlace 0) ls → SameIn ls (image_of 0 m) (image_of 0 r) → SameIn ls (image_of 0 m) (record { general = r.general; floating = r.floating; sp = (returned_by r).sp; stack = [] })
       moved [] lie h = tt

@@ -39,12 +39,12 @@ below_stays low high a b w address count inside below =
 -- a word of a save area that lies above
 pub word_above : (low high from i : ℕ) (a b : State) → WroteWithin low high a b → STACK ≤ from → high ≤ from → saved_word from i b ≡ saved_word from i a
 word_above low high from i a b w inside above =
-    same_word_in from (S (8 * i)) a b (λ k h. w.outside (from + 8 * i + k - STACK) (inr (omega (arith, inside, above))))
+    same_word_in from (S (8 * i) 8) a b (λ k h. w.outside (from + 8 * i + k - STACK) (inr (omega (arith, inside, above))))
 
 -- and one that lies below
 pub word_below : (low high from i : ℕ) (a b : State) → WroteWithin low high a b → STACK ≤ from → from + 8 * i + 8 ≤ low → saved_word from i b ≡ saved_word from i a
 word_below low high from i a b w inside below =
-    same_word_in from (S (8 * i)) a b (λ k h. w.outside (from + 8 * i + k - STACK) (inl (omega (arith, inside, below, h))))
+    same_word_in from (S (8 * i) 8) a b (λ k h. w.outside (from + 8 * i + k - STACK) (inl (omega (arith, inside, below, h))))
 
 -- ---- the return address
 

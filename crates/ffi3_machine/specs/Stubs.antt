@@ -49,7 +49,7 @@ pub data StubName : Type 0 where
 abbrev pub exchanged_at : Loc → ℕ
 exchanged_at (G k) = 8 * k
 exchanged_at (F k) = 256 + 8 * k
-exchanged_at (S k) = 0
+exchanged_at (S k w) = 0
 
 -- the bytes of the save area, below zero
 abbrev pub area_below : Isa → ℤ
@@ -144,7 +144,7 @@ amd64_move general_op floating_op (G k) base offset =
     else rex 1 (k / 8) 0 1 ∷ general_op ∷ mod_rm 2 (k % 8) 3 ∷ word offset
 amd64_move general_op floating_op (F k) base offset =
     0xF2 ∷ rex 0 0 0 1 ∷ 0x0F ∷ floating_op ∷ mod_rm 2 k 3 ∷ word offset
-amd64_move general_op floating_op (S k) base offset = []
+amd64_move general_op floating_op (S k w) base offset = []
 
 -- LEA, MOV, MOVSD, LEA rsp, CALL, RET; `at` is the instruction's address
 abbrev pub amd64_row : ℕ → Row → List ℕ
@@ -169,10 +169,10 @@ abbrev pub aarch64_row : ℕ → Row → List ℕ
 aarch64_row at (address k) = word ((EXCHANGE - at) % 4 * 2 ^ 29 + 0b10000 * 2 ^ 24 + (EXCHANGE - at) / 4 * 2 ^ 5 + k)
 aarch64_row at (load (G k) base offset) = aarch64_immediate 0b1111100101 (offset / 8) base k
 aarch64_row at (load (F k) base offset) = aarch64_immediate 0b1111110101 (offset / 8) base k
-aarch64_row at (load (S k) base offset) = []
+aarch64_row at (load (S k w) base offset) = []
 aarch64_row at (store (G k) base offset) = aarch64_immediate 0b1111100100 (offset / 8) base k
 aarch64_row at (store (F k) base offset) = aarch64_immediate 0b1111110100 (offset / 8) base k
-aarch64_row at (store (S k) base offset) = []
+aarch64_row at (store (S k w) base offset) = []
 aarch64_row at (sum to from d) = aarch64_sum to from d
 aarch64_row at (jump (calls_at base offset)) = []
 aarch64_row at (jump (calls k)) = word (0b1101011000111111000000 * 2 ^ 10 + k * 2 ^ 5)
@@ -192,10 +192,10 @@ riscv_row at (address k) =
     ++ riscv_i ((EXCHANGE - at) % 4096) k 0b000 k 0b0010011
 riscv_row at (load (G k) base offset) = riscv_i offset base 0b011 k 0b0000011
 riscv_row at (load (F k) base offset) = riscv_i offset base 0b011 k 0b0000111
-riscv_row at (load (S k) base offset) = []
+riscv_row at (load (S k w) base offset) = []
 riscv_row at (store (G k) base offset) = riscv_s offset k base 0b0100011
 riscv_row at (store (F k) base offset) = riscv_s offset k base 0b0100111
-riscv_row at (store (S k) base offset) = []
+riscv_row at (store (S k w) base offset) = []
 riscv_row at (sum to from d) = riscv_i (in_bits 12 d) from 0b000 to 0b0010011
 riscv_row at (jump (calls_at base offset)) = []
 riscv_row at (jump (calls k)) = riscv_i 0 k 0b000 1 0b1100111
@@ -210,7 +210,7 @@ row_bytes Riscv at row = riscv_row at row
 abbrev pub amd64_move_size : Loc → ℕ → ℕ
 amd64_move_size (G k) base = if base == 4 then 8 else 7
 amd64_move_size (F k) base = 9
-amd64_move_size (S k) base = 0
+amd64_move_size (S k w) base = 0
 
 abbrev pub amd64_size : Row → ℕ
 amd64_size (address k) = 7

@@ -15,7 +15,7 @@ use Rattle.ffi3_place_rules.specs.declared.Place.TheVariants.{Direct, ByRef}
 use Rattle.ffi3_place_rules.specs.Image.{Image, byte_at}
 use Rattle.ffi3_place_rules.specs.Standard.{round8}
 use Rattle.ffi3_place_rules.specs.Holds.{Carries, LeavesStand, OwnsArgument, OwnsArguments, leaf_bytes}
-use Rattle.ffi3_place_rules.specs.Sound.{CoversLeaf, HaveAll, IsPieceOf, piece_locs}
+use Rattle.ffi3_place_rules.specs.Sound.{place_size, CoversLeaf, HaveAll, IsPieceOf, piece_locs}
 use Rattle.ffi3_place_rules.proofs.Covered.{EndsIn, leaves_end}
 use Rattle.ffi3_place_rules.proofs.Reading.{LeavesRead, reads}
 use Rattle.ffi3_pieces.specs.Stored.{IsPlace}
@@ -86,8 +86,8 @@ module _ (sp base : ℕ) (link : List ℕ) (linked : length link ≡ base) (x : 
         let before = pieces_collected ps out room parts.1 lie.1 in
         let mid = play frame (pieces_out i at ps) x out in
         let bytes = part x (exchange_at p.loc) p.len in
-        let place : exchange_at p.loc + 8 ≤ length x = place_fits p.loc (length x) long lie.0 in
-        let many : length (part x (exchange_at p.loc) p.len) ≡ p.len = length_part x (exchange_at p.loc) p.len (omega (arith, place, parts.0.short)) in
+        let place : exchange_at p.loc + place_size p.loc ≤ length x = place_fits p.loc (length x) long lie.0 in
+        let many : length (part x (exchange_at p.loc) p.len) ≡ p.len = length_part x (exchange_at p.loc) p.len (omega (arith, place, parts.0.fits)) in
         let fits : at + p.off + length (part x (exchange_at p.loc) p.len) ≤ length (play frame (pieces_out i at ps) x out) = omega (arith, many, room, parts.0.within, before.0.size) in
         let new = written_over (at + p.off) (part x (exchange_at p.loc) p.len) (play frame (pieces_out i at ps) x out) in
         let last : WritesWithin at (at + size_of t) mid new = record {
@@ -99,7 +99,7 @@ module _ (sp base : ℕ) (link : List ℕ) (linked : length link ≡ base) (x : 
           | inl c' ↦
               let there : at + p.off + (o - p.off) ≡ at + o = omega (arith, c'.0) in
               let below : o - p.off < p.len = omega (arith, c'.0, c'.1) in
-              ap (λ k. get_or new k 0) (sym there) ∙ over_inside (at + p.off) bytes mid fits (o - p.off) (omega (arith, below, many)) ∙ index_part x (exchange_at p.loc) p.len (o - p.off) below ∙ sym (byte_there sp base link linked x long are p.loc lie.0 (o - p.off) (omega (arith, below, parts.0.short))) ∙ agree.0 c'
+              ap (λ k. get_or new k 0) (sym there) ∙ over_inside (at + p.off) bytes mid fits (o - p.off) (omega (arith, below, many)) ∙ index_part x (exchange_at p.loc) p.len (o - p.off) below ∙ sym (byte_there sp base link linked x long are p.loc lie.0 (o - p.off) (omega (arith, below, parts.0.fits))) ∙ agree.0 c'
           | inr side ↦
               over_outside (at + p.off) bytes mid fits (at + o) (elim side [ inl below ↦ inl (omega (arith, below)) | inr above ↦ inr (omega (arith, above, many)) ]) ∙ later p ps mid before.1 o b agree.1 j a h e c side
         ] in
@@ -164,7 +164,7 @@ module _ (sp base : ℕ) (link : List ℕ) (linked : length link ≡ base) (x : 
     argument_read : (i at : ℕ) (t : Tree) (p : Place) (v : ValueTree) (out : List ℕ) → at + size_of t ≤ length out → IsReady target (length x - frame_at) t p → OwnsArgument m base t p v → IsCollectedAs (sp + base) i at t v out (play (sp + base) (argument_out i at t p) x out)
     argument_read i at t (Direct pieces) v out room ready owns = pieces_read (sp + base) i at t pieces v out room ready.has_all ready.lies owns.0 owns.1
     argument_read i at t (ByRef l copy) v out room ready owns =
-        let word : word_from x (exchange_at l) ≡ sp + base + copy = sym (word_is sp base link linked x long are l ready.lies.0) ∙ owns.1 in
+        let word : word_from x (exchange_at l) ≡ sp + base + copy = sym (word_is sp base link linked x long are l ready.lies.0 ready.has_all) ∙ owns.1 in
         let there : frame_at + (word_from x (exchange_at l) - (sp + base)) ≡ frame_at + copy = omega (arith, word) in
         let fits : frame_at + copy + size_of t ≤ length x = omega (arith, ready.lies.1, long) in
         let same : part x (frame_at + (word_from x (exchange_at l) - (sp + base))) (size_of t) ≡ part m.stack (base + copy) (size_of t) = ap (λ n. part x n (size_of t)) there ∙ part_there copy (size_of t) fits in

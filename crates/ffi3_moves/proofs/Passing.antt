@@ -16,7 +16,7 @@ use Rattle.ffi3_place_rules.specs.declared.Place.{Place}
 use Rattle.ffi3_place_rules.specs.declared.Place.TheVariants.{Direct, ByRef}
 use Rattle.ffi3_place_rules.specs.Image.{Image}
 use Rattle.ffi3_place_rules.specs.Standard.{round8}
-use Rattle.ffi3_place_rules.specs.Sound.{AreApart, IsNoneOf}
+use Rattle.ffi3_place_rules.specs.Sound.{place_size, IsWhole, AreApart, IsNoneOf}
 use Rattle.ffi3_pieces.specs.Stored.{IsPlace}
 use Rattle.ffi3_pieces.specs.Standing.{place_uses, all_uses, IsReady, AreReady}
 use Rattle.ffi3_pieces.proofs.Lawful.{across_none, apart_first, apart_rest, apart_across, each_first, each_rest}
@@ -59,12 +59,12 @@ pub record IsWordMoved (base : ℕ) (l : Loc) (w : ℕ) (sp : ℕ) (link x y : L
   pub keeps : KeepsStubs x y
 
 module _ (sp base : ℕ) (link : List ℕ) (linked : length link ≡ base) where
-  pub word_moved : (x : List ℕ) (l : Loc) (w : ℕ) → frame_at ≤ length x → AreBytes x → IsPlace (length x - frame_at) l → w < 2 ^ 64 → IsWordMoved base l w sp link x (written_over (exchange_at l) (to_le_bytes w64 w) x)
-  word_moved x l w long are lies small =
-      let few : length (to_le_bytes w64 w) ≤ 8 = omega arith in
+  pub word_moved : (x : List ℕ) (l : Loc) (w : ℕ) → frame_at ≤ length x → AreBytes x → IsPlace (length x - frame_at) l → IsWhole l → w < 2 ^ 64 → IsWordMoved base l w sp link x (written_over (exchange_at l) (to_le_bytes w64 w) x)
+  word_moved x l w long are lies wide small =
+      let few : length (to_le_bytes w64 w) ≤ place_size l = omega (arith, wide) in
       let keeps = keeps_over x (to_le_bytes w64 w) l long are lies few (to_le_bytes-below w64 w) in
       record {
-        put = word_put base l w (to_le_bytes w64 w) (image_at sp link x) (image_at sp link (written_over (exchange_at l) (to_le_bytes w64 w) x)) small refl (put_there sp base link linked x long are l lies (to_le_bytes w64 w) few keeps.are);
+        put = word_put base l w (to_le_bytes w64 w) (image_at sp link x) (image_at sp link (written_over (exchange_at l) (to_le_bytes w64 w) x)) wide small refl (put_there sp base link linked x long are l lies (to_le_bytes w64 w) few keeps.are);
         keeps = keeps;
       }
 
@@ -163,7 +163,7 @@ module _ (sp base : ℕ) (link : List ℕ) (linked : length link ≡ base) where
         let first = copy_keeps x bytes copy are bytes_are fits in
         let same_size : length (written_over (frame_at + copy) (part values at (size_of t)) x) ≡ length x = first.size in
         let lies : IsPlace (length (written_over (frame_at + copy) (part values at (size_of t)) x) - frame_at) l = subst (λ n. IsPlace (n - frame_at) l) (sym first.size) ready.lies.0 in
-        let word = word_moved y l (sp + base + copy) (omega (arith, same_size, long)) first.are lies (omega (arith, high, ready.lies.1)) in
+        let word = word_moved y l (sp + base + copy) (omega (arith, same_size, long)) first.are lies ready.has_all (omega (arith, high, ready.lies.1)) in
         let z = written_over (exchange_at l) (to_le_bytes w64 (sp + base + copy)) y in
         let there : base + copy + size_of t ≤ length (image_at sp link x).stack = omega (arith, fits_there x bytes copy are bytes_are fits, many) in
         let is = copied base t l copy bytes (image_at sp link x) (image_at sp link z) many there apart.0 (subst (λ m. IsWordPut base l (sp + base + copy) m (image_at sp link z)) (copy_image x bytes copy are bytes_are fits) word.put) in

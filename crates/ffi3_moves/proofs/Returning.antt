@@ -106,12 +106,12 @@ module _ (std : Standard) (s : Signature) (sound : IsSound std s) (sp : ℕ) (x 
     address_given : (l : Option Loc) → AllByRecursion (IsPlace 0) (to_list l) → (address : ℕ) → address < 2 ^ 64 → (RegisterHolds (image_at sp [] (with_returned address (option_map exchange_at l) x)) l address) × (Stays 0 (to_list l) (image_at sp [] x) (image_at sp [] (with_returned address (option_map exchange_at l) x))) × (KeepsStubs x (with_returned address (option_map exchange_at l) x))
     address_given None registers address small = (tt, stays_none 0 (image_at sp [] x), keeps_none x are)
     address_given (Some (G r)) registers address small =
-        let word = word_moved sp 0 [] no_link x (G r) address long are registers.0 small in
+        let word = word_moved sp 0 [] no_link x (G r) address long are registers.0 refl small in
         (word.put.word, word.put.stays, word.keeps)
     address_given (Some (F r)) registers address small =
-        let word = word_moved sp 0 [] no_link x (F r) address long are registers.0 small in
+        let word = word_moved sp 0 [] no_link x (F r) address long are registers.0 refl small in
         (word.put.word, word.put.stays, word.keeps)
-    address_given (Some (S k)) registers address small = absurd (omega (arith, registers.0))
+    address_given (Some (S k w)) registers address small = absurd (omega (arith, registers.0.0, registers.0.1))
 
     result_given : (r : Res) → r ≡ (plan_of std s).res → IsInBuffer s.result_type r bytes x → IsReturnedIn r (with_returned (address_of sp r) (given_back_at r std.returned_address) (play sp (result_in s.result_type r) bytes x))
     result_given Nothing is in_buffer = record { stands = tt; fills = tt; kept = tt; stays = stays_none 0 (image_at sp [] x); keeps = keeps_none x are }

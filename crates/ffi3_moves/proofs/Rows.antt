@@ -1,12 +1,13 @@
 -- Worked rows, computed.
-use Rattle.std.specs.Prelude.{◌≡◌, [], ◌∷◌, refl, Some, None}
-use Rattle.ffi3_type_rules.specs.Tree.{void, scalar, struct_of, u8, s8, u32, s32, float, double, pointer}
+use Rattle.std.specs.Prelude.{◌≡◌, List, [], ◌∷◌, ◌++◌, refl, replicate, Some, None}
+use Rattle.ffi3_type_rules.specs.Tree.{Tree, void, scalar, struct_of, u8, s8, u16, u32, s32, float, double, pointer}
 use Rattle.ffi3_type_rules.specs.Layout.{least_multiple}
 use Rattle.ffi3_place_rules.proofs.Worked.{sig_of, variadic_from, triple}
 use Rattle.ffi3_amd64_rules.specs.Amd64.{amd64}
 use Rattle.ffi3_aapcs64_rules.specs.Aapcs64.{aapcs64}
 use Rattle.ffi3_riscv_rules.specs.Riscv.{riscv}
 use Rattle.ffi3_win64_rules.specs.Win64.{win64}
+use Rattle.ffi3_apple_rules.specs.Apple.{apple}
 use Rattle.ffi3_moves.specs.declared.Kind.{Kind}
 use Rattle.ffi3_moves.specs.declared.Kind.TheVariants.{Bytes, Zero, Sign, Ones, Number, Address, Behind}
 use Rattle.ffi3_moves.specs.declared.Move.{Move}
@@ -118,3 +119,25 @@ win64_reference = refl
 win64_variadic : collect_moves win64 (variadic_from (scalar s32) (scalar pointer ∷ scalar double ∷ []) 1) ≡ row Bytes 0 8 0 8 ∷ row Bytes 1 264 8 8 ∷ row Bytes 1 16 8 8 ∷ []
 unfolding least_multiple
 win64_variadic = refl
+
+-- ---- on Apple's, behind eight pointers: uint8, uint16 and sint32 stand packed, and no byte between them is written or read
+abbrev pointers : List Tree
+pointers = replicate 8 (scalar pointer)
+
+abbrev to_registers : List Move
+to_registers =
+    row Bytes 0 0 0 8 ∷ row Bytes 1 8 8 8 ∷ row Bytes 2 16 16 8 ∷ row Bytes 3 24 24 8 ∷ row Bytes 4 32 32 8 ∷ row Bytes 5 40 40 8 ∷ row Bytes 6 48 48 8 ∷ row Bytes 7 56 56 8 ∷ []
+
+apple_packed : store_moves apple (sig_of void (pointers ++ scalar u8 ∷ scalar u16 ∷ scalar s32 ∷ [])) ≡ to_registers ++ row Bytes 8 64 576 1 ∷ row Bytes 9 72 578 2 ∷ row Bytes 10 80 580 4 ∷ []
+unfolding least_multiple
+apple_packed = refl
+
+-- the same out of eight registers and the stack, where they were written as they are
+apple_packed_collect : collect_moves apple (sig_of void (pointers ++ scalar u8 ∷ scalar u16 ∷ scalar s32 ∷ [])) ≡ to_registers ++ row Bytes 8 576 64 1 ∷ row Bytes 9 578 72 2 ∷ row Bytes 10 580 80 4 ∷ []
+unfolding least_multiple
+apple_packed_collect = refl
+
+-- a variadic double in eight bytes of the stack, whatever registers are left
+apple_variadic : store_moves apple (variadic_from (scalar s32) (scalar pointer ∷ scalar double ∷ []) 1) ≡ row Bytes 0 0 0 8 ∷ row Bytes 1 8 576 8 ∷ []
+unfolding least_multiple
+apple_variadic = refl

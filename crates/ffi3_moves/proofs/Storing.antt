@@ -14,7 +14,7 @@ use Rattle.ffi3_place_rules.specs.declared.Ext.{Ext}
 use Rattle.ffi3_place_rules.specs.declared.Ext.TheVariants.{Free, Widen, Riscv, Boxed}
 use Rattle.ffi3_place_rules.specs.declared.Piece.{Piece}
 use Rattle.ffi3_place_rules.specs.Image.{Image}
-use Rattle.ffi3_place_rules.specs.Sound.{Apart, AreApart, IsNoneOf, IsExtended, IsPieceOf, is_narrow_integer, piece_locs}
+use Rattle.ffi3_place_rules.specs.Sound.{place_size, IsWhole, Apart, AreApart, IsNoneOf, IsExtended, IsPieceOf, is_floating_place, is_narrow_integer, piece_locs}
 use Rattle.ffi3_pieces.specs.Stored.{IsPlace}
 use Rattle.ffi3_pieces.proofs.Composing.{apart_sym, none_append}
 use Rattle.ffi3_transfer.specs.Stored.{KeepsAbove, Stays, IsPut, IsStored}
@@ -53,12 +53,12 @@ keeps_both x y z a b = record {
 }
 
 -- the words of the stubs lie in no place
-stubs_apart : (l : Loc) (room k n : ℕ) → IsPlace room l → n ≤ 8 → 512 ≤ k → k < frame_at → (k < exchange_at l) ⊎ (exchange_at l + n ≤ k)
+stubs_apart : (l : Loc) (room k n : ℕ) → IsPlace room l → n ≤ place_size l → 512 ≤ k → k < frame_at → (k < exchange_at l) ⊎ (exchange_at l + n ≤ k)
 stubs_apart (G r) room k n h few from to = inr (omega (arith, h, few, from))
 stubs_apart (F r) room k n h few from to = inr (omega (arith, h, few, from))
-stubs_apart (S m) room k n h few from to = inl (omega (arith, to))
+stubs_apart (S m w) room k n h few from to = inl (omega (arith, to))
 
-pub keeps_over : (x bytes : List ℕ) (l : Loc) → frame_at ≤ length x → AreBytes x → IsPlace (length x - frame_at) l → length bytes ≤ 8 → AreBytes bytes → KeepsStubs x (written_over (exchange_at l) bytes x)
+pub keeps_over : (x bytes : List ℕ) (l : Loc) → frame_at ≤ length x → AreBytes x → IsPlace (length x - frame_at) l → length bytes ≤ place_size l → AreBytes bytes → KeepsStubs x (written_over (exchange_at l) bytes x)
 keeps_over x bytes l long are lies few bytes_are =
     let fits : exchange_at l + length bytes ≤ length x = omega (arith, place_fits l (length x) long lies, few) in
     record {
@@ -88,6 +88,12 @@ ones_high (a ∷ b ∷ c ∷ d ∷ e ∷ bytes) l small = absurd (omega arith)
 none_of_one : (l : Loc) (ls : List Loc) → AllByRecursion (Apart l) ls → AllByRecursion (IsNoneOf (l ∷ [])) ls
 none_of_one l [] h = tt
 none_of_one l (k ∷ ls) h = ((apart_sym l k h.0, tt), none_of_one l ls h.1)
+
+-- a floating register has eight bytes
+floating_whole : (l : Loc) → is_floating_place l ≡ true → IsWhole l
+floating_whole (F r) h = refl
+floating_whole (G r) h = cc
+floating_whole (S n w) h = cc
 
 scalar_is : (t : Tree) → is_narrow_integer t ≡ true → t ≡ scalar (scalar_of t)
 scalar_is void narrow = cc
@@ -131,7 +137,7 @@ module _ (sp base : ℕ) (link : List ℕ) (linked : length link ≡ base) (fram
       pub stored : IsStored base t value p (image_at sp link x) (image_at sp link after)
       pub keeps : KeepsStubs x after
 
-    put_bytes : length bytes ≤ 8 → AreBytes bytes → IsPut base p.loc bytes (image_at sp link x) (image_at sp link after) × KeepsStubs x after
+    put_bytes : length bytes ≤ place_size p.loc → AreBytes bytes → IsPut base p.loc bytes (image_at sp link x) (image_at sp link after) × KeepsStubs x after
     put_bytes few bytes_are =
         let keeps = keeps_over x bytes p.loc long are lies few bytes_are in
         (put_there sp base link linked x long are p.loc lies bytes few keeps.are, keeps)
@@ -139,13 +145,13 @@ module _ (sp base : ℕ) (link : List ℕ) (linked : length link ≡ base) (fram
     free_moved : p.ext ≡ Free → IsMoved
     free_moved ext =
         let is : bytes ≡ source = ap (λ e. moved (filling e (scalar_of t)) frame values (at + p.off) p.len) ext in
-        let put = put_bytes (omega (arith, ap length is, source_long, of.short)) (subst AreBytes (sym is) source_are) in
+        let put = put_bytes (omega (arith, ap length is, source_long, of.fits)) (subst AreBytes (sym is) source_are) in
         let within : p.off + p.len ≤ length value = omega (arith, of.within, sized) in
-        let set = piece_set base p value (image_at sp link x) (image_at sp link after) (of.short, within) (subst (λ z. IsPut base p.loc z (image_at sp link x) (image_at sp link after)) (is ∙ source_is) put.0) in
+        let set = piece_set base p value (image_at sp link x) (image_at sp link after) (of.short, within, of.fits) (subst (λ z. IsPut base p.loc z (image_at sp link x) (image_at sp link after)) (is ∙ source_is) put.0) in
         record { stored = free_stored base value p (image_at sp link x) (image_at sp link after) t ext set; keeps = put.1 }
 
-    word_moved : (n : ℕ) → AreWord bytes n → IsPut base p.loc bytes (image_at sp link x) (image_at sp link after) × KeepsStubs x after
-    word_moved n word = put_bytes (omega (arith, word.long)) word.are
+    word_moved : IsWhole p.loc → (n : ℕ) → AreWord bytes n → IsPut base p.loc bytes (image_at sp link x) (image_at sp link after) × KeepsStubs x after
+    word_moved wide n word = put_bytes (omega (arith, word.long, wide)) word.are
 
     boxed_moved : p.ext ≡ Boxed → IsExtended t p Boxed → IsMoved
     boxed_moved ext e =
@@ -154,8 +160,9 @@ module _ (sp base : ℕ) (link : List ℕ) (linked : length link ≡ base) (fram
         let n = from_le_bytes w64 (to_eight 255 source) in
         let eight = eight_word (to_eight 255 source) (from_le_bytes w64 (to_eight 255 source)) (eight_long source few 255) (eight_are source few 255 (omega arith) source_are) refl in
         let word = subst (λ z. AreWord z (from_le_bytes w64 (to_eight 255 source))) (sym is) eight in
-        let put = word_moved n word in
-        let put_word = word_put base p.loc n bytes (image_at sp link x) (image_at sp link after) word.small word.is put.0 in
+        let wide = floating_whole p.loc e.0 in
+        let put = word_moved wide n word in
+        let put_word = word_put base p.loc n bytes (image_at sp link x) (image_at sp link after) wide word.small word.is put.0 in
         let low : (k : ℕ) → k < 4 → get_or (to_le_bytes w64 (from_le_bytes w64 (to_eight 255 source))) k 0 ≡ get_or value (p.off + k) 0 = λ k h.
         let there : k < length source = omega (arith, h, source_long, e.1) in
         let here : k < p.len = omega (arith, h, e.1) in
@@ -188,8 +195,8 @@ module _ (sp base : ℕ) (link : List ℕ) (linked : length link ≡ base) (fram
         let alone = scalar_is t e.0 in
         let n = widened (scalar_of t) value in
         let word = subst (λ z. AreWord z (widened (scalar_of t) value)) (sym is) (widen_word (scalar_of t) (subst (λ u. is_narrow_integer u ≡ true) alone e.0) (sized ∙ ap size_of alone) (whole e.1 e.2)) in
-        let put = word_moved n word in
-        let put_word = word_put base p.loc n bytes (image_at sp link x) (image_at sp link after) word.small word.is put.0 in
+        let put = word_moved e.3 n word in
+        let put_word = word_put base p.loc n bytes (image_at sp link x) (image_at sp link after) e.3 word.small word.is put.0 in
         record {
           stored = widened_stored base value p (image_at sp link x) (image_at sp link after) value_are t n ext e sized refl put_word;
           keeps = put.1;
@@ -201,8 +208,8 @@ module _ (sp base : ℕ) (link : List ℕ) (linked : length link ≡ base) (fram
         let alone = scalar_is t e.0 in
         let n = widened_from_32 (scalar_of t) value in
         let word = subst (λ z. AreWord z (widened_from_32 (scalar_of t) value)) (sym is) (riscv_word (scalar_of t) (subst (λ u. is_narrow_integer u ≡ true) alone e.0) (sized ∙ ap size_of alone) (whole e.1 e.2)) in
-        let put = word_moved n word in
-        let put_word = word_put base p.loc n bytes (image_at sp link x) (image_at sp link after) word.small word.is put.0 in
+        let put = word_moved e.3 n word in
+        let put_word = word_put base p.loc n bytes (image_at sp link x) (image_at sp link after) e.3 word.small word.is put.0 in
         record {
           stored = from_32_stored base value p (image_at sp link x) (image_at sp link after) value_are t n ext e sized refl put_word;
           keeps = put.1;

@@ -18,7 +18,7 @@ use Rattle.ffi3_place_rules.specs.Image.{Image}
 use Rattle.ffi3_place_rules.specs.Agrees.{AgreesWithMachine}
 use Rattle.ffi3_place_rules.specs.Standard.{Standard, plan_of, frame_of}
 use Rattle.ffi3_place_rules.specs.Holds.{OwnsHidden, RegisterHolds}
-use Rattle.ffi3_place_rules.specs.Sound.{Apart, IsNoneOf, IsSound, LiesIn, argument_locs, buffer_locs, copy_locs, hidden_locs, place_locs}
+use Rattle.ffi3_place_rules.specs.Sound.{IsWhole, Apart, IsNoneOf, IsSound, LiesIn, argument_locs, buffer_locs, copy_locs, hidden_locs, place_locs}
 use Rattle.ffi3_pieces.specs.Stored.{IsPlace}
 use Rattle.ffi3_pieces.specs.Standing.{all_uses, AreReady}
 use Rattle.ffi3_pieces.proofs.Arguments.{lies_more}
@@ -44,7 +44,7 @@ use Rattle.ffi3_moves.proofs.Passing.{arguments_played, play_append, word_moved}
 pub place_more : (n m : ℕ) → n ≤ m → (l : Loc) → IsPlace n l → IsPlace m l
 place_more n m h (G r) lies = lies
 place_more n m h (F r) lies = lies
-place_more n m h (S k) lies = omega (arith, h, lies)
+place_more n m h (S k w) lies = (omega (arith, h, lies.0), lies.1, lies.2)
 
 pub ready_more : (target : Target) (n m : ℕ) → n ≤ m → (ts : List Tree) (ps : List Place) → AreReady target n ts ps → AreReady target m ts ps
 ready_more target n m h [] [] ready = tt
@@ -63,7 +63,7 @@ register_stays : (base : ℕ) (k : Option Loc) (n : ℕ) (ls : List Loc) (a b : 
 register_stays base None n ls a b registers none s holds = tt
 register_stays base (Some (G r)) n ls a b registers none s holds = s.others (G r) none.0 ∙ holds
 register_stays base (Some (F r)) n ls a b registers none s holds = s.others (F r) none.0 ∙ holds
-register_stays base (Some (S k)) n ls a b registers none s holds = absurd (omega (arith, registers.0))
+register_stays base (Some (S k w)) n ls a b registers none s holds = absurd (omega (arith, registers.0.0, registers.0.1))
 
 address_played : (frame : ℕ) (r : Res) (values x : List ℕ) → play frame (moves_of (hidden_in r)) values x ≡ with_address (address_of frame r) r x
 address_played frame Nothing values x = refl
@@ -84,23 +84,23 @@ module _ (sp base : ℕ) (link : List ℕ) (linked : length link ≡ base) where
   count_played : (frame : ℕ) (k : Option Loc) (n : ℕ) (values x : List ℕ) → n < 2 ^ 64 → frame_at ≤ length x → AreBytes x → AllByRecursion (IsPlace 0) (to_list k) → IsCountPlayed k n x (play frame (count_in k n) values x)
   count_played frame None n values x small long are registers = record { told = tt; stays = stays_none base (image_at sp link x); keeps = keeps_none x are }
   count_played frame (Some (G r)) n values x small long are registers =
-      let word = word_moved sp base link linked x (G r) n long are registers.0 small in
+      let word = word_moved sp base link linked x (G r) n long are registers.0 refl small in
       record { told = word.put.word; stays = word.put.stays; keeps = word.keeps }
   count_played frame (Some (F r)) n values x small long are registers =
-      let word = word_moved sp base link linked x (F r) n long are registers.0 small in
+      let word = word_moved sp base link linked x (F r) n long are registers.0 refl small in
       record { told = word.put.word; stays = word.put.stays; keeps = word.keeps }
-  count_played frame (Some (S k)) n values x small long are registers = absurd (omega (arith, registers.0))
+  count_played frame (Some (S k w)) n values x small long are registers = absurd (omega (arith, registers.0.0, registers.0.1))
 
   record IsAddressPlayed (r : Res) (address : ℕ) (x y : List ℕ) : Type 0 where
     told : HasAddress base (image_at sp link y) address r
     stays : Stays base (hidden_locs r) (image_at sp link x) (image_at sp link y)
     keeps : KeepsStubs x y
 
-  address_written : (r : Res) (address : ℕ) (x : List ℕ) → address < 2 ^ 64 → frame_at ≤ length x → AreBytes x → AllByRecursion (IsPlace (length x - frame_at)) (hidden_locs r) → IsAddressPlayed r address x (with_address address r x)
-  address_written Nothing address x small long are lie = record { told = tt; stays = stays_none base (image_at sp link x); keeps = keeps_none x are }
-  address_written (DirectRes pieces) address x small long are lie = record { told = tt; stays = stays_none base (image_at sp link x); keeps = keeps_none x are }
-  address_written (Hidden at buffer) address x small long are lie =
-      let word = word_moved sp base link linked x at address long are lie.0 small in
+  address_written : (r : Res) (address : ℕ) (x : List ℕ) → address < 2 ^ 64 → frame_at ≤ length x → AreBytes x → AllByRecursion (IsPlace (length x - frame_at)) (hidden_locs r) → AllByRecursion IsWhole (hidden_locs r) → IsAddressPlayed r address x (with_address address r x)
+  address_written Nothing address x small long are lie wide = record { told = tt; stays = stays_none base (image_at sp link x); keeps = keeps_none x are }
+  address_written (DirectRes pieces) address x small long are lie wide = record { told = tt; stays = stays_none base (image_at sp link x); keeps = keeps_none x are }
+  address_written (Hidden at buffer) address x small long are lie wide =
+      let word = word_moved sp base link linked x at address long are lie.0 wide.0 small in
       record { told = word.put.word; stays = word.put.stays; keeps = word.keeps }
 
 module _ (std : Standard) (s : Signature) (sound : IsSound std s) (right : SignatureHasNoFault s) (agrees : AgreesWithMachine std) where
@@ -159,7 +159,7 @@ module _ (std : Standard) (s : Signature) (sound : IsSound std s) (right : Signa
         let b = second in
         let size_b : length second ≡ length x = two.keeps.size ∙ one.keeps.size in
         let lie : AllByRecursion (IsPlace (length second - frame_at)) (hidden_locs (plan_of std s).res) = hidden_lies (length second - frame_at) (omega (arith, size_b, room)) in
-        let three = address_written sp std.link link linked res address b small (omega (arith, size_b, long)) two.keeps.are lie in
+        let three = address_written sp std.link link linked res address b small (omega (arith, size_b, long)) two.keeps.are lie sound.address in
         let d = with_address address res second in
         let stand_b = all_stay std.link std.target (frame_of std s) (to_list std.vector_count) (image_at sp link a) (image_at sp link b) ts ps values ready (count_clear std s sound registers) two.stays one.stand in
         let stand_d = all_stay std.link std.target (frame_of std s) (hidden_locs res) (image_at sp link b) (image_at sp link d) ts ps values ready (hidden_clear std s sound) three.stays stand_b in

@@ -23,7 +23,7 @@ use Rattle.ffi3_moves.specs.Play.{frame_at}
 abbrev pub exchange_at : Loc → ℕ
 exchange_at (G r) = 8 * r
 exchange_at (F r) = 256 + 8 * r
-exchange_at (S n) = frame_at + n
+exchange_at (S n w) = frame_at + n
 
 -- by the sign of an integer's type
 abbrev pub by_sign : Bool → Kind

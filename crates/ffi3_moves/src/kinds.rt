@@ -16,7 +16,7 @@ pub(crate) fn exchange_at(at: Loc) -> u64
     match at {
         Loc::G(r) => 8 * r as u64,
         Loc::F(r) => 256 + 8 * r as u64,
-        Loc::S(n) => FRAME_AT + n as u64,
+        Loc::S(n, _) => FRAME_AT + n as u64,
     }
 }
 

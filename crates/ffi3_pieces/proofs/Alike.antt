@@ -17,6 +17,7 @@ use Rattle.ffi3_place_rules.specs.declared.Res.TheVariants.{Nothing, Direct as D
 use Rattle.ffi3_place_rules.specs.Image.{Image, byte_at, word_at}
 use Rattle.ffi3_place_rules.specs.Holds.{leaf_bytes, Carries, LeavesStand, OwnsArgument, OwnsArguments, OwnsHidden, FillsAs, FillPieces, FillsArgument, FillArguments, RegisterHolds}
 use Rattle.ffi3_place_rules.specs.Sound.{hidden_locs, piece_locs, place_locs}
+use Rattle.ffi3_place_rules.proofs.Words.{same_bytes}
 use Rattle.ffi3_place_rules.specs.Isa.{to_list}
 use Rattle.ffi3_pieces.specs.Stored.{IsPlace}
 use Rattle.ffi3_pieces.proofs.Lawful.{each_first, each_rest}
@@ -35,7 +36,7 @@ module _ (c b : ℕ) (IsKept : Loc → Type 0) (old new : Image) (is : AreAlike 
   byte_same : (l : Loc) (k : ℕ) → IsKept l → byte_at new b l k ≡ byte_at old c l k
   byte_same (G r) k kept = ap (λ n. get_or (to_le_bytes w64 n) k 0) (is.general r kept)
   byte_same (F r) k kept = ap (λ n. get_or (to_le_bytes w64 n) k 0) (is.floating r kept)
-  byte_same (S n) k kept =
+  byte_same (S n w) k kept =
       let there : b + n + k ≡ b + (n + k) = omega arith in
       let here : c + (n + k) ≡ c + n + k = omega arith in
       ap (λ i. get_or new.stack i 0) there ∙ stack_same (n + k) ∙ ap (λ i. get_or old.stack i 0) here
@@ -43,16 +44,8 @@ module _ (c b : ℕ) (IsKept : Loc → Type 0) (old new : Image) (is : AreAlike 
   word_same : (l : Loc) → IsKept l → word_at new b l ≡ word_at old c l
   word_same (G r) kept = is.general r kept
   word_same (F r) kept = is.floating r kept
-  word_same (S n) kept =
-      let e0 = byte_same (S n) 0 kept in
-      let e1 = byte_same (S n) 1 kept in
-      let e2 = byte_same (S n) 2 kept in
-      let e3 = byte_same (S n) 3 kept in
-      let e4 = byte_same (S n) 4 kept in
-      let e5 = byte_same (S n) 5 kept in
-      let e6 = byte_same (S n) 6 kept in
-      let e7 = byte_same (S n) 7 kept in
-      λ i. from_le_bytes w64 (e0 i ∷ e1 i ∷ e2 i ∷ e3 i ∷ e4 i ∷ e5 i ∷ e6 i ∷ e7 i ∷ [])
+  word_same (S n w) kept =
+      ap (from_le_bytes w64) (same_bytes (byte_at new b (S n w)) (byte_at old c (S n w)) w (λ k h. byte_same (S n w) k kept))
 
   -- ---- arguments
 
@@ -115,4 +108,4 @@ module _ (c b : ℕ) (IsKept : Loc → Type 0) (old new : Image) (is : AreAlike 
   count_held None n lie kept h = tt
   count_held (Some (G r)) n lie kept h = is.general r kept.0 ∙ h
   count_held (Some (F r)) n lie kept h = is.floating r kept.0 ∙ h
-  count_held (Some (S k)) n lie kept h = absurd (omega (arith, lie.0))
+  count_held (Some (S k w)) n lie kept h = absurd (omega (arith, lie.0.0, lie.0.1))

@@ -127,13 +127,13 @@ lies_more n m t (Direct pieces) h lies = all_more n m h (piece_locs pieces) lies
     all_more n m h [] all = tt
     all_more n m h (G r ∷ ls) all = (all.0, all_more n m h ls all.1)
     all_more n m h (F r ∷ ls) all = (all.0, all_more n m h ls all.1)
-    all_more n m h (S k ∷ ls) all = (omega (arith, h, all.0), all_more n m h ls all.1)
+    all_more n m h (S k w ∷ ls) all = ((omega (arith, h, all.0.0), all.0.1, all.0.2), all_more n m h ls all.1)
 lies_more n m t (ByRef at copy) h lies = (one_more n m h at lies.0, omega (arith, h, lies.1))
   where
     one_more : (n m : ℕ) → n ≤ m → (l : Loc) → IsPlace n l → IsPlace m l
     one_more n m h (G r) lies = lies
     one_more n m h (F r) lies = lies
-    one_more n m h (S k) lies = omega (arith, h, lies)
+    one_more n m h (S k w) lies = (omega (arith, h, lies.0), lies.1, lies.2)
 
 -- what the laws say of the argument at j
 pub lawful_argument : (std : Standard) (s : Signature) → IsSound std s → SignatureHasNoFault s → (base : ℕ) (target : Target) (vs : List ValueTree) → AllByRecursion (IsWritable target) (argument_locs (plan_of std s)) → all_fit (trees_of s.arguments) (values_of vs) ≡ true → (j : ℕ) (t : Tree) (p : Place) (v : ValueTree) → j < length s.arguments → t ≡ tree_at s.arguments j → slice_get (plan_of std s).places j ≡ Some p → v ≡ get_or vs j void_value → AtArgument base target (frame_of std s) s.arguments (plan_of std s).places vs j t p v

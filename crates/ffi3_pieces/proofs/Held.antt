@@ -1,6 +1,6 @@
 -- What stubs load into registers and store from them, as words of a machine and of what a call passes.
 use Rattle.std.specs.Prelude.{◌||◌, slice_index}
-use Rattle.std.proofs.Common.{◌≡◌, ⊎_elim, ℕ, ◌^◌, ◌<◌, Bool, true, false, List, [], ◌∷◌, refl, ap, sym, ◌∙◌, arith}
+use Rattle.std.proofs.Common.{◌≡◌, ℕ, ◌^◌, ◌<◌, Bool, true, false, List, [], ◌∷◌, refl, ap, sym, ◌∙◌, arith}
 use Rattle.std.proofs.lemmas.Bool.{ne_eqb}
 use Rattle.ffi3_memory.specs.Memory.{low_bytes}
 use Rattle.ffi3_place_rules.specs.declared.Loc.{Loc}
@@ -20,14 +20,13 @@ use Rattle.ffi3_pieces.proofs.Tables.{one_of_each}
 apart_not_same : (l m : Loc) → Apart l m → same_loc l m ≡ false
 apart_not_same (G a) (G b) h = ne_eqb a b h
 apart_not_same (F a) (F b) h = ne_eqb a b h
-apart_not_same (S a) (S b) h =
-    ne_eqb a b (λ e. ⊎_elim (λ x. absurd (omega (arith, x, e))) (λ x. absurd (omega (arith, x, e))) h)
+apart_not_same (S a v) (S b w) h = refl
 apart_not_same (G a) (F b) h = refl
-apart_not_same (G a) (S b) h = refl
+apart_not_same (G a) (S b w) h = refl
 apart_not_same (F a) (G b) h = refl
-apart_not_same (F a) (S b) h = refl
-apart_not_same (S a) (G b) h = refl
-apart_not_same (S a) (F b) h = refl
+apart_not_same (F a) (S b w) h = refl
+apart_not_same (S a w) (G b) h = refl
+apart_not_same (S a w) (F b) h = refl
 
 or_false : (a b : Bool) → a ≡ false → b ≡ false → (a || b) ≡ false
 or_false false b h k = k
@@ -43,18 +42,18 @@ none_in (m ∷ ms) l h =
 pub word_held : (base : ℕ) (l : Loc) (s : State) → IsPlace 0 l → word_in base s l ≡ held l s
 word_held base (G r) s lies = refl
 word_held base (F r) s lies = refl
-word_held base (S n) s lies = absurd (omega (arith, lies))
+word_held base (S n w) s lies = absurd (omega (arith, lies.0, lies.1))
 
 pub held_small : (l : Loc) (s : State) → IsMachine s → held l s < 2 ^ 64
 held_small (G r) s is = is.general_words r
 held_small (F r) s is = is.floating_words r
-held_small (S n) s is = omega arith
+held_small (S n w) s is = omega arith
 
 -- registers that a stub leaves
 pub left_by : (ls : List Loc) (m n : State) → OthersStay ls m n → (l : Loc) → IsPlace 0 l → IsNoneOf ls l → SameAt 0 l m n
 left_by ls m n stay (G r) lies none = stay (G r) (none_in ls (G r) none)
 left_by ls m n stay (F r) lies none = stay (F r) (none_in ls (F r) none)
-left_by ls m n stay (S k) lies none = absurd (omega (arith, lies))
+left_by ls m n stay (S k w) lies none = absurd (omega (arith, lies.0, lies.1))
 
 -- ---- registers that a stub loads hold what was passed
 
@@ -64,7 +63,7 @@ loaded_as_passed true e ls m t n same came (G r) lies some =
     one_of_each (λ l. held l n ≡ x_of (exchanged_at l) t) (G r) ls came some ∙ same (G r) lies ∙ sym (word_passed 0 (G r) m lies)
 loaded_as_passed true e ls m t n same came (F r) lies some =
     one_of_each (λ l. held l n ≡ x_of (exchanged_at l) t) (F r) ls came some ∙ same (F r) lies ∙ sym (word_passed 0 (F r) m lies)
-loaded_as_passed true e ls m t n same came (S k) lies some = absurd (omega (arith, lies))
+loaded_as_passed true e ls m t n same came (S k w) lies some = absurd (omega (arith, lies.0, lies.1))
 
 -- ---- what a stub stores is passed
 
@@ -78,4 +77,4 @@ stored_as_passed true e ls m t n is general floating went (F r) lies some =
     let there : exchange_bytes (exchanged_at (F r)) n ≡ low_bytes 8 (held (F r) t) = one_of_each (λ l. exchange_bytes (exchanged_at l) n ≡ low_bytes 8 (held l t)) (F r) ls went some in
     let same : held (F r) t ≡ held (F r) m = ap (λ xs. slice_index xs r) floating in
     word_passed 0 (F r) n lies ∙ number_stored (exchanged_at (F r)) (held (F r) m) n (there ∙ ap (low_bytes 8) same) (held_small (F r) m is)
-stored_as_passed true e ls m t n is general floating went (S k) lies some = absurd (omega (arith, lies))
+stored_as_passed true e ls m t n is general floating went (S k w) lies some = absurd (omega (arith, lies.0, lies.1))

@@ -179,7 +179,7 @@ machine_place Aarch64 n (G r) h = omega (arith, h)
 machine_place Aarch64 n (F r) h = omega (arith, h)
 machine_place Riscv n (G r) h = omega (arith, h)
 machine_place Riscv n (F r) h = omega (arith, h)
-machine_place isa n (S k) h = h
+machine_place isa n (S k w) h = h
 
 pub machine_places : (isa : Isa) (n : ℕ) (ls : List Loc) → AllByRecursion (LiesIn isa n) ls → AllByRecursion (IsPlace n) ls
 machine_places isa n ls h =

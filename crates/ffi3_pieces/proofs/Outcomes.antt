@@ -25,7 +25,7 @@ module _ (a b : Image) (IsKept : Loc → Type 0) (sp : b.sp ≡ a.sp) (stack : b
   byte_kept : (l : Loc) (k : ℕ) → IsPlace 0 l → IsKept l → byte_at b 0 l k ≡ byte_at a 0 l k
   byte_kept (G r) k lies kept = ap (λ n. get_or (to_le_bytes w64 n) k 0) (same (G r) lies kept)
   byte_kept (F r) k lies kept = ap (λ n. get_or (to_le_bytes w64 n) k 0) (same (F r) lies kept)
-  byte_kept (S n) k lies kept = absurd (omega (arith, lies))
+  byte_kept (S n w) k lies kept = absurd (omega (arith, lies.0, lies.1))
 
   pieces_kept : (o x : ℕ) (pieces : List Piece) → AllByRecursion (IsPlace 0) (piece_locs pieces) → AllByRecursion IsKept (piece_locs pieces) → AllByRecursion (λ p. Carries o p → byte_at a 0 p.loc (o - p.off) ≡ x) pieces → AllByRecursion (λ p. Carries o p → byte_at b 0 p.loc (o - p.off) ≡ x) pieces
   pieces_kept o x [] lie kept h = tt

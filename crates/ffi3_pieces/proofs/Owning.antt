@@ -1,6 +1,6 @@
 -- Arguments that stand at their places in a machine are owned by its image.
 use Rattle.std.specs.Prelude.{true}
-use Rattle.std.proofs.Common.{◌≡◌, ℕ, ◌+◌, ◌-◌, ◌<◌, ◌≤◌, List, [], ◌∷◌, take, drop, get_or, length, refl, ap, sym, ◌∙◌, subst, arith, lit<}
+use Rattle.std.proofs.Common.{◌≡◌, ℕ, ◌+◌, ◌-◌, ◌<◌, ◌≤◌, List, [], ◌∷◌, take, drop, get_or, length, refl, ap, sym, ◌∙◌, subst, arith}
 use Rattle.std.specs.List.{AllByRecursion}
 use Rattle.std.specs.Int.{w64, from_le_bytes}
 use Rattle.std.proofs.lemmas.List.{drop-drop, drop-take, take-take, get_or-take, get_or-drop}
@@ -15,7 +15,8 @@ use Rattle.ffi3_place_rules.specs.declared.Place.{Place}
 use Rattle.ffi3_place_rules.specs.declared.Place.TheVariants.{Direct, ByRef}
 use Rattle.ffi3_place_rules.specs.Image.{byte_at, word_at}
 use Rattle.ffi3_place_rules.specs.Holds.{leaf_bytes, Carries, LeavesStand, OwnsArgument, OwnsArguments, FillsAs, FillPieces, FillsArgument, FillArguments}
-use Rattle.ffi3_place_rules.specs.Sound.{IsPieceOf, piece_locs}
+use Rattle.ffi3_place_rules.specs.Sound.{IsPieceOf, piece_locs, place_size}
+use Rattle.ffi3_place_rules.proofs.Words.{same_bytes}
 use Rattle.ffi3_place_rules.proofs.Tests.{and_left, and_right}
 use Rattle.ffi3_type_rules.specs.declared.limits.TheConstants.{STACK}
 use Rattle.ffi3_machine.specs.State.{State, image_of, stack_at}
@@ -32,26 +33,18 @@ part_of_frame xs n at size room =
     take_less ys i j h = take-take i j ys h
 
 module _ (m : State) (len : ℕ) (low : STACK ≤ m.sp) where
-  pub image_byte : (l : Loc) (k : ℕ) → IsPlace len l → k < 8 → byte_at (image_of len m) 0 l k ≡ byte_of m.sp m l k
+  pub image_byte : (l : Loc) (k : ℕ) → IsPlace len l → k < place_size l → byte_at (image_of len m) 0 l k ≡ byte_of m.sp m l k
   image_byte (G r) k lies h = refl
   image_byte (F r) k lies h = refl
-  image_byte (S n) k lies h =
+  image_byte (S n w) k lies h =
       let there : m.sp - STACK + (0 + n + k) ≡ m.sp + n + k - STACK = omega (arith, low) in
-      get_or-take len (drop (m.sp - STACK) m.stack) (0 + n + k) 0 (omega (arith, lies, h)) ∙ get_or-drop (m.sp - STACK) m.stack (0 + n + k) 0 ∙ ap (λ i. get_or m.stack i 0) there
+      get_or-take len (drop (m.sp - STACK) m.stack) (0 + n + k) 0 (omega (arith, lies.0, h)) ∙ get_or-drop (m.sp - STACK) m.stack (0 + n + k) 0 ∙ ap (λ i. get_or m.stack i 0) there
 
   pub image_word : (l : Loc) → IsPlace len l → word_at (image_of len m) 0 l ≡ word_in m.sp m l
   image_word (G r) lies = refl
   image_word (F r) lies = refl
-  image_word (S n) lies =
-      let e0 = image_byte (S n) 0 lies (lit< tt) in
-      let e1 = image_byte (S n) 1 lies (lit< tt) in
-      let e2 = image_byte (S n) 2 lies (lit< tt) in
-      let e3 = image_byte (S n) 3 lies (lit< tt) in
-      let e4 = image_byte (S n) 4 lies (lit< tt) in
-      let e5 = image_byte (S n) 5 lies (lit< tt) in
-      let e6 = image_byte (S n) 6 lies (lit< tt) in
-      let e7 = image_byte (S n) 7 lies (lit< tt) in
-      λ i. from_le_bytes w64 (e0 i ∷ e1 i ∷ e2 i ∷ e3 i ∷ e4 i ∷ e5 i ∷ e6 i ∷ e7 i ∷ [])
+  image_word (S n w) lies =
+      ap (from_le_bytes w64) (same_bytes (byte_at (image_of len m) 0 (S n w)) (byte_of m.sp m (S n w)) w (λ k h. image_byte (S n w) k lies h))
 
   -- ---- pieces
 
@@ -68,8 +61,8 @@ module _ (m : State) (len : ℕ) (low : STACK ≤ m.sp) where
         one : Carries (l.at + k) p → byte_at (image_of len m) 0 p.loc (l.at + k - p.off) ≡ get_or b k 0
         one c =
             let index : l.at + k ≡ p.off + (l.at + k - p.off) = omega (arith, c.0) in
-            let short = parts.0.short in
-            image_byte p.loc (l.at + k - p.off) lie.0 (omega (arith, c.0, c.1, short)) ∙ (stand.0 (l.at + k - p.off) (omega (arith, c.0, c.1))).0 k h index
+            let fits = parts.0.fits in
+            image_byte p.loc (l.at + k - p.off) lie.0 (omega (arith, c.0, c.1, fits)) ∙ (stand.0 (l.at + k - p.off) (omega (arith, c.0, c.1))).0 k h index
 
     later_leaves : (l : Leaf) (b : List ℕ) (ls : List Leaf) (bs : List (List ℕ)) (pieces : List Piece) → AllByRecursion (HasEach (l ∷ ls) (b ∷ bs)) pieces → AllByRecursion (HasEach ls bs) pieces
     later_leaves l b ls bs [] stand = tt

@@ -155,10 +155,10 @@ own_same true (G r) x y h g f same behind =
 own_same true (F r) x y h g f same behind =
     let parts = same_prefix y.general x.general (y.floating ++ drop 512 y.exchange) (x.floating ++ drop 512 x.exchange) (sym g) behind in
     ap (λ e. get_or e r 0) (same_prefix y.floating x.floating (drop 512 y.exchange) (drop 512 x.exchange) (sym f) parts.1).0
-own_same true (S n) x y h g f same behind = absurd (omega (arith, h))
+own_same true (S n w) x y h g f same behind = absurd (omega (arith, h.0, h.1))
 own_same false (G r) x y h g f same behind = same
 own_same false (F r) x y h g f same behind = same
-own_same false (S n) x y h g f same behind = absurd (omega (arith, h))
+own_same false (S n w) x y h g f same behind = absurd (omega (arith, h.0, h.1))
 
 -- the same of two states of one target
 pub own_register : (l : Loc) (x y : State) → IsPlace 0 l → y.target ≡ x.target → length x.general ≡ length y.general → length x.floating ≡ length y.floating → SameAt 0 l (passing x) (passing y) → (passing y).exchange ≡ (passing x).exchange → SameAt 0 l x y
@@ -189,27 +189,27 @@ told_length at v s fits = range_length s.exchange (low_bytes 8 v) at (at + lengt
 pub word_passed : (base : ℕ) (l : Loc) (s : State) → IsPlace 0 l → word_in base (passing_if true s) l ≡ x_of (exchanged_at l) s
 word_passed base (G r) s h = sym (general_read true r s refl h)
 word_passed base (F r) s h = sym (floating_read true r s refl h)
-word_passed base (S n) s h = absurd (omega (arith, h))
+word_passed base (S n w) s h = absurd (omega (arith, h.0, h.1))
 
 -- below 512
 pub place_low : (l : Loc) → IsPlace 0 l → exchanged_at l + 8 ≤ 512
 place_low (G r) h = omega (arith, h)
 place_low (F r) h = omega (arith, h)
-place_low (S n) h = absurd (omega (arith, h))
+place_low (S n w) h = absurd (omega (arith, h.0, h.1))
 
 pub number_stored : (at v : ℕ) (s : State) → take 8 (drop at s.exchange) ≡ low_bytes 8 v → v < 2 ^ 64 → x_of at s ≡ v
 number_stored at v s e small = ap (number_of 8) e ∙ number_low v small
 
-pub word_stored : (from n v : ℕ) (s : State) → STACK ≤ from → take 8 (drop (from + n - STACK) s.stack) ≡ low_bytes 8 v → v < 2 ^ 64 → word_in from s (S n) ≡ v
+pub word_stored : (from n v : ℕ) (s : State) → STACK ≤ from → take 8 (drop (from + n - STACK) s.stack) ≡ low_bytes 8 v → v < 2 ^ 64 → word_in from s (S n 8) ≡ v
 word_stored from n v s low e small =
     word_there from n v s small (λ k h.
     let there : from + n + k - STACK ≡ from + n - STACK + k = omega (arith, low) in
     ap (λ i. get_or s.stack i 0) there ∙ sym (index_part s.stack (from + n - STACK) 8 k h) ∙ ap (λ xs. get_or xs k 0) e)
 
-pub word_read : (from n : ℕ) (s : State) → STACK ≤ from → word_in from s (S n) ≡ number_of 8 (take 8 (drop (from + n - STACK) s.stack))
+pub word_read : (from n : ℕ) (s : State) → STACK ≤ from → word_in from s (S n 8) ≡ number_of 8 (take 8 (drop (from + n - STACK) s.stack))
 word_read from n s low =
     let part : List ℕ = take 8 (drop (from + n - STACK) s.stack) in
-    let e : (k : ℕ) → k < 8 → byte_of from s (S n) k ≡ get_or part k 0 = λ k h. let there : from + n + k - STACK ≡ from + n - STACK + k = omega (arith, low) in
+    let e : (k : ℕ) → k < 8 → byte_of from s (S n 8) k ≡ get_or part k 0 = λ k h. let there : from + n + k - STACK ≡ from + n - STACK + k = omega (arith, low) in
     ap (λ i. get_or s.stack i 0) there ∙ sym (index_part s.stack (from + n - STACK) 8 k h) in
     let e0 = e 0 (lit< tt) in
     let e1 = e 1 (lit< tt) in

@@ -1,13 +1,15 @@
 -- A register that is set, and bytes that are stored on the stack.
 use Rattle.std.specs.Prelude.{◌≢◌, ◌^◌, Bool, true, false, if◌then◌else◌, ◌==◌, min, slice_set, refl}
-use Rattle.std.proofs.Common.{◌≡◌, ℕ, ◌+◌, ◌-◌, ◌<◌, ◌≤◌, ◌⊎◌, inl, inr, List, [], ◌∷◌, ◌++◌, take, drop, get_or, length, ap, sym, ◌∙◌, subst, arith, lit<}
+use Rattle.std.proofs.Common.{◌≡◌, ℕ, ◌+◌, ◌-◌, ◌<◌, ◌≤◌, ◌⊎◌, inl, inr, List, [], ◌∷◌, ◌++◌, map, take, drop, get_or, length, ap, sym, ◌∙◌, subst, arith}
 use Rattle.std.specs.Int.{w64, to_le_bytes, from_le_bytes}
+use Rattle.std.specs.List.{range_with_len}
+use Rattle.std.proofs.lemmas.List.FromFn.{get_or-map-range_with_len}
 use Rattle.std.proofs.lemmas.Bool.{cases_lt}
 use Rattle.std.proofs.lemmas.List.{get_or-set_same, get_or-set_other, get_or_append_left, get_or-append_right, get_or-drop, ext_get_or}
 use Rattle.std.proofs.lemmas.Nat.{from_le_bytes-to_le_bytes_8}
 use Rattle.ffi3_place_rules.specs.declared.Loc.{Loc}
 use Rattle.ffi3_place_rules.specs.declared.Loc.TheVariants.{G, F, S}
-use Rattle.ffi3_place_rules.specs.Sound.{IsNoneOf, IsWithin}
+use Rattle.ffi3_place_rules.specs.Sound.{IsNoneOf, IsWhole, IsWithin}
 use Rattle.ffi3_type_rules.specs.declared.limits.TheConstants.{STACK}
 use Rattle.ffi3_type_rules.specs.Isa.{isa_of}
 use Rattle.ffi3_place_rules.specs.Isa.{is_zero_register}
@@ -35,18 +37,10 @@ same_word m n h i same =
     sym (from_le_bytes-to_le_bytes_8 m h) ∙ ap (from_le_bytes w64) (ext_get_or 0 (to_le_bytes w64 m) (to_le_bytes w64 n) refl same) ∙ from_le_bytes-to_le_bytes_8 n i
 
 -- the eight bytes of a place on the stack make the number
-pub word_there : (base n w : ℕ) (m : State) → w < 2 ^ 64 → ((k : ℕ) → k < 8 → byte_of base m (S n) k ≡ get_or (to_le_bytes w64 w) k 0) → word_in base m (S n) ≡ w
-word_there base n w m h here =
-    let e0 = here 0 (lit< tt) in
-    let e1 = here 1 (lit< tt) in
-    let e2 = here 2 (lit< tt) in
-    let e3 = here 3 (lit< tt) in
-    let e4 = here 4 (lit< tt) in
-    let e5 = here 5 (lit< tt) in
-    let e6 = here 6 (lit< tt) in
-    let e7 = here 7 (lit< tt) in
-    let bytes : (byte_of base m (S n) 0 ∷ byte_of base m (S n) 1 ∷ byte_of base m (S n) 2 ∷ byte_of base m (S n) 3 ∷ byte_of base m (S n) 4 ∷ byte_of base m (S n) 5 ∷ byte_of base m (S n) 6 ∷ byte_of base m (S n) 7 ∷ []) ≡ to_le_bytes w64 w = λ i. e0 i ∷ e1 i ∷ e2 i ∷ e3 i ∷ e4 i ∷ e5 i ∷ e6 i ∷ e7 i ∷ [] in
-    ap (from_le_bytes w64) bytes ∙ from_le_bytes-to_le_bytes_8 w h
+pub word_there : (base n v : ℕ) (m : State) → v < 2 ^ 64 → ((k : ℕ) → k < 8 → byte_of base m (S n 8) k ≡ get_or (to_le_bytes w64 v) k 0) → word_in base m (S n 8) ≡ v
+word_there base n v m h here =
+    let bytes : map (byte_of base m (S n 8)) (range_with_len 0 8) ≡ to_le_bytes w64 v = ext_get_or 0 (map (byte_of base m (S n 8)) (range_with_len 0 8)) (to_le_bytes w64 v) refl (λ k below. get_or-map-range_with_len (byte_of base m (S n 8)) 0 8 k k 0 below (omega arith) ∙ here k below) in
+    ap (from_le_bytes w64) bytes ∙ from_le_bytes-to_le_bytes_8 v h
 
 -- ---- registers
 
@@ -65,7 +59,7 @@ module _ (base r : ℕ) (bytes : List ℕ) (value : ℕ) (old : State) where
       others : (l : Loc) → IsNoneOf (G r ∷ []) l → SameAt base l old (with_general r value old)
       others (G q) none = other_set (is_zero_register (isa_of old.target) r) old.general r q value none.0
       others (F q) none = refl
-      others (S n) none = λ k h. refl
+      others (S n w) none = λ k h. refl
 
   floating_stays : Stays base (F r ∷ []) old (with_floating r value old)
   floating_stays = record { sp = refl; size = refl; others = others }
@@ -73,7 +67,7 @@ module _ (base r : ℕ) (bytes : List ℕ) (value : ℕ) (old : State) where
       others : (l : Loc) → IsNoneOf (F r ∷ []) l → SameAt base l old (with_floating r value old)
       others (G q) none = refl
       others (F q) none = get_or-set_other old.floating r q value 0 none.0
-      others (S n) none = λ k h. refl
+      others (S n w) none = λ k h. refl
 
   general_within : (low high : ℕ) → WroteWithin low high old (with_general r value old)
   general_within low high = record {
@@ -112,7 +106,7 @@ module _ (base r : ℕ) (bytes : List ℕ) (value : ℕ) (old : State) where
         kept = λ k from below. ap (λ n. get_or (to_le_bytes w64 n) k 0) is ∙ word.high k from below;
         stays = general_stays;
         within = λ room lies. general_within base (base + room);
-        whole = λ w h e. is ∙ same_word value w word.below h (λ k below. word.low k (subst (λ xs. k < length xs) (sym e) below) ∙ ap (λ xs. get_or xs k 0) e);
+        whole = λ eight w h e. is ∙ same_word value w word.below h (λ k below. word.low k (subst (λ xs. k < length xs) (sym e) below) ∙ ap (λ xs. get_or xs k 0) e);
       }
 
   pub floating_put : r < length old.floating → HasLow bytes (get_or old.floating r 0) value → IsPut base (F r) bytes old (with_floating r value old)
@@ -122,7 +116,7 @@ module _ (base r : ℕ) (bytes : List ℕ) (value : ℕ) (old : State) where
         kept = λ k from below. ap (λ n. get_or (to_le_bytes w64 n) k 0) is ∙ word.high k from below;
         stays = floating_stays;
         within = λ room lies. floating_within base (base + room);
-        whole = λ w h e. is ∙ same_word value w word.below h (λ k below. word.low k (subst (λ xs. k < length xs) (sym e) below) ∙ ap (λ xs. get_or xs k 0) e);
+        whole = λ eight w h e. is ∙ same_word value w word.below h (λ k below. word.low k (subst (λ xs. k < length xs) (sym e) below) ∙ ap (λ xs. get_or xs k 0) e);
       }
 
 -- ---- the stack
@@ -183,32 +177,36 @@ only_stored to bytes old low fits = record {
   floating = refl;
 }
 
-module _ (base n : ℕ) (bytes : List ℕ) (old : State) (low : STACK ≤ base) (few : length bytes ≤ 8) (fits : base + n - STACK + length bytes ≤ length old.stack) where
-  stack_stays : Stays base (S n ∷ []) old (stored (base + n) bytes old)
+module _ (base n w : ℕ) (bytes : List ℕ) (old : State) (low : STACK ≤ base) (few : length bytes ≤ w) (fits : base + n - STACK + length bytes ≤ length old.stack) where
+  stack_stays : Stays base (S n w ∷ []) old (stored (base + n) bytes old)
   stack_stays = record { sp = refl; size = range_length old.stack bytes (base + n - STACK) (base + n - STACK + length bytes) refl fits; others = others }
     where
-      apart_byte : (q k : ℕ) → k < 8 → (q + 8 ≤ n) ⊎ (n + 8 ≤ q) → get_or (stored (base + n) bytes old).stack (base + q + k - STACK) 0 ≡ get_or old.stack (base + q + k - STACK) 0
-      apart_byte q k h (inl below) = stored_outside (base + n) bytes old (omega (arith, low)) fits (base + q + k - STACK) (inl (omega (arith, low, below, h)))
-      apart_byte q k h (inr above) = stored_outside (base + n) bytes old (omega (arith, low)) fits (base + q + k - STACK) (inr (omega (arith, low, above, few)))
+      apart_byte : (q u k : ℕ) → k < u → (q + u ≤ n) ⊎ (n + w ≤ q) → get_or (stored (base + n) bytes old).stack (base + q + k - STACK) 0 ≡ get_or old.stack (base + q + k - STACK) 0
+      apart_byte q u k h (inl below) = stored_outside (base + n) bytes old (omega (arith, low)) fits (base + q + k - STACK) (inl (omega (arith, low, below, h)))
+      apart_byte q u k h (inr above) = stored_outside (base + n) bytes old (omega (arith, low)) fits (base + q + k - STACK) (inr (omega (arith, low, above, few)))
 
-      others : (l : Loc) → IsNoneOf (S n ∷ []) l → SameAt base l old (stored (base + n) bytes old)
+      others : (l : Loc) → IsNoneOf (S n w ∷ []) l → SameAt base l old (stored (base + n) bytes old)
       others (G q) none = refl
       others (F q) none = refl
-      others (S q) none = λ k h. apart_byte q k h none.0
+      others (S q u) none = λ k h. apart_byte q u k h none.0
 
-  pub stack_put : IsPut base (S n) bytes old (stored (base + n) bytes old)
+  word_is : (v : ℕ) → v < 2 ^ 64 → bytes ≡ to_le_bytes w64 v → word_in base (stored (base + n) bytes old) (S n 8) ≡ v
+  word_is v h e =
+      word_there base n v (stored (base + n) bytes old) h (λ k below. stored_inside (base + n) bytes old (omega (arith, low)) fits k (subst (λ xs. k < length xs) (sym e) below) ∙ ap (λ xs. get_or xs k 0) e)
+
+  pub stack_put : IsPut base (S n w) bytes old (stored (base + n) bytes old)
   stack_put = record {
     here = λ k h. stored_inside (base + n) bytes old (omega (arith, low)) fits k h;
     kept = λ k from below. stored_outside (base + n) bytes old (omega (arith, low)) fits (base + n + k - STACK) (inr (omega (arith, low, from)));
     stays = stack_stays;
-    within = λ room lies. stored_within (base + n) bytes old (omega (arith, low)) fits base (base + room) (omega arith) (omega (arith, lies, few));
-    whole = λ w h e. word_there base n w (stored (base + n) bytes old) h (λ k below. stored_inside (base + n) bytes old (omega (arith, low)) fits k (subst (λ xs. k < length xs) (sym e) below) ∙ ap (λ xs. get_or xs k 0) e);
+    within = λ room lies. stored_within (base + n) bytes old (omega (arith, low)) fits base (base + room) (omega arith) (omega (arith, lies.0, few));
+    whole = λ eight v h e. subst (λ u. word_in base (stored (base + n) bytes old) (S n u) ≡ v) (sym eight) (word_is v h e);
   }
 
-pub word_put : (base : ℕ) (l : Loc) (w : ℕ) (bytes : List ℕ) (old new : State) → w < 2 ^ 64 → bytes ≡ to_le_bytes w64 w → IsPut base l bytes old new → IsWordPut base l w old new
-word_put base l w bytes old new h e is = record {
+pub word_put : (base : ℕ) (l : Loc) (w : ℕ) (bytes : List ℕ) (old new : State) → IsWhole l → w < 2 ^ 64 → bytes ≡ to_le_bytes w64 w → IsPut base l bytes old new → IsWordPut base l w old new
+word_put base l w bytes old new whole h e is = record {
   here = subst (HasBytes base new l) e is.here;
-  word = is.whole w h e;
+  word = is.whole whole w h e;
   stays = is.stays;
   within = is.within;
 }

@@ -15,7 +15,7 @@ use Rattle.ffi3_place_rules.specs.declared.Ext.{Ext}
 use Rattle.ffi3_place_rules.specs.declared.Ext.TheVariants.{Free, Widen, Riscv, Boxed}
 use Rattle.ffi3_place_rules.specs.declared.Piece.{Piece}
 use Rattle.ffi3_place_rules.specs.Holds.{FillsAs, leaf_bytes}
-use Rattle.ffi3_place_rules.specs.Sound.{IsNoneOf, IsPieceOf, piece_locs}
+use Rattle.ffi3_place_rules.specs.Sound.{IsNoneOf, IsPieceOf, piece_locs, place_size}
 use Rattle.ffi3_place_rules.proofs.Elements.{drop_read}
 use Rattle.ffi3_cif.specs.declared.runs.Run.{Run}
 use Rattle.ffi3_cif.specs.Runs.{AreRunsOf, Copies, Neighbours, OneCopies, Rises}
@@ -30,11 +30,11 @@ use Rattle.ffi3_pieces.proofs.Runs.{IsClearAbove, IsRunCopied, clear_of_pieces, 
 
 -- ---- pieces that go by runs
 
-goes : (Q : Type 0) (l : Loc) (e : Ext) → goes_by_run l e ≡ true → ((n : ℕ) → l ≡ S n → e ≡ Free → Q) → Q
-goes Q (S n) Free h f = f n refl refl
-goes Q (S n) Widen h f = cc
-goes Q (S n) Riscv h f = cc
-goes Q (S n) Boxed h f = cc
+goes : (Q : Type 0) (l : Loc) (e : Ext) → goes_by_run l e ≡ true → ((n w : ℕ) → l ≡ S n w → e ≡ Free → Q) → Q
+goes Q (S n w) Free h f = f n w refl refl
+goes Q (S n w) Widen h f = cc
+goes Q (S n w) Riscv h f = cc
+goes Q (S n w) Boxed h f = cc
 goes Q (G r) e h f = cc
 goes Q (F r) e h f = cc
 
@@ -42,10 +42,10 @@ goes Q (F r) e h f = cc
 pub registers_given : (base : ℕ) (t : Tree) (v : ValueTree) (m : State) (ps : List Piece) → AllByRecursion (IsPlace 0) (piece_locs ps) → AllByRecursion (λ p. goes_by_run p.loc p.ext ≡ true → PieceStands base m t v p) ps
 registers_given base t v m [] lie = tt
 registers_given base t v m (p ∷ ps) lie =
-    (λ by. goes (PieceStands base m t v p) p.loc p.ext by (λ n here free. absurd (no_stack n (subst (IsPlace 0) here lie.0))), registers_given base t v m ps lie.1)
+    (λ by. goes (PieceStands base m t v p) p.loc p.ext by (λ n w here free. absurd (no_stack n w (subst (IsPlace 0) here lie.0))), registers_given base t v m ps lie.1)
   where
-    no_stack : (n : ℕ) → n + 8 ≤ 0 → ⊥
-    no_stack n h = omega (arith, h)
+    no_stack : (n w : ℕ) → IsPlace 0 (S n w) → ⊥
+    no_stack n w h = omega (arith, h.0, h.1)
 
 -- ---- one run
 
@@ -155,30 +155,30 @@ module _ (base : ℕ) (t : Tree) (v : ValueTree) (low : STACK ≤ base) where
   module _ (runs : List Run) (top : ℕ) (first m : State) (is : AreRunsStored base t v runs first m) (only : WroteOnly base top first m) where
     -- ---- one piece
 
-    stands_at : (p : Piece) (n : ℕ) → IsRunCopied runs p → p.loc ≡ S n → p.ext ≡ Free → PieceStands base m t v p
-    stands_at p n copied here free = (
+    stands_at : (p : Piece) (n w : ℕ) → IsRunCopied runs p → p.loc ≡ S n w → p.ext ≡ Free → PieceStands base m t v p
+    stands_at p n w copied here free = (
       λ k h.
           let there : base + (n + k) ≡ base + n + k = omega arith in
-          subst (λ l. IsByteOf (leaves_of t) (leaf_bytes v) (p.off + k) (byte_of base m l k)) (sym here) (subst (λ i. IsByteOf (leaves_of t) (leaf_bytes v) (p.off + k) (stack_byte m i)) there (is.stand (n + k) (p.off + k) (copied n k here h))),
+          subst (λ l. IsByteOf (leaves_of t) (leaf_bytes v) (p.off + k) (byte_of base m l k)) (sym here) (subst (λ i. IsByteOf (leaves_of t) (leaf_bytes v) (p.off + k) (stack_byte m i)) there (is.stand (n + k) (p.off + k) (copied n w k here h))),
       subst (λ e. FillsAs e (word_in base m p.loc) t v) (sym free) tt,
     )
 
     piece_by_run : (p : Piece) → IsRunCopied runs p → goes_by_run p.loc p.ext ≡ true → PieceStands base m t v p
-    piece_by_run p copied by = goes (PieceStands base m t v p) p.loc p.ext by (λ n here free. stands_at p n copied here free)
+    piece_by_run p copied by = goes (PieceStands base m t v p) p.loc p.ext by (λ n w here free. stands_at p n w copied here free)
 
     pub each_by_run : (ps : List Piece) → AllByRecursion (IsRunCopied runs) ps → AllByRecursion (λ p. goes_by_run p.loc p.ext ≡ true → PieceStands base m t v p) ps
     each_by_run [] copied = tt
     each_by_run (p ∷ ps) copied = (piece_by_run p copied.0, each_by_run ps copied.1)
 
     -- by the place
-    kept_at : (p : Piece) (l : Loc) → p.loc ≡ l → IsRunCopied runs p → IsClearAbove runs p → (k : ℕ) → k < 8 → (k < p.len → IsPadding t (p.off + k)) → byte_of base m l k ≡ byte_of base first l k
+    kept_at : (p : Piece) (l : Loc) → p.loc ≡ l → IsRunCopied runs p → IsClearAbove runs p → (k : ℕ) → k < place_size l → (k < p.len → IsPadding t (p.off + k)) → byte_of base m l k ≡ byte_of base first l k
     kept_at p (G r) here copied clear k below none = ap (λ xs. get_or (to_le_bytes w64 (get_or xs r 0)) k 0) only.general
     kept_at p (F r) here copied clear k below none = ap (λ xs. get_or (to_le_bytes w64 (get_or xs r 0)) k 0) only.floating
-    kept_at p (S n) here copied clear k below none =
+    kept_at p (S n w) here copied clear k below none =
         let there : base + (n + k) ≡ base + n + k = omega arith in
         subst (λ i. stack_byte m i ≡ stack_byte first i) there (elim (cases_lt k p.len) [
-          | inl inside ↦ is.unused (n + k) (p.off + k) (copied n k here inside) (none inside)
-          | inr above ↦ is.others (n + k) (λ off c. clear n k off here above below c)
+          | inl inside ↦ is.unused (n + k) (p.off + k) (copied n w k here inside) (none inside)
+          | inr above ↦ is.others (n + k) (λ off c. clear n w k off here above below c)
         ])
 
     pub each_kept : (ps : List Piece) → AllByRecursion (IsRunCopied runs) ps → AllByRecursion (IsClearAbove runs) ps → AllByRecursion (KeepsUnused base t first m) ps
@@ -193,9 +193,9 @@ module _ (base : ℕ) (t : Tree) (v : ValueTree) (low : STACK ≤ base) where
       others : (l : Loc) → IsNoneOf (piece_locs pieces) l → SameAt base l first m
       others (G r) none = ap (λ xs. get_or xs r 0) only.general
       others (F r) none = ap (λ xs. get_or xs r 0) only.floating
-      others (S q) none = λ k h.
+      others (S q w) none = λ k h.
           let there : base + (q + k) ≡ base + q + k = omega arith in
-          subst (λ i. stack_byte m i ≡ stack_byte first i) there (is.others (q + k) (λ off c. clear_of_pieces t q k off pieces parts none h (are.has_no_other (q + k) off c)))
+          subst (λ i. stack_byte m i ≡ stack_byte first i) there (is.others (q + k) (λ off c. clear_of_pieces t q w k off pieces parts none h (are.has_no_other (q + k) off c)))
 
 -- ---- runs first, then the other pieces
 

@@ -1,5 +1,5 @@
 -- One more piece beside those that stand.
-use Rattle.std.proofs.Common.{◌≡◌, ℕ, suc, zero, ◌+◌, ◌<◌, ◌≤◌, List, [], ◌∷◌, get_or, drop, length, subst, sym, ◌∙◌, arith, lit<}
+use Rattle.std.proofs.Common.{◌≡◌, ℕ, suc, zero, ◌+◌, ◌<◌, ◌≤◌, List, [], ◌∷◌, get_or, drop, length, subst, sym, ◌∙◌, ap, arith}
 use Rattle.std.specs.Prelude.{true}
 use Rattle.std.specs.List.{AllByRecursion}
 use Rattle.std.specs.Int.{w64, from_le_bytes}
@@ -10,11 +10,12 @@ use Rattle.ffi3_place_rules.specs.declared.Loc.{Loc}
 use Rattle.ffi3_place_rules.specs.declared.Loc.TheVariants.{G, F, S}
 use Rattle.ffi3_place_rules.specs.declared.Piece.{Piece}
 use Rattle.ffi3_place_rules.specs.Holds.{FillsAs, leaf_bytes}
-use Rattle.ffi3_place_rules.specs.Sound.{Apart, AreApart, IsNoneOf, IsPieceOf, piece_locs}
+use Rattle.ffi3_place_rules.specs.Sound.{Apart, AreApart, IsNoneOf, IsPieceOf, piece_locs, place_size}
+use Rattle.ffi3_place_rules.proofs.Words.{same_bytes}
 use Rattle.ffi3_place_rules.proofs.Elements.{drop_read}
 use Rattle.ffi3_place_rules.proofs.Tests.{each_at}
 use Rattle.ffi3_machine.specs.State.{State}
-use Rattle.ffi3_pieces.specs.Stored.{IsByteOf, IsPlace, word_in, KeepsUnused, SameAt, Stays, WroteWithin, PieceStands, IsStored}
+use Rattle.ffi3_pieces.specs.Stored.{IsByteOf, IsPlace, byte_of, word_in, KeepsUnused, SameAt, Stays, WroteWithin, PieceStands, IsStored}
 use Rattle.ffi3_pieces.specs.Runs.{goes_by_run}
 use Rattle.ffi3_pieces.proofs.Composing.{apart_sym, same_byte, stays_none, stays_then, wrote_nothing, wrote_then}
 use Rattle.std.proofs.lemmas.List.{drop_all}
@@ -43,16 +44,8 @@ apart_drop (suc j) (p ∷ ps) h = apart_drop j ps h.1
 pub same_word_in : (base : ℕ) (l : Loc) (a b : State) → SameAt base l a b → word_in base b l ≡ word_in base a l
 same_word_in base (G r) a b s = s
 same_word_in base (F r) a b s = s
-same_word_in base (S n) a b s =
-    let e0 = s 0 (lit< tt) in
-    let e1 = s 1 (lit< tt) in
-    let e2 = s 2 (lit< tt) in
-    let e3 = s 3 (lit< tt) in
-    let e4 = s 4 (lit< tt) in
-    let e5 = s 5 (lit< tt) in
-    let e6 = s 6 (lit< tt) in
-    let e7 = s 7 (lit< tt) in
-    λ i. from_le_bytes w64 (e0 i ∷ e1 i ∷ e2 i ∷ e3 i ∷ e4 i ∷ e5 i ∷ e6 i ∷ e7 i ∷ [])
+same_word_in base (S n w) a b s =
+    ap (from_le_bytes w64) (same_bytes (byte_of base b (S n w)) (byte_of base a (S n w)) w s)
 
 module _ (base : ℕ) (t : Tree) where
   -- what is kept, with other places stored after or before
@@ -71,7 +64,7 @@ module _ (base : ℕ) (t : Tree) where
   all_keep_after ls a b c (p ∷ ps) none s keep = (keeps_after ls a b c p none.0 s keep.0, all_keep_after ls a b c ps none.1 s keep.1)
 
 module _ (base : ℕ) (t : Tree) (v : ValueTree) where
-  pub stands_stays : (ls : List Loc) (a b : State) (p : Piece) → p.len ≤ 8 → IsNoneOf ls p.loc → Stays base ls a b → PieceStands base a t v p → PieceStands base b t v p
+  pub stands_stays : (ls : List Loc) (a b : State) (p : Piece) → p.len ≤ place_size p.loc → IsNoneOf ls p.loc → Stays base ls a b → PieceStands base a t v p → PieceStands base b t v p
   stands_stays ls a b p few none s stands =
       let same = s.others p.loc none in (
         λ k h. subst (IsByteOf (leaves_of t) (leaf_bytes v) (p.off + k)) (sym (same_byte base p.loc a b same k (omega (arith, h, few)))) (stands.0 k h),
@@ -81,7 +74,7 @@ module _ (base : ℕ) (t : Tree) (v : ValueTree) where
   pub all_stand_stays : (ls : List Loc) (a b : State) (ps : List Piece) → AllByRecursion (IsPieceOf t) ps → AllByRecursion (IsNoneOf ls) (piece_locs ps) → Stays base ls a b → AllByRecursion (PieceStands base a t v) ps → AllByRecursion (PieceStands base b t v) ps
   all_stand_stays ls a b [] parts none s stand = tt
   all_stand_stays ls a b (p ∷ ps) parts none s stand =
-      (stands_stays ls a b p parts.0.short none.0 s stand.0, all_stand_stays ls a b ps parts.1 none.1 s stand.1)
+      (stands_stays ls a b p parts.0.fits none.0 s stand.0, all_stand_stays ls a b ps parts.1 none.1 s stand.1)
 
   none_of_one : (l : Loc) (ls : List Loc) → AllByRecursion (Apart l) ls → AllByRecursion (IsNoneOf (l ∷ [])) ls
   none_of_one l [] h = tt
@@ -114,7 +107,7 @@ module _ (base : ℕ) (t : Tree) (v : ValueTree) where
       let opened = drop_read pieces j p h read in
       let apart_here = subst (λ ps. AreApart (piece_locs ps)) opened (apart_drop j pieces apart) in
       let part = each_read (IsPieceOf t) pieces j p h read parts in
-      stands_stays (piece_locs (drop (j + 1) pieces)) first m p part.short apart_here.0 before.stays (each_read (λ q. goes_by_run q.loc q.ext ≡ true → PieceStands base first t v q) pieces j p h read given by)
+      stands_stays (piece_locs (drop (j + 1) pieces)) first m p part.fits apart_here.0 before.stays (each_read (λ q. goes_by_run q.loc q.ext ≡ true → PieceStands base first t v q) pieces j p h read given by)
 
   pub none_stored : (pieces : List Piece) (j : ℕ) (m : State) → length pieces ≤ j → AreStored pieces j m m
   none_stored pieces j m h =

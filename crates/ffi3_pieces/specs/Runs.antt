@@ -37,9 +37,9 @@ pub record AreRunsStored (base : ℕ) (t : Tree) (v : ValueTree) (runs : List Ru
 
 -- a piece is whole once runs are stored: it stands on the stack, and nothing fills the rest of its place
 abbrev pub goes_by_run : Loc → Ext → Bool
-goes_by_run (S n) Free = true
-goes_by_run (S n) Widen = false
-goes_by_run (S n) Riscv = false
-goes_by_run (S n) Boxed = false
+goes_by_run (S n w) Free = true
+goes_by_run (S n w) Widen = false
+goes_by_run (S n w) Riscv = false
+goes_by_run (S n w) Boxed = false
 goes_by_run (G r) e = false
 goes_by_run (F r) e = false

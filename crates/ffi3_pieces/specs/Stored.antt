@@ -1,6 +1,7 @@
 -- The bytes at places of a machine, the places that a store leaves, and the stretch of the stack that it writes.
-use Rattle.std.specs.Prelude.{◌≡◌, ℕ, ◌+◌, ◌-◌, ◌*◌, ◌/◌, ◌^◌, ◌<◌, ◌≤◌, ◌⊎◌, ⊤, List, [], ◌∷◌, get_or, length}
+use Rattle.std.specs.Prelude.{◌≡◌, ℕ, ◌+◌, ◌-◌, ◌*◌, ◌/◌, ◌^◌, ◌<◌, ◌≤◌, ◌⊎◌, ⊤, List, [], ◌∷◌, map, get_or, length}
 use Rattle.std.specs.Int.{w64, to_le_bytes, from_le_bytes}
+use Rattle.std.specs.List.{range_with_len}
 use Rattle.ffi3_type_rules.specs.declared.Target.{Target}
 use Rattle.ffi3_place_rules.specs.declared.Loc.{Loc}
 use Rattle.ffi3_place_rules.specs.declared.Loc.TheVariants.{G, F, S}
@@ -10,7 +11,7 @@ use Rattle.ffi3_type_rules.specs.Tree.{Tree}
 use Rattle.ffi3_type_rules.specs.Layout.{Leaf, leaves_of, scalar_size, size_of}
 use Rattle.ffi3_type_rules.specs.Value.{ValueTree, IsPadding}
 use Rattle.ffi3_place_rules.specs.Holds.{Carries, FillsAs, leaf_bytes}
-use Rattle.ffi3_place_rules.specs.Sound.{IsNoneOf}
+use Rattle.ffi3_place_rules.specs.Sound.{place_size, IsWhole, IsNoneOf}
 use Rattle.ffi3_type_rules.specs.declared.limits.TheConstants.{STACK}
 use Rattle.ffi3_type_rules.specs.Isa.{isa_of}
 use Rattle.ffi3_place_rules.specs.Isa.{TakesWrites}
@@ -24,22 +25,19 @@ stack_byte m addr = get_or m.stack (addr - STACK) 0
 abbrev pub byte_of : ℕ → State → Loc → ℕ → ℕ
 byte_of base m (G r) k = get_or (to_le_bytes w64 (get_or m.general r 0)) k 0
 byte_of base m (F r) k = get_or (to_le_bytes w64 (get_or m.floating r 0)) k 0
-byte_of base m (S n) k = stack_byte m (base + n + k)
+byte_of base m (S n w) k = stack_byte m (base + n + k)
 
--- the number that the eight bytes of a place make
+-- the number that the bytes of a place make
 abbrev pub word_in : ℕ → State → Loc → ℕ
 word_in base m (G r) = get_or m.general r 0
 word_in base m (F r) = get_or m.floating r 0
-word_in base m (S n) =
-    from_le_bytes w64
-    (byte_of base m (S n) 0 ∷ byte_of base m (S n) 1 ∷ byte_of base m (S n) 2 ∷ byte_of base m (S n) 3
-    ∷ byte_of base m (S n) 4 ∷ byte_of base m (S n) 5 ∷ byte_of base m (S n) 6 ∷ byte_of base m (S n) 7 ∷ [])
+word_in base m (S n w) = from_le_bytes w64 (map (byte_of base m (S n w)) (range_with_len 0 w))
 
--- the place holds the same in both: a register its word, a place on the stack its eight bytes
+-- the place holds the same in both: a register its word, a place on the stack its bytes
 abbrev pub SameAt : ℕ → Loc → State → State → Type 0
 SameAt base (G r) old new = get_or new.general r 0 ≡ get_or old.general r 0
 SameAt base (F r) old new = get_or new.floating r 0 ≡ get_or old.floating r 0
-SameAt base (S n) old new = (k : ℕ) → k < 8 → stack_byte new (base + n + k) ≡ stack_byte old (base + n + k)
+SameAt base (S n w) old new = (k : ℕ) → k < w → stack_byte new (base + n + k) ≡ stack_byte old (base + n + k)
 
 -- EVERY PLACE APART FROM THE LIST STAYS, and so does the stack pointer
 pub record Stays (base : ℕ) (locs : List Loc) (old new : State) : Type 0 where
@@ -80,11 +78,11 @@ pub record WroteOnly (low high : ℕ) (old new : State) : Type 0 where
   pub general : new.general ≡ old.general
   pub floating : new.floating ≡ old.floating
 
--- one of a machine's registers, or eight bytes of so many of the stack
+-- one of a machine's registers, or one to eight bytes of so many of the stack
 abbrev pub IsPlace : ℕ → Loc → Type 0
 IsPlace stack (G r) = r < 32
 IsPlace stack (F r) = r < 32
-IsPlace stack (S n) = n + 8 ≤ stack
+IsPlace stack (S n w) = (n + w ≤ stack) × (0 < w) × (w ≤ 8)
 
 -- a write to the place is not dropped by the target's machine
 abbrev pub IsWritable : Target → Loc → Type 0
@@ -96,7 +94,7 @@ HasBytes base m l bytes = (k : ℕ) → k < length bytes → byte_of base m l k 
 
 -- the bytes of the place from number n on stay
 abbrev pub KeepsFrom : ℕ → Loc → ℕ → State → State → Type 0
-KeepsFrom base l n old new = (k : ℕ) → n ≤ k → k < 8 → byte_of base new l k ≡ byte_of base old l k
+KeepsFrom base l n old new = (k : ℕ) → n ≤ k → k < place_size l → byte_of base new l k ≡ byte_of base old l k
 
 -- the word's low bytes are these, and above them it is the old
 pub record HasLow (bytes : List ℕ) (old new : ℕ) : Type 0 where
@@ -110,8 +108,8 @@ pub record IsPut (base : ℕ) (l : Loc) (bytes : List ℕ) (old new : State) : T
   pub kept : KeepsFrom base l (length bytes) old new
   pub stays : Stays base (l ∷ []) old new
   pub within : (room : ℕ) → IsPlace room l → WroteWithin base (base + room) old new
-  -- eight bytes are the place's word
-  pub whole : (w : ℕ) → w < 2 ^ 64 → bytes ≡ to_le_bytes w64 w → word_in base new l ≡ w
+  -- eight bytes are the word of a place that has eight
+  pub whole : IsWhole l → (w : ℕ) → w < 2 ^ 64 → bytes ≡ to_le_bytes w64 w → word_in base new l ≡ w
 
 -- the place holds the number
 pub record IsWordPut (base : ℕ) (l : Loc) (w : ℕ) (old new : State) : Type 0 where
@@ -166,7 +164,7 @@ IsUnused t p k = k < p.len → IsPadding t (p.off + k)
 -- WHAT NO LEAF HAS KEEPS WHAT STOOD THERE, where nothing fills the rest of the place (the standards leave such bits unspecified: System V psABI AMD64, "Parameter Passing"; AAPCS64, "Parameter passing"; RISC-V psABI, "Integer Calling Convention")
 abbrev pub KeepsUnused : ℕ → Tree → State → State → Piece → Type 0
 KeepsUnused base t old new p =
-    p.ext ≡ Free → (k : ℕ) → k < 8 → IsUnused t p k → byte_of base new p.loc k ≡ byte_of base old p.loc k
+    p.ext ≡ Free → (k : ℕ) → k < place_size p.loc → IsUnused t p k → byte_of base new p.loc k ≡ byte_of base old p.loc k
 
 -- the same of the words of a value in memory at an address
 abbrev pub KeepsPadding : ℕ → Tree → State → State → Type 0
@@ -182,9 +180,10 @@ pub record IsStored (base : ℕ) (t : Tree) (v : ValueTree) (p : Piece) (old new
 
 -- ---- what is read from places
 
--- these are the eight bytes of a place
-abbrev pub AreBytesOf : ℕ → State → Loc → List ℕ → Type 0
-AreBytesOf base m l bytes = (k : ℕ) → k < 8 → get_or bytes k 0 ≡ byte_of base m l k
+-- these are the bytes of a place, and zeros behind them
+pub record AreBytesOf (base : ℕ) (m : State) (l : Loc) (bytes : List ℕ) : Type 0 where
+  pub here : (k : ℕ) → k < place_size l → get_or bytes k 0 ≡ byte_of base m l k
+  pub behind : (k : ℕ) → place_size l ≤ k → get_or bytes k 0 ≡ 0
 
 -- the bytes that a piece carries are those of its place, and the others stay
 pub record IsPieceLoaded (base : ℕ) (m : State) (p : Piece) (old new : List ℕ) : Type 0 where

@@ -10,7 +10,7 @@ ghost use Rattle.ffi3_type_rules.specs.Value.{all_fit, fits, value_in, values_of
 ghost use Rattle.ffi3_values.specs.ValueOf.{value_of};
 ghost use Rattle.ffi3_place_rules.specs.Standard.{frame_of, plan_of};
 ghost use Rattle.ffi3_place_rules.specs.Holds.{FillArguments, OwnsArguments};
-ghost use Rattle.ffi3_place_rules.specs.Sound.{Apart, AreApart, hidden_locs, IsPieceOf, PlaceHasAll, piece_locs, place_locs, stack_words_for, IsWithin};
+ghost use Rattle.ffi3_place_rules.specs.Sound.{Apart, AreApart, hidden_locs, IsPieceOf, IsWhole, PlaceHasAll, piece_locs, place_locs, place_size, stack_words_for, IsWithin};
 ghost use Rattle.ffi3_type_rules.specs.declared.limits.TheConstants.{STACK, STACK_TOP};
 ghost use Rattle.ffi3_machine.specs.State.{image_of};
 ghost use Rattle.ffi3_pieces.specs.Passing.{passing};
@@ -52,7 +52,7 @@ fn with_low(word: u64, bytes: &[u8]) -> u64
 pub fn put(machine: &mut Machine, base: StackBase, at: Loc, bytes: &[u8])
     requires lies { IsPlace (STACK_TOP - base) at }
     requires writable { IsWritable machine.old.target at }
-    requires few { length bytes.now ≤ 8 }
+    requires few { length bytes.now ≤ place_size at }
     ensures { IsPut base at bytes.now (passing machine.old) (passing machine.new) }
 {
     // its contract tells what is true of every machine
@@ -66,14 +66,15 @@ pub fn put(machine: &mut Machine, base: StackBase, at: Loc, bytes: &[u8])
             let word = with_low(passed_floating(machine, r), bytes);
             pass_floating(machine, r, word);
         }
-        Loc::S(n) => machine.store_stack(base.address() + n as u64, bytes),
+        Loc::S(n, _) => machine.store_stack(base.address() + n as u64, bytes),
     }
 }
 
-/// Puts a number into a place. Stack places count from the address `base`.
+/// Puts a number into a place of eight bytes. Stack places count from the address `base`.
 pub fn put_word(machine: &mut Machine, base: StackBase, at: Loc, word: u64)
     requires lies { IsPlace (STACK_TOP - base) at }
     requires writable { IsWritable machine.old.target at }
+    requires whole { IsWhole at }
     ensures { IsWordPut base at word (passing machine.old) (passing machine.new) }
 {
     put(machine, base, at, &word.to_le_bytes());
@@ -170,7 +171,7 @@ fn goes_by_run(piece: &Piece) -> bool
     ensures { result ≡ goes_by_run piece.now.loc piece.now.ext }
 {
     match piece.loc {
-        Loc::S(_) => match piece.ext {
+        Loc::S(_, _) => match piece.ext {
             Ext::Free => true,
             Ext::Widen => false,
             Ext::Riscv => false,
@@ -325,6 +326,7 @@ fn store_copy(
     requires high { base + copy + size_of ty.now ≤ STACK_TOP }
     requires lies { IsPlace (STACK_TOP - base) at }
     requires writable { IsWritable machine.old.target at }
+    requires whole { IsWhole at }
     requires apart { AllByRecursion (Apart at) (stack_words_for copy ty.now) }
     requires fits { fits ty.now (value_of value.now) ≡ true }
     requires sized { length bytes.old ≡ size_of ty.now }
@@ -432,6 +434,7 @@ pub fn store_places<A: Abi>(machine: &mut Machine, cif: &Cif<A>, values: &Values
 pub fn store_hidden(machine: &mut Machine, base: StackBase, res: &Res)
     requires lie { AllByRecursion (IsPlace (STACK_TOP - base)) (hidden_locs res.now) }
     requires writable { AllByRecursion (IsWritable machine.old.target) (hidden_locs res.now) }
+    requires whole { AllByRecursion IsWhole (hidden_locs res.now) }
     ensures stands { HiddenStands base (passing machine.new) res.now }
     ensures stays { Stays base (hidden_locs res.now) (passing machine.old) (passing machine.new) }
     ensures within { (room : ℕ) → AllByRecursion (IsPlace room) (hidden_locs res.now) → WroteWithin base (base + room) (passing machine.old) (passing machine.new) }

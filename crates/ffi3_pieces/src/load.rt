@@ -17,7 +17,7 @@ pub fn word_of(bytes: [u8; 8]) -> u64
     u64::from_le_bytes(bytes)
 }
 
-/// The eight bytes of a place. Stack places count from the address `base`.
+/// The bytes of a place, and zeros behind them where it has fewer than eight. Stack places count from the address `base`.
 pub fn place_bytes(machine: &Machine, base: StackBase, at: Loc) -> [u8; 8]
     requires { IsPlace (STACK_TOP - base) at }
     ensures { AreBytesOf base (passing machine.now) at result }
@@ -27,9 +27,10 @@ pub fn place_bytes(machine: &Machine, base: StackBase, at: Loc) -> [u8; 8]
     match at {
         Loc::G(r) => passed_general(machine, r).to_le_bytes(),
         Loc::F(r) => passed_floating(machine, r).to_le_bytes(),
-        Loc::S(n) => {
+        Loc::S(n, len) => {
             let mut bytes = [0; 8];
-            bytes.copy_from_slice(machine.lend_stack(base.address() + n as u64, 8));
+            let start = base.address() + n as u64;
+            bytes[..len as usize].copy_from_slice(machine.lend_stack(start, len as u64));
             bytes
         }
     }
@@ -43,7 +44,7 @@ pub fn place_word(machine: &Machine, base: StackBase, at: Loc) -> u64
     match at {
         Loc::G(r) => passed_general(machine, r),
         Loc::F(r) => passed_floating(machine, r),
-        Loc::S(_) => word_of(place_bytes(machine, base, at)),
+        Loc::S(_, _) => word_of(place_bytes(machine, base, at)),
     }
 }
 
@@ -56,7 +57,7 @@ pub fn own_word(machine: &Machine, base: StackBase, at: Loc) -> u64
     match at {
         Loc::G(r) => machine.g(r),
         Loc::F(r) => machine.f(r),
-        Loc::S(_) => place_word(machine, base, at),
+        Loc::S(_, _) => place_word(machine, base, at),
     }
 }
 

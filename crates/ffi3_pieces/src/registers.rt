@@ -17,6 +17,7 @@ pub fn by_exchange(target: Target) -> bool
         Target::Aapcs64 => true,
         Target::Riscv => true,
         Target::Win64 => false,
+        Target::Apple => true,
     }
 }
 

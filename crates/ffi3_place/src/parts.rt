@@ -117,7 +117,7 @@ pub fn stack_pieces(alloc: Global, ty: &CheckedType<'_>, start: u64) -> Result<P
     let size = ty.size();
     let mut pieces = Pieces::new(alloc);
     for j in 0..doublewords(ty) {
-        pieces.push(doubleword(size, j, Loc::S((start + 8 * j) as u32), ext))?;
+        pieces.push(doubleword(size, j, Loc::S((start + 8 * j) as u32, 8), ext))?;
     }
     Ok(pieces)
 }

@@ -29,13 +29,13 @@ module _ (general floating : ℕ → ℕ) (generals floatings : ℕ) where
   abbrev pub From : Taken → Loc → Type 0
   From a (G r) = (k : ℕ) × (r ≡ general k) × (a.general ≤ k) × (k < generals)
   From a (F r) = (k : ℕ) × (r ≡ floating k) × (a.vector ≤ k) × (k < floatings)
-  From a (S n) = a.stack ≤ n
+  From a (S n w) = a.stack ≤ n
 
   -- the place is one of those taken
   abbrev pub Until : Taken → Loc → Type 0
   Until a (G r) = (k : ℕ) × (r ≡ general k) × (k < a.general)
   Until a (F r) = (k : ℕ) × (r ≡ floating k) × (k < a.vector)
-  Until a (S n) = n + 8 ≤ a.stack
+  Until a (S n w) = (n + w ≤ a.stack) × (0 < w) × (w ≤ 8)
 
   abbrev pub Chain : Taken → List Loc → Taken → Type 0
   Chain a [] b = AtMost a b
@@ -44,7 +44,7 @@ module _ (general floating : ℕ → ℕ) (generals floatings : ℕ) where
   pub from_less : (a b : Taken) (l : Loc) → AtMost a b → From b l → From a l
   from_less a b (G r) h f = (f.0, f.1, omega (arith, h.general, f.2), f.3)
   from_less a b (F r) h f = (f.0, f.1, omega (arith, h.vector, f.2), f.3)
-  from_less a b (S n) h f = omega (arith, h.stack, f)
+  from_less a b (S n w) h f = omega (arith, h.stack, f)
 
   pub chain_less : (a b : Taken) (ls : List Loc) (c : Taken) → AtMost a b → Chain b ls c → Chain a ls c
   chain_less a b [] c h k = at_most_via a b c h k
@@ -74,13 +74,13 @@ module _ (general floating : ℕ → ℕ) (generals floatings : ℕ) where
     pub until_from : (a : Taken) (l m : Loc) → Until a l → From a m → Apart l m
     until_from a (G r) (G q) u f = λ e. registers.general_apart u.0 f.0 (omega (arith, u.2, f.2)) f.3 (sym u.1 ∙ e ∙ f.1)
     until_from a (F r) (F q) u f = λ e. registers.floating_apart u.0 f.0 (omega (arith, u.2, f.2)) f.3 (sym u.1 ∙ e ∙ f.1)
-    until_from a (S n) (S k) u f = inl (omega (arith, u, f))
+    until_from a (S n v) (S k w) u f = inl (omega (arith, u.0, f))
     until_from a (G r) (F q) u f = tt
-    until_from a (G r) (S n) u f = tt
+    until_from a (G r) (S n w) u f = tt
     until_from a (F r) (G q) u f = tt
-    until_from a (F r) (S n) u f = tt
-    until_from a (S n) (G q) u f = tt
-    until_from a (S n) (F q) u f = tt
+    until_from a (F r) (S n w) u f = tt
+    until_from a (S n w) (G q) u f = tt
+    until_from a (S n w) (F q) u f = tt
 
     pub chain_apart : (a : Taken) (ls : List Loc) (b : Taken) → Chain a ls b → AreApart ls
     chain_apart a [] b h = tt
@@ -90,7 +90,7 @@ module _ (general floating : ℕ → ℕ) (generals floatings : ℕ) where
         each [] k = tt
         each (n ∷ ms) k = (until_from h.0 l n h.2 k.0, each ms k.1)
 
-  module _ (never : List Loc) (in_general : (k : ℕ) → k < generals → IsNoneOf never (G (general k))) (in_floating : (k : ℕ) → k < floatings → IsNoneOf never (F (floating k))) (on_stack : (n : ℕ) → IsNoneOf never (S n)) where
+  module _ (never : List Loc) (in_general : (k : ℕ) → k < generals → IsNoneOf never (G (general k))) (in_floating : (k : ℕ) → k < floatings → IsNoneOf never (F (floating k))) (on_stack : (n w : ℕ) → IsNoneOf never (S n w)) where
     pub chain_allowed : (a : Taken) (ls : List Loc) (b : Taken) → Chain a ls b → AllByRecursion (IsNoneOf never) ls
     chain_allowed a [] b h = tt
     chain_allowed a (l ∷ ls) b h = (one l h.1, chain_allowed h.0 ls b h.4)
@@ -98,7 +98,7 @@ module _ (general floating : ℕ → ℕ) (generals floatings : ℕ) where
         one : (m : Loc) → From a m → IsNoneOf never m
         one (G r) f = subst (λ q. IsNoneOf never (G q)) (sym f.1) (in_general f.0 f.3)
         one (F r) f = subst (λ q. IsNoneOf never (F q)) (sym f.1) (in_floating f.0 f.3)
-        one (S n) f = on_stack n
+        one (S n w) f = on_stack n w
 
   module _ (registers : List Loc) (in_general : (k : ℕ) → k < generals → IsOneOf registers (G (general k))) (in_floating : (k : ℕ) → k < floatings → IsOneOf registers (F (floating k))) where
     pub chain_passed : (a : Taken) (ls : List Loc) (b : Taken) → Chain a ls b → AllByRecursion (IsOnStackOrIn registers) ls
@@ -108,7 +108,7 @@ module _ (general floating : ℕ → ℕ) (generals floatings : ℕ) where
         one : (m : Loc) → From a m → IsOnStackOrIn registers m
         one (G r) f = subst (λ q. IsOneOf registers (G q)) (sym f.1) (in_general f.0 f.3)
         one (F r) f = subst (λ q. IsOneOf registers (F q)) (sym f.1) (in_floating f.0 f.3)
-        one (S n) f = tt
+        one (S n w) f = tt
 
   -- places of a chain that ends with no stack taken
   module _ (registers : List Loc) (b : Taken) (no_stack : b.stack ≡ 0) (in_general : (k : ℕ) → k < b.general → IsOneOf registers (G (general k))) (in_floating : (k : ℕ) → k < b.vector → IsOneOf registers (F (floating k))) where
@@ -122,7 +122,7 @@ module _ (general floating : ℕ → ℕ) (generals floatings : ℕ) where
         one : (m : Loc) → Until h.0 m → IsOneOf registers m
         one (G r) u = subst (λ q. IsOneOf registers (G q)) (sym u.1) (in_general u.0 (omega (arith, u.2, rest.general)))
         one (F r) u = subst (λ q. IsOneOf registers (F q)) (sym u.1) (in_floating u.0 (omega (arith, u.2, rest.vector)))
-        one (S n) u = absurd (omega (arith, u, rest.stack, no_stack))
+        one (S n w) u = absurd (omega (arith, u.0, u.1, rest.stack, no_stack))
 
   pub chain_lies_in : (isa : Isa) → ((k : ℕ) → k < generals → general k < general_registers isa) → ((k : ℕ) → k < floatings → floating k < floating_registers isa) → (a : Taken) (ls : List Loc) (b : Taken) (stack : ℕ) → b.stack ≤ stack → Chain a ls b → AllByRecursion (LiesIn isa stack) ls
   chain_lies_in isa gs fs a [] b stack room h = tt
@@ -134,7 +134,7 @@ module _ (general floating : ℕ → ℕ) (generals floatings : ℕ) where
       one : (m : Loc) → From a m → Until h.0 m → LiesIn isa stack m
       one (G r) f u = subst (λ q. q < general_registers isa) (sym f.1) (gs f.0 f.3)
       one (F r) f u = subst (λ q. q < floating_registers isa) (sym f.1) (fs f.0 f.3)
-      one (S n) f u = omega (arith, u, rest.stack, room)
+      one (S n w) f u = (omega (arith, u.0, rest.stack, room), u.1, u.2)
 
 -- copies and buffers, which take stack alone
 pub slots_chain : (general floating : ℕ → ℕ) (generals floatings : ℕ) (a : Taken) (at n : ℕ) (b : Taken) → a.stack ≤ at → at + 8 * n ≤ b.stack → a.general ≤ b.general → a.vector ≤ b.vector → Chain general floating generals floatings a (stack_words at n) b
@@ -143,7 +143,7 @@ slots_chain general floating generals floatings a at zero b low high g f =
 slots_chain general floating generals floatings a at (suc n) b low high g f = (
   record { general = a.general; vector = a.vector; stack = at + 8 },
   low,
-  omega arith,
+  (omega arith, omega arith, omega arith),
   record { general = omega arith; vector = omega arith; stack = omega arith },
   slots_chain general floating generals floatings (record { general = a.general; vector = a.vector; stack = at + 8 }) (at + 8) n b (omega arith) (omega arith) g f,
 )

@@ -12,7 +12,7 @@ use Rattle.ffi3_place_rules.specs.declared.Piece.{Piece}
 use Rattle.ffi3_place_rules.specs.Standard.{doubleword, round8}
 use Rattle.ffi3_place_rules.specs.Doublewords.{doublewords, filling, widening, doublewords_at, stack_pieces, leaf_piece}
 use Rattle.ffi3_place_rules.specs.Holds.{Carries}
-use Rattle.ffi3_place_rules.specs.Sound.{IsPieceOf, IsExtended, HaveAll, is_narrow_integer}
+use Rattle.ffi3_place_rules.specs.Sound.{IsWhole, IsPieceOf, IsExtended, HaveAll, is_narrow_integer}
 use Rattle.ffi3_place_rules.proofs.Covered.{EndsIn, covers_leaves, any_later}
 
 -- ---- what fills the rest of a place
@@ -20,29 +20,31 @@ use Rattle.ffi3_place_rules.proofs.Covered.{EndsIn, covers_leaves, any_later}
 -- the filling suits each piece that is a whole narrow integer
 abbrev pub SuitsNarrow : Ext → Type 0
 SuitsNarrow e =
-    (t : Tree) (p : Piece) → (is_narrow_integer t ≡ true) × (p.off ≡ 0) × (p.len ≡ size_of t) → IsExtended t p e
+    (t : Tree) (p : Piece)
+    → (is_narrow_integer t ≡ true) × (p.off ≡ 0) × (p.len ≡ size_of t) × IsWhole p.loc
+    → IsExtended t p e
 
--- the filling suits each doubleword of the value
+-- the filling suits each doubleword of the value, in a place of eight bytes
 abbrev pub SuitsDoublewords : Tree → Ext → Type 0
 SuitsDoublewords t e =
-    (l : Loc) (j : ℕ) → 8 * j < size_of t → IsExtended t (doubleword l j (size_of t) e) e
+    (l : Loc) (j : ℕ) → IsWhole l → 8 * j < size_of t → IsExtended t (doubleword l j (size_of t) e) e
 
 filled_scalar : (e : Ext) → SuitsNarrow e → (s : Scalar) → SuitsDoublewords (scalar s) (filling e (scalar s))
-filled_scalar e suits u8 l j h = suits (scalar u8) (doubleword l j 1 e) (refl, omega arith, omega arith)
-filled_scalar e suits s8 l j h = suits (scalar s8) (doubleword l j 1 e) (refl, omega arith, omega arith)
-filled_scalar e suits u16 l j h = suits (scalar u16) (doubleword l j 2 e) (refl, omega arith, omega arith)
-filled_scalar e suits s16 l j h = suits (scalar s16) (doubleword l j 2 e) (refl, omega arith, omega arith)
-filled_scalar e suits u32 l j h = suits (scalar u32) (doubleword l j 4 e) (refl, omega arith, omega arith)
-filled_scalar e suits s32 l j h = suits (scalar s32) (doubleword l j 4 e) (refl, omega arith, omega arith)
-filled_scalar e suits _ l j h = tt
+filled_scalar e suits u8 l j whole h = suits (scalar u8) (doubleword l j 1 e) (refl, omega arith, omega arith, whole)
+filled_scalar e suits s8 l j whole h = suits (scalar s8) (doubleword l j 1 e) (refl, omega arith, omega arith, whole)
+filled_scalar e suits u16 l j whole h = suits (scalar u16) (doubleword l j 2 e) (refl, omega arith, omega arith, whole)
+filled_scalar e suits s16 l j whole h = suits (scalar s16) (doubleword l j 2 e) (refl, omega arith, omega arith, whole)
+filled_scalar e suits u32 l j whole h = suits (scalar u32) (doubleword l j 4 e) (refl, omega arith, omega arith, whole)
+filled_scalar e suits s32 l j whole h = suits (scalar s32) (doubleword l j 4 e) (refl, omega arith, omega arith, whole)
+filled_scalar e suits _ l j whole h = tt
 
 -- only a lone integer is filled, and it is one doubleword
 pub filling_suits : (e : Ext) → SuitsNarrow e → (t : Tree) → SuitsDoublewords t (filling e t)
-filling_suits e suits void l j h = tt
-filling_suits e suits (scalar s) l j h = filled_scalar e suits s l j h
-filling_suits e suits (left_out k) l j h = tt
-filling_suits e suits (structure ts) l j h = tt
-filling_suits e suits (array ts n) l j h = tt
+filling_suits e suits void l j whole h = tt
+filling_suits e suits (scalar s) l j whole h = filled_scalar e suits s l j whole h
+filling_suits e suits (left_out k) l j whole h = tt
+filling_suits e suits (structure ts) l j whole h = tt
+filling_suits e suits (array ts n) l j whole h = tt
 
 pub widening_suits : (t : Tree) → SuitsDoublewords t (widening t)
 widening_suits t = filling_suits Widen (λ u p h. h) t
@@ -50,18 +52,28 @@ widening_suits t = filling_suits Widen (λ u p h. h) t
 -- ---- pieces
 
 -- a doubleword of a value is a piece of it
-pub doubleword_is_piece : (t : Tree) (e : Ext) → SuitsDoublewords t e → (l : Loc) (j : ℕ) → 8 * j < size_of t → IsPieceOf t (doubleword l j (size_of t) e)
-doubleword_is_piece t e suits l j h = record { short = omega arith; within = omega arith; extended = suits l j h }
+pub doubleword_is_piece : (t : Tree) (e : Ext) → SuitsDoublewords t e → (l : Loc) (j : ℕ) → IsWhole l → 8 * j < size_of t → IsPieceOf t (doubleword l j (size_of t) e)
+doubleword_is_piece t e suits l j whole h =
+    record { short = omega arith; within = omega arith; fits = omega (arith, whole); extended = suits l j whole h }
 
 -- a leaf of at most eight bytes of a value is a piece of it
-pub leaf_is_piece : (t : Tree) (at : Loc) (e : Ext) (l : Leaf) → scalar_size l.kind ≤ 8 → EndsIn (size_of t) l → IsExtended t (leaf_piece at e l) e → IsPieceOf t (leaf_piece at e l)
-leaf_is_piece t at e l small ends suits = record { short = small; within = ends; extended = suits }
+pub leaf_is_piece : (t : Tree) (at : Loc) (e : Ext) (l : Leaf) → IsWhole at → scalar_size l.kind ≤ 8 → EndsIn (size_of t) l → IsExtended t (leaf_piece at e l) e → IsPieceOf t (leaf_piece at e l)
+leaf_is_piece t at e l whole small ends suits =
+    record { short = small; within = ends; fits = omega (arith, whole, small); extended = suits }
 
-module _ (place : ℕ → Loc) (t : Tree) (e : Ext) (suits : SuitsDoublewords t e) where
+-- each doubleword of the value is a piece of it
+abbrev pub ArePieces : (ℕ → Loc) → Tree → Ext → Type 0
+ArePieces place t e =
+    (j : ℕ) → 8 * j < size_of t → IsPieceOf t (doubleword (place j) j (size_of t) e)
+
+pub whole_pieces : (place : ℕ → Loc) (t : Tree) (e : Ext) → SuitsDoublewords t e → ((j : ℕ) → IsWhole (place j)) → ArePieces place t e
+whole_pieces place t e suits whole j h = doubleword_is_piece t e suits (place j) j (whole j) h
+
+module _ (place : ℕ → Loc) (t : Tree) (e : Ext) (are : ArePieces place t e) where
   doublewords_are_pieces : (j count : ℕ) → j + count ≤ doublewords t → AllByRecursion (IsPieceOf t) (doublewords_at place (size_of t) e j count)
   doublewords_are_pieces j zero h = tt
   doublewords_are_pieces j (suc count) h =
-      (doubleword_is_piece t e suits (place j) j (omega arith), doublewords_are_pieces (j + 1) count (omega arith))
+      (are j (omega arith), doublewords_are_pieces (j + 1) count (omega arith))
 
   doublewords_carry : (o j count : ℕ) → 8 * j ≤ o → o < 8 * (j + count) → o < size_of t → Any (Carries o) (doublewords_at place (size_of t) e j count)
   doublewords_carry o j zero low high fits = absurd (omega arith)
@@ -79,7 +91,8 @@ module _ (place : ℕ → Loc) (t : Tree) (e : Ext) (suits : SuitsDoublewords t 
 
 pub stack_has_all : (start : ℕ) (t : Tree) → HaveAll t (stack_pieces start t)
 stack_has_all start t =
-    doublewords_have_all (λ j. S (start + 8 * j)) t (widening t) (widening_suits t)
+    let place : ℕ → Loc = λ j. S (start + 8 * j) 8 in
+    doublewords_have_all place t (widening t) (whole_pieces place t (widening t) (widening_suits t) (λ j. refl))
 
 pub doublewords_in : (n : ℕ) → 8 * ((n + 7) / 8) ≤ round8 n
 unfolding least_multiple

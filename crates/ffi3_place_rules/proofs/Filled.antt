@@ -33,7 +33,7 @@ narrow_filling e (scalar pointer) h = cc
 pub doublewords_filled : (std : Standard) (t : Tree) (place : ℕ → Loc) → ((j : ℕ) → is_floating_place (place j) ≡ false) → (j count : ℕ) → AllByRecursion (IsFilled std t) (doublewords_at place (size_of t) (filling std.narrow t) j count)
 doublewords_filled std t place none j zero = tt
 doublewords_filled std t place none j (suc count) =
-    (record { narrow = narrow_filling std.narrow t; single = λ is_floating. absurd (differ (place j) is_floating (none j)) }, doublewords_filled std t place none (j + 1) count)
+    (record { narrow = λ is_narrow _. narrow_filling std.narrow t is_narrow; single = λ is_floating. absurd (differ (place j) is_floating (none j)) }, doublewords_filled std t place none (j + 1) count)
   where
     differ : (l : Loc) → is_floating_place l ≡ true → is_floating_place l ≡ false → ⊥
     differ l a b = cc

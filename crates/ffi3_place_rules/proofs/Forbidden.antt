@@ -1,5 +1,5 @@
 -- Tests for registers that are none of a list, that are one of it, that are apart, and that an instruction set has; and for what holds of each of a list.
-use Rattle.std.proofs.Common.{◌≡◌, ℕ, Bool, true, false, not, ◌&&◌, ◌||◌, eqb, ltb, List, [], ◌∷◌, ap, subst, refl, arith}
+use Rattle.std.proofs.Common.{◌≡◌, ℕ, Bool, true, false, not, ◌&&◌, ◌||◌, eqb, ltb, List, [], ◌∷◌, ap, subst, refl, ◌∙◌, arith}
 use Rattle.std.specs.List.{AllByRecursion, list_all}
 use Rattle.std.proofs.lemmas.Bool.{ltb-true}
 use Rattle.std.proofs.lemmas.Bool.Decides.{nat_tests}
@@ -18,7 +18,7 @@ abbrev pub is_none_of : List Loc → Loc → Bool
 is_none_of [] l = true
 is_none_of (G q ∷ others) (G r) = not (eqb r q) && is_none_of others (G r)
 is_none_of (F q ∷ others) (F r) = not (eqb r q) && is_none_of others (F r)
-is_none_of (S q ∷ others) (S r) = false
+is_none_of (S q v ∷ others) (S r w) = false
 is_none_of (_ ∷ others) l = is_none_of others l
 
 pub none_of : (others : List Loc) (l : Loc) → is_none_of others l ≡ true → IsNoneOf others l
@@ -26,27 +26,27 @@ none_of [] l h = tt
 none_of (G q ∷ others) (G r) h =
     ((λ e. differs r q e (and_left (not (eqb r q)) (is_none_of others (G r)) h)), none_of others (G r) (and_right (not (eqb r q)) (is_none_of others (G r)) h))
 none_of (G q ∷ others) (F r) h = (tt, none_of others (F r) h)
-none_of (G q ∷ others) (S r) h = (tt, none_of others (S r) h)
+none_of (G q ∷ others) (S r w) h = (tt, none_of others (S r w) h)
 none_of (F q ∷ others) (G r) h = (tt, none_of others (G r) h)
 none_of (F q ∷ others) (F r) h =
     ((λ e. differs r q e (and_left (not (eqb r q)) (is_none_of others (F r)) h)), none_of others (F r) (and_right (not (eqb r q)) (is_none_of others (F r)) h))
-none_of (F q ∷ others) (S r) h = (tt, none_of others (S r) h)
-none_of (S q ∷ others) (G r) h = (tt, none_of others (G r) h)
-none_of (S q ∷ others) (F r) h = (tt, none_of others (F r) h)
-none_of (S q ∷ others) (S r) h = cc
+none_of (F q ∷ others) (S r w) h = (tt, none_of others (S r w) h)
+none_of (S q v ∷ others) (G r) h = (tt, none_of others (G r) h)
+none_of (S q v ∷ others) (F r) h = (tt, none_of others (F r) h)
+none_of (S q v ∷ others) (S r w) h = cc
 
 -- ---- one of a list
 
 abbrev pub same_place : Loc → Loc → Bool
 same_place (G q) (G r) = eqb q r
 same_place (F q) (F r) = eqb q r
-same_place (S q) (S r) = eqb q r
+same_place (S q v) (S r w) = eqb q r && eqb v w
 same_place (G q) (F r) = false
-same_place (G q) (S r) = false
+same_place (G q) (S r w) = false
 same_place (F q) (G r) = false
-same_place (F q) (S r) = false
-same_place (S q) (G r) = false
-same_place (S q) (F r) = false
+same_place (F q) (S r w) = false
+same_place (S q w) (G r) = false
+same_place (S q w) (F r) = false
 
 same_number : (q r : ℕ) → eqb q r ≡ true → q ≡ r
 same_number q r h = grind (arith, nat_tests)
@@ -54,13 +54,14 @@ same_number q r h = grind (arith, nat_tests)
 same_is : (a b : Loc) → same_place a b ≡ true → a ≡ b
 same_is (G q) (G r) h = ap G (same_number q r h)
 same_is (F q) (F r) h = ap F (same_number q r h)
-same_is (S q) (S r) h = ap S (same_number q r h)
+same_is (S q v) (S r w) h =
+    ap (λ n. S n v) (same_number q r (and_left (eqb q r) (eqb v w) h)) ∙ ap (S r) (same_number v w (and_right (eqb q r) (eqb v w) h))
 same_is (G q) (F r) h = cc
-same_is (G q) (S r) h = cc
+same_is (G q) (S r w) h = cc
 same_is (F q) (G r) h = cc
-same_is (F q) (S r) h = cc
-same_is (S q) (G r) h = cc
-same_is (S q) (F r) h = cc
+same_is (F q) (S r w) h = cc
+same_is (S q w) (G r) h = cc
+same_is (S q w) (F r) h = cc
 
 abbrev pub is_one_of : List Loc → Loc → Bool
 is_one_of [] l = false
@@ -94,12 +95,12 @@ each_one_of places ls h = each_by (is_one_of places) (IsOneOf places) (one_of pl
 abbrev pub is_register : Isa → Loc → Bool
 is_register isa (G r) = ltb r (general_registers isa)
 is_register isa (F r) = ltb r (floating_registers isa)
-is_register isa (S n) = false
+is_register isa (S n w) = false
 
 exists : (isa : Isa) (l : Loc) → is_register isa l ≡ true → LiesIn isa 0 l
 exists isa (G r) h = ltb-true r (general_registers isa) h
 exists isa (F r) h = ltb-true r (floating_registers isa) h
-exists isa (S n) h = cc
+exists isa (S n w) h = cc
 
 pub each_exists : (isa : Isa) (ls : List Loc) → list_all (is_register isa) ls ≡ true → AllByRecursion (LiesIn isa 0) ls
 each_exists isa ls h = each_by (is_register isa) (LiesIn isa 0) (exists isa) ls h

@@ -19,12 +19,12 @@ up_to a n = record { general = a.general; vector = a.vector; stack = n }
 
 module _ (general floating : ℕ → ℕ) (generals floatings : ℕ) where
   -- a value's doublewords on the stack, from number j on
-  stack_chain : (a : Taken) (start size : ℕ) (e : Ext) (j count : ℕ) (b : Taken) → a.stack ≤ start + 8 * j → start + 8 * (j + count) ≤ b.stack → a.general ≤ b.general → a.vector ≤ b.vector → Chain general floating generals floatings a (piece_locs (doublewords_at (λ k. S (start + 8 * k)) size e j count)) b
+  stack_chain : (a : Taken) (start size : ℕ) (e : Ext) (j count : ℕ) (b : Taken) → a.stack ≤ start + 8 * j → start + 8 * (j + count) ≤ b.stack → a.general ≤ b.general → a.vector ≤ b.vector → Chain general floating generals floatings a (piece_locs (doublewords_at (λ k. S (start + 8 * k) 8) size e j count)) b
   stack_chain a start size e j zero b low high g f =
       record { general = g; vector = f; stack = omega arith }
   stack_chain a start size e j (suc count) b low high g f =
       let mid : Taken = record { general = a.general; vector = a.vector; stack = start + 8 * (j + 1) } in
-      (mid, low, omega arith, record { general = omega arith; vector = omega arith; stack = omega arith }, stack_chain mid start size e (j + 1) count b (omega arith) (omega arith) g f)
+      (mid, low, (omega arith, omega arith, omega arith), record { general = omega arith; vector = omega arith; stack = omega arith }, stack_chain mid start size e (j + 1) count b (omega arith) (omega arith) g f)
 
   -- a value on the stack, from a byte on that is behind all that was taken
   pub value_chain : (a : Taken) (from : ℕ) (t : Tree) (b : Taken) → a.stack ≤ from → from + round8 (size_of t) ≤ b.stack → a.general ≤ b.general → a.vector ≤ b.vector → Chain general floating generals floatings a (piece_locs (stack_pieces from t)) b

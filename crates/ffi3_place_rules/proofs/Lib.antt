@@ -1,4 +1,5 @@
 pub mod Tests
+pub mod Words
 pub mod Chain
 pub mod Covered
 pub mod Determines

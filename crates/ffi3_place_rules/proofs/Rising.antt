@@ -12,25 +12,25 @@ use Rattle.ffi3_place_rules.specs.Doublewords.{doublewords, widening, doubleword
 use Rattle.ffi3_place_rules.specs.Sound.{RisesTo, AreRising}
 
 -- a piece that is not on the stack says nothing of those after it
-pub register_rises : (p : Piece) → ((at : ℕ) → p.loc ≡ S at → ⊥) → (ps : List Piece) → AllByRecursion (RisesTo p) ps
+pub register_rises : (p : Piece) → ((at w : ℕ) → p.loc ≡ S at w → ⊥) → (ps : List Piece) → AllByRecursion (RisesTo p) ps
 register_rises p none [] = tt
-register_rises p none (q ∷ qs) = ((λ low high at there. absurd (none low at)), register_rises p none qs)
+register_rises p none (q ∷ qs) = ((λ low v high w at there. absurd (none low v at)), register_rises p none qs)
 
-pub general_not_stack : (r at : ℕ) → G r ≡ S at → ⊥
-general_not_stack r at e = cc
+pub general_not_stack : (r at w : ℕ) → G r ≡ S at w → ⊥
+general_not_stack r at w e = cc
 
-pub floating_not_stack : (r at : ℕ) → F r ≡ S at → ⊥
-floating_not_stack r at e = cc
+pub floating_not_stack : (r at w : ℕ) → F r ≡ S at w → ⊥
+floating_not_stack r at w e = cc
 
 -- of these places, those on the stack rise by eight bytes at least
 abbrev pub PlacesRise : (ℕ → Loc) → Type 0
 PlacesRise place =
-    (j k low high : ℕ) → j < k → place j ≡ S low → place k ≡ S high → low + 8 ≤ high
+    (j k low v high w : ℕ) → j < k → place j ≡ S low v → place k ≡ S high w → low + 8 ≤ high
 
 module _ (place : ℕ → Loc) (size : ℕ) (e : Ext) (rise : PlacesRise place) where
   doubleword_rises : (j k : ℕ) → j < k → RisesTo (doubleword (place j) j size e) (doubleword (place k) k size e)
-  doubleword_rises j k h low high at there =
-      let above : low + 8 ≤ high = rise j k low high h at there in
+  doubleword_rises j k h low v high w at there =
+      let above : low + 8 ≤ high = rise j k low v high w h at there in
       (omega (arith, above), omega (arith, h))
 
   doubleword_below : (j k count : ℕ) → j < k → AllByRecursion (RisesTo (doubleword (place j) j size e)) (doublewords_at place size e k count)
@@ -43,17 +43,17 @@ module _ (place : ℕ → Loc) (size : ℕ) (e : Ext) (rise : PlacesRise place) 
   doublewords_rise j (suc count) =
       (doubleword_below j (j + 1) count (omega arith), doublewords_rise (j + 1) count)
 
-pub stack_at : (low high : ℕ) → S low ≡ S high → low ≡ high
-stack_at low high e = cc
+pub stack_at : (low v high w : ℕ) → S low v ≡ S high w → low ≡ high
+stack_at low v high w e = cc
 
 pub stack_rises : (start : ℕ) (t : Tree) → AreRising (stack_pieces start t)
 stack_rises start t =
-    doublewords_rise (λ j. S (start + 8 * j)) (size_of t) (widening t) rise 0 (doublewords t)
+    doublewords_rise (λ j. S (start + 8 * j) 8) (size_of t) (widening t) rise 0 (doublewords t)
   where
-    rise : PlacesRise (λ j. S (start + 8 * j))
-    rise j k low high h at there =
-        omega (arith, h, stack_at (start + 8 * j) low at, stack_at (start + 8 * k) high there)
+    rise : PlacesRise (λ j. S (start + 8 * j) 8)
+    rise j k low v high w h at there =
+        omega (arith, h, stack_at (start + 8 * j) 8 low v at, stack_at (start + 8 * k) 8 high w there)
 
 pub generals_rise : (g size : ℕ) (e : Ext) (j count : ℕ) → AreRising (doublewords_at (λ k. G (g + k)) size e j count)
 generals_rise g size e j count =
-    doublewords_rise (λ k. G (g + k)) size e (λ i k low high h at there. absurd (general_not_stack (g + i) low at)) j count
+    doublewords_rise (λ k. G (g + k)) size e (λ i k low v high w h at there. absurd (general_not_stack (g + i) low v at)) j count

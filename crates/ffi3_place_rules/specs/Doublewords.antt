@@ -47,7 +47,7 @@ doublewords_at place size e j (suc count) =
 -- a value's doublewords on the stack, from an offset on
 abbrev pub stack_pieces : ℕ → Tree → List Piece
 stack_pieces start t =
-    doublewords_at (λ j. S (start + 8 * j)) (size_of t) (widening t) 0 (doublewords t)
+    doublewords_at (λ j. S (start + 8 * j) 8) (size_of t) (widening t) 0 (doublewords t)
 
 -- a leaf in its place
 abbrev pub leaf_piece : Loc → Ext → Leaf → Piece

@@ -1,4 +1,4 @@
--- What it means that an image holds the arguments of a call, or its result, and that registers are preserved. (System V psABI AMD64 3.2.3; Arm AAPCS64, "Parameter Passing" and "Result Return"; RISC-V ELF psABI, "Integer Calling Convention" and "Hardware Floating-point Calling Convention"; Microsoft, "x64 calling convention")
+-- What it means that an image holds the arguments of a call, or its result, and that registers are preserved. (System V psABI AMD64 3.2.3; Arm AAPCS64, "Parameter Passing" and "Result Return"; RISC-V ELF psABI, "Integer Calling Convention" and "Hardware Floating-point Calling Convention"; Microsoft, "x64 calling convention"; Apple, "Writing ARM64 code for Apple platforms")
 use Rattle.std.specs.Prelude.{◌≡◌, ℕ, ◌+◌, ◌-◌, ◌/◌, ◌^◌, ◌<◌, ◌≤◌, ⊤, true, List, [], ◌∷◌, ◌++◌, take, drop, length}
 use Rattle.std.specs.Prelude.{get_or, Option, Some, None}
 use Rattle.std.specs.List.{AllByRecursion}

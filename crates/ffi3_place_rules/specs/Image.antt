@@ -1,5 +1,6 @@
 -- An image of a machine: its registers, and the stack from the stack pointer on, which grows downwards. (System V psABI AMD64 3.2.1 "Registers" and 3.2.2 "The Stack Frame"; Arm AAPCS64, "Machine Registers" and "The Stack"; RISC-V ELF psABI, "Integer Register Convention" and "Floating-point Register Convention"; Microsoft, "x64 stack usage")
-use Rattle.std.specs.Prelude.{ℕ, ◌+◌, List, [], ◌∷◌, get_or}
+use Rattle.std.specs.Prelude.{ℕ, ◌+◌, List, map, get_or}
+use Rattle.std.specs.List.{range_with_len}
 use Rattle.std.specs.Int.{w64, to_le_bytes, from_le_bytes}
 use Rattle.ffi3_place_rules.specs.declared.Loc.{Loc}
 use Rattle.ffi3_place_rules.specs.declared.Loc.TheVariants.{G, F, S}
@@ -15,16 +16,13 @@ pub record Image : Type 0 where
 abbrev pub byte_at : Image → ℕ → Loc → ℕ → ℕ
 byte_at m base (G r) k = get_or (to_le_bytes w64 (get_or m.general r 0)) k 0
 byte_at m base (F r) k = get_or (to_le_bytes w64 (get_or m.floating r 0)) k 0
-byte_at m base (S n) k = get_or m.stack (base + n + k) 0
+byte_at m base (S n w) k = get_or m.stack (base + n + k) 0
 
--- the number that the eight bytes of a place make
+-- the number that the bytes of a place make
 abbrev pub word_at : Image → ℕ → Loc → ℕ
 word_at m base (G r) = get_or m.general r 0
 word_at m base (F r) = get_or m.floating r 0
-word_at m base (S n) =
-    from_le_bytes w64
-    (byte_at m base (S n) 0 ∷ byte_at m base (S n) 1 ∷ byte_at m base (S n) 2 ∷ byte_at m base (S n) 3
-    ∷ byte_at m base (S n) 4 ∷ byte_at m base (S n) 5 ∷ byte_at m base (S n) 6 ∷ byte_at m base (S n) 7 ∷ [])
+word_at m base (S n w) = from_le_bytes w64 (map (byte_at m base (S n w)) (range_with_len 0 w))
 
 -- what a register holds
 abbrev pub register : Image → Loc → ℕ

@@ -89,7 +89,7 @@ link_place isa = option_map G (link_register isa)
 abbrev pub TakesWrites : Isa → Loc → Type 0
 TakesWrites isa (G k) = is_zero_register isa k ≡ false
 TakesWrites isa (F k) = ⊤
-TakesWrites isa (S n) = ⊤
+TakesWrites isa (S n w) = ⊤
 
 -- ---- stubs: code through which the calls and returns of a target can lead (this library's own). A call goes out through Call and comes back to Return; a trampoline leads to Entry, and the way back is Exit. Registers go over the exchange region of memory: Call and Exit load them from there, Entry and Return store them there. The lists are what the stubs do, in their order; those of AMD64 are for System V's calls alone.
 
@@ -99,6 +99,7 @@ has_stubs target.Amd64 = true
 has_stubs target.Aapcs64 = true
 has_stubs target.Riscv = true
 has_stubs target.Win64 = false
+has_stubs target.Apple = true
 
 -- the general registers of arguments: rdi, rsi, rdx, rcx, r8, r9; x0 to x7; a0 to a7
 abbrev pub general_argument_places : Isa → List Loc
@@ -189,4 +190,4 @@ exit_scratch Riscv = G 6 ∷ []
 abbrev pub scribble : ℕ → Loc → ℕ
 scribble n (G k) = (0xA5A5000000000000 + 64 * n + k) % 2 ^ 64
 scribble n (F k) = (0x5A5A000000000000 + 64 * n + k) % 2 ^ 64
-scribble n (S k) = 0
+scribble n (S k w) = 0

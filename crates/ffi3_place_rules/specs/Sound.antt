@@ -20,7 +20,7 @@ use Rattle.ffi3_place_rules.specs.declared.Place.TheVariants.{Direct, ByRef}
 use Rattle.ffi3_place_rules.specs.declared.Res.{Res}
 use Rattle.ffi3_place_rules.specs.declared.Res.TheVariants.{Nothing, Direct as DirectRes, Hidden}
 use Rattle.ffi3_place_rules.specs.declared.Plan.{Plan}
-pub use Rattle.ffi3_place_rules.specs.Locs.{piece_locs, place_locs}
+pub use Rattle.ffi3_place_rules.specs.Locs.{place_size, IsWhole, piece_locs, place_locs}
 use Rattle.ffi3_place_rules.specs.Standard.{Standard, frame_of, need_of, plan_of}
 use Rattle.ffi3_place_rules.specs.Image.{Image}
 use Rattle.ffi3_place_rules.specs.Holds.{Carries, Own, OwnResult}
@@ -31,7 +31,7 @@ use Rattle.ffi3_place_rules.specs.Holds.{Carries, Own, OwnResult}
 abbrev pub Apart : Loc → Loc → Type 0
 Apart (G a) (G b) = a ≢ b
 Apart (F a) (F b) = a ≢ b
-Apart (S a) (S b) = (a + 8 ≤ b) ⊎ (b + 8 ≤ a)
+Apart (S a v) (S b w) = (a + v ≤ b) ⊎ (b + w ≤ a)
 Apart _ _ = ⊤
 
 -- any two of the list are apart
@@ -43,11 +43,11 @@ AreApart (l ∷ ls) = AllByRecursion (Apart l) ls × AreApart ls
 abbrev pub IsNoneOf : List Loc → Loc → Type 0
 IsNoneOf others l = AllByRecursion (Apart l) others
 
--- the register is one that the instruction set has, the place on the stack lies in so many bytes
+-- the register is one that the instruction set has; the place on the stack lies in so many bytes, and has one to eight
 abbrev pub LiesIn : Isa → ℕ → Loc → Type 0
 LiesIn isa stack (G r) = r < general_registers isa
 LiesIn isa stack (F r) = r < floating_registers isa
-LiesIn isa stack (S n) = n + 8 ≤ stack
+LiesIn isa stack (S n w) = (n + w ≤ stack) × (0 < w) × (w ≤ 8)
 
 -- the place is one of the list
 abbrev pub IsOneOf : List Loc → Loc → Type 0
@@ -70,7 +70,7 @@ argument_locs p = hidden_locs p.res ++ flat_map place_locs p.places
 -- so many stack places of eight bytes from an offset on
 abbrev pub stack_words : ℕ → ℕ → List Loc
 stack_words at zero = []
-stack_words at (suc n) = S at ∷ stack_words (at + 8) n
+stack_words at (suc n) = S at 8 ∷ stack_words (at + 8) n
 
 abbrev pub stack_words_for : ℕ → Tree → List Loc
 stack_words_for at t = stack_words at ((size_of t + 7) / 8)
@@ -104,7 +104,7 @@ closed_to_arguments std = closed_to_results std ++ (std.trampoline_registers ++ 
 abbrev pub IsOnStackOrIn : List Loc → Loc → Type 0
 IsOnStackOrIn registers (G r) = IsOneOf registers (G r)
 IsOnStackOrIn registers (F r) = IsOneOf registers (F r)
-IsOnStackOrIn registers (S n) = ⊤
+IsOnStackOrIn registers (S n w) = ⊤
 
 -- ---- pieces that have the whole value
 
@@ -120,28 +120,29 @@ is_narrow_integer _ = false
 abbrev pub is_floating_place : Loc → Bool
 is_floating_place (F r) = true
 is_floating_place (G r) = false
-is_floating_place (S n) = false
+is_floating_place (S n w) = false
 
--- What fills the rest of a place suits its piece: an extended one is a whole narrow integer, a boxed one has four bytes in a floating register.
+-- What fills the rest of a place suits its piece: an extended one is a whole narrow integer in a place of eight bytes, a boxed one has four bytes in a floating register.
 abbrev pub IsExtended : Tree → Piece → Ext → Type 0
 IsExtended t p Free = ⊤
 IsExtended t p Boxed = (is_floating_place p.loc ≡ true) × (p.len ≡ 4)
-IsExtended t p Widen = (is_narrow_integer t ≡ true) × (p.off ≡ 0) × (p.len ≡ size_of t)
-IsExtended t p Riscv = (is_narrow_integer t ≡ true) × (p.off ≡ 0) × (p.len ≡ size_of t)
+IsExtended t p Widen = (is_narrow_integer t ≡ true) × (p.off ≡ 0) × (p.len ≡ size_of t) × IsWhole p.loc
+IsExtended t p Riscv = (is_narrow_integer t ≡ true) × (p.off ≡ 0) × (p.len ≡ size_of t) × IsWhole p.loc
 
--- the piece lies in a value of so many bytes, and has at most eight
+-- the piece lies in a value of so many bytes, and has at most eight, and no more than its place
 abbrev pub IsWithin : ℕ → Piece → Type 0
-IsWithin size p = (p.len ≤ 8) × (p.off + p.len ≤ size)
+IsWithin size p = (p.len ≤ 8) × (p.off + p.len ≤ size) × (p.len ≤ place_size p.loc)
 
--- a piece has at most eight bytes, all of them of the value
+-- a piece has at most eight bytes, all of them of the value, and no more than its place
 pub record IsPieceOf (t : Tree) (p : Piece) : Type 0 where
   pub short : p.len ≤ 8
   pub within : p.off + p.len ≤ size_of t
+  pub fits : p.len ≤ place_size p.loc
   pub extended : IsExtended t p p.ext
 
--- The other way round: a lone narrow integer fills its place as the standard says, and so does a float in a floating register.
+-- The other way round: a lone narrow integer fills its place as the standard says, where that is wider, and so does a float in a floating register.
 pub record IsFilled (std : Standard) (t : Tree) (p : Piece) : Type 0 where
-  pub narrow : is_narrow_integer t ≡ true → p.ext ≡ std.narrow
+  pub narrow : is_narrow_integer t ≡ true → p.len < place_size p.loc → p.ext ≡ std.narrow
   pub single : is_floating_place p.loc ≡ true → p.len ≡ 4 → p.ext ≡ std.single
 
 abbrev pub PlaceIsFilled : Standard → Tree → Place → Type 0
@@ -165,9 +166,9 @@ pub record HaveAll (t : Tree) (pieces : List Piece) : Type 0 where
 
 abbrev pub PlaceHasAll : Tree → Place → Type 0
 PlaceHasAll t (Direct pieces) = HaveAll t pieces
-PlaceHasAll t (ByRef at copy) = ⊤
+PlaceHasAll t (ByRef at copy) = IsWhole at
 
--- one place for each argument, and it has all of it
+-- one place for each argument, and it has all of it, or its copy's address
 abbrev pub PlacesHaveAll : List Tree → List Place → Type 0
 PlacesHaveAll [] [] = ⊤
 PlacesHaveAll (t ∷ ts) (p ∷ ps) = PlaceHasAll t p × PlacesHaveAll ts ps
@@ -184,7 +185,7 @@ ResultHasAll t (Hidden at buffer) = ⊤
 -- where both stand on the stack, the second stands higher and has later bytes of the value
 abbrev pub RisesTo : Piece → Piece → Type 0
 RisesTo p q =
-    (low high : ℕ) → p.loc ≡ S low → q.loc ≡ S high → (low + p.len ≤ high) × (p.off + p.len ≤ q.off)
+    (low v high w : ℕ) → p.loc ≡ S low v → q.loc ≡ S high w → (low + p.len ≤ high) × (p.off + p.len ≤ q.off)
 
 -- each to every later one
 abbrev pub AreRising : List Piece → Type 0
@@ -205,6 +206,8 @@ pub record IsSound (std : Standard) (s : Signature) : Type 0 where
   -- what is passed in a register is passed in an argument register
   pub passed : AllByRecursion (IsOnStackOrIn std.argument_registers) (argument_locs (plan_of std s))
   pub has_all : PlacesHaveAll s.arguments (plan_of std s).places
+  -- the address of a hidden result has eight bytes
+  pub address : AllByRecursion IsWhole (hidden_locs (plan_of std s).res)
   pub filled : PlacesAreFilled std s.arguments (plan_of std s).places
   -- the pieces of one argument that stand on the stack rise, each by its place and by its bytes
   pub rising : AllByRecursion PlaceRises (plan_of std s).places

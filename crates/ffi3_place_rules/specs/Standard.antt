@@ -1,4 +1,4 @@
--- A calling standard: its registers, and where it places the arguments and the result of a signature; the bytes of stack that a call takes by it. (System V psABI AMD64 3.2.1 to 3.2.3; Arm AAPCS64, "The Base Procedure Call Standard"; RISC-V ELF psABI, "Procedure Calling Convention"; Microsoft, "x64 calling convention". Save area, callee's block and order of copies in the frame are this library's.)
+-- A calling standard: its registers, and where it places the arguments and the result of a signature; the bytes of stack that a call takes by it. (System V psABI AMD64 3.2.1 to 3.2.3; Arm AAPCS64, "The Base Procedure Call Standard"; RISC-V ELF psABI, "Procedure Calling Convention"; Microsoft, "x64 calling convention"; Apple, "Writing ARM64 code for Apple platforms". Save area, callee's block and order of copies in the frame are this library's.)
 use Rattle.std.specs.Prelude.{ℕ, ◌+◌, ◌-◌, ◌*◌, List, [], ◌∷◌, Option, min, max}
 use Rattle.std.specs.List.{sum_by}
 use Rattle.ffi3_type_rules.specs.declared.Target.{Target}

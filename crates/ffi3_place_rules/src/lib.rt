@@ -6,15 +6,17 @@ mod listed;
 pub use listed::Listed;
 pub use std::alloc::AllocError as NoMemory;
 
-/// A place: a general register, a floating register, or a byte offset from the first stack argument.
+/// A place: a general register, a floating register, or bytes of the stack from an offset on, which counts from the first
+/// stack argument.
 #[derive(Clone, Copy, Debug, PartialEq, Eq)]
 pub enum Loc {
     /// A general register, by its number in instructions.
     G(u8),
     /// A floating or vector register, by its number in instructions.
     F(u8),
-    /// The stack, so many bytes above where the first stack argument begins.
-    S(u32),
+    /// The stack, so many bytes above where the first stack argument begins; and how many bytes the place has there: eight,
+    /// or fewer where a standard packs its arguments.
+    S(u32, u8),
 }
 
 /// What the bits of a place hold that its piece does not fill.

@@ -1,7 +1,7 @@
 -- A prepared call interface: a target, whose calls go by its standard, and a signature without fault.
 use Rattle.std.specs.Prelude.{◌≡◌, ℕ, ⊤, List, Option}
 use Rattle.ffi3_type_rules.specs.declared.Target.{Target}
-use Rattle.ffi3_type_rules.specs.declared.Target.TheVariants.{Amd64 as ForAmd64, Aapcs64 as ForAapcs64, Riscv as ForRiscv, Win64 as ForWin64}
+use Rattle.ffi3_type_rules.specs.declared.Target.TheVariants.{Amd64 as ForAmd64, Aapcs64 as ForAapcs64, Riscv as ForRiscv, Win64 as ForWin64, Apple as ForApple}
 use Rattle.ffi3_type_rules.specs.Layout.{size_of}
 use Rattle.ffi3_type_rules.specs.Signature.{Signature, SignatureHasNoFault}
 use Rattle.ffi3_place_rules.specs.Standard.{Standard, frame_of}
@@ -12,7 +12,7 @@ use Rattle.ffi3_nodes.specs.Read.{IsOfNone, IsRefused}
 use Rattle.ffi3_transfer.specs.Packed.{packed_size}
 use Rattle.ffi3_prepared.specs.declared.CallSizes.{CallSizes}
 use Rattle.ffi3_prepared.specs.declared.Prepared.{Prepared}
-use Rattle.ffi3_prepared.specs.declared.Prepared.TheVariants.{Amd64, Aapcs64, Riscv, Win64}
+use Rattle.ffi3_prepared.specs.declared.Prepared.TheVariants.{Amd64, Aapcs64, Riscv, Win64, Apple}
 use Rattle.ffi3_prepared.specs.declared.Unprepared.{Unprepared}
 use Rattle.ffi3_prepared.specs.declared.Unprepared.TheVariants.{Nodes, NoMemory}
 
@@ -21,6 +21,7 @@ target_in (Amd64 s) = ForAmd64
 target_in (Aapcs64 s) = ForAapcs64
 target_in (Riscv s) = ForRiscv
 target_in (Win64 s) = ForWin64
+target_in (Apple s) = ForApple
 
 abbrev pub standard_in : Prepared → Standard
 standard_in p = standard_of (target_in p)
@@ -30,6 +31,7 @@ signature_in (Amd64 s) = s
 signature_in (Aapcs64 s) = s
 signature_in (Riscv s) = s
 signature_in (Win64 s) = s
+signature_in (Apple s) = s
 
 -- THE INTERFACE of a target and of the one signature that has these nodes
 pub record IsPrepared (to : Target) (ns : List Node) (fixed : Option ℕ) (p : Prepared) : Type 0 where

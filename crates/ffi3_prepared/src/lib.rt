@@ -1,4 +1,4 @@
-//! Call interfaces of any of the four targets, prepared from nodes, and the transfers by them.
+//! Call interfaces of any of the five targets, prepared from nodes, and the transfers by them.
 #![tactic(auto)]
 
 ghost use Rattle.std.specs.Prelude.{◌≡◌, IfErr, IfOk, OnErr, OnOk};
@@ -10,6 +10,7 @@ ghost use Rattle.ffi3_prepared.specs.Prepared.{IsPrepared, IsUnprepared, IsUnpre
 
 use ffi3_aapcs64::Aapcs64;
 use ffi3_amd64::Amd64;
+use ffi3_apple::Apple;
 use ffi3_cif::Cif;
 use ffi3_nodes::{Node, Refused, read_signature};
 use ffi3_place::Abi;
@@ -26,6 +27,7 @@ pub enum Prepared {
     Aapcs64(Cif<Aapcs64>),
     Riscv(Cif<Riscv>),
     Win64(Cif<Win64>),
+    Apple(Cif<Apple>),
 }
 
 /// Why an interface is not prepared.
@@ -58,6 +60,10 @@ pub fn prepare_signature(alloc: Global, target: Target, sig: Sig) -> Result<Prep
         },
         Target::Win64 => match Cif::prepare(alloc, sig) {
             Ok(cif) => Ok(Prepared::Win64(cif)),
+            Err(_) => Err(NoMemory),
+        },
+        Target::Apple => match Cif::prepare(alloc, sig) {
+            Ok(cif) => Ok(Prepared::Apple(cif)),
             Err(_) => Err(NoMemory),
         },
     }
@@ -122,6 +128,7 @@ pub fn sizes(p: &Prepared) -> CallSizes
         Prepared::Aapcs64(cif) => sizes_by(cif),
         Prepared::Riscv(cif) => sizes_by(cif),
         Prepared::Win64(cif) => sizes_by(cif),
+        Prepared::Apple(cif) => sizes_by(cif),
     }
 }
 
@@ -134,6 +141,7 @@ pub fn target(p: &Prepared) -> Target
         Prepared::Aapcs64(_) => Target::Aapcs64,
         Prepared::Riscv(_) => Target::Riscv,
         Prepared::Win64(_) => Target::Win64,
+        Prepared::Apple(_) => Target::Apple,
     }
 }
 
@@ -154,6 +162,7 @@ pub fn store(
         Prepared::Aapcs64(cif) => ffi3_transfer::store(cif, values, registers, stack),
         Prepared::Riscv(cif) => ffi3_transfer::store(cif, values, registers, stack),
         Prepared::Win64(cif) => ffi3_transfer::store(cif, values, registers, stack),
+        Prepared::Apple(cif) => ffi3_transfer::store(cif, values, registers, stack),
     }
 }
 
@@ -173,6 +182,7 @@ pub fn load(
         Prepared::Aapcs64(cif) => ffi3_transfer::load(cif, registers, stack, out),
         Prepared::Riscv(cif) => ffi3_transfer::load(cif, registers, stack, out),
         Prepared::Win64(cif) => ffi3_transfer::load(cif, registers, stack, out),
+        Prepared::Apple(cif) => ffi3_transfer::load(cif, registers, stack, out),
     }
 }
 
@@ -192,6 +202,7 @@ pub fn collect(
         Prepared::Aapcs64(cif) => ffi3_transfer::collect(cif, registers, stack, values),
         Prepared::Riscv(cif) => ffi3_transfer::collect(cif, registers, stack, values),
         Prepared::Win64(cif) => ffi3_transfer::collect(cif, registers, stack, values),
+        Prepared::Apple(cif) => ffi3_transfer::collect(cif, registers, stack, values),
     }
 }
 
@@ -212,5 +223,6 @@ pub fn give(
         Prepared::Aapcs64(cif) => ffi3_transfer::give(cif, value, registers, stack),
         Prepared::Riscv(cif) => ffi3_transfer::give(cif, value, registers, stack),
         Prepared::Win64(cif) => ffi3_transfer::give(cif, value, registers, stack),
+        Prepared::Apple(cif) => ffi3_transfer::give(cif, value, registers, stack),
     }
 }

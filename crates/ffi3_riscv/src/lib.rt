@@ -278,7 +278,7 @@ fn word(k: u64) -> Loc
     if k < 8 {
         Loc::G(integer_register(k))
     } else {
-        Loc::S((8 * (k - 8)) as u32)
+        Loc::S((8 * (k - 8)) as u32, 8)
     }
 }
 

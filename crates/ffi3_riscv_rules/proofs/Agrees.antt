@@ -17,7 +17,7 @@ written (G k) h = not_zero k h.0
     not_zero : (k : ℕ) → (k ≡ 0 → ⊥) → is_zero_register isa.Riscv k ≡ false
     not_zero k differs = grind (arith, nat_tests, differs)
 written (F k) h = tt
-written (S n) h = tt
+written (S n w) h = tt
 
 pub agrees : AgreesWithMachine riscv
 agrees = record {

@@ -1,17 +1,18 @@
 -- The pieces of a value have every byte of its leaves.
-use Rattle.std.proofs.Common.{◌≡◌, ℕ, ◌+◌, ◌≤◌, List, [], ◌∷◌, length, subst, sym, refl, arith}
+use Rattle.std.proofs.Common.{◌≡◌, ℕ, ◌+◌, ◌-◌, ◌*◌, ◌≤◌, Bool, true, false, cond, ltb, List, [], ◌∷◌, length, subst, sym, refl, arith}
 use Rattle.std.specs.List.{AllByRecursion}
 use Rattle.std.specs.Prelude.{Option}
 use Rattle.ffi3_type_rules.specs.Tree.{Tree, Scalar, float}
 use Rattle.ffi3_type_rules.specs.Layout.{Leaf, leaves_of, size_of, scalar_size}
-use Rattle.ffi3_place_rules.specs.declared.Loc.TheVariants.{G, F}
+use Rattle.ffi3_place_rules.specs.declared.Loc.{Loc}
+use Rattle.ffi3_place_rules.specs.declared.Loc.TheVariants.{G, F, S}
 use Rattle.ffi3_place_rules.specs.declared.Ext.TheVariants.{Free, Riscv}
 use Rattle.ffi3_place_rules.specs.declared.Piece.{Piece}
 use Rattle.ffi3_place_rules.specs.Standard.{copy_end, place_at, places_from}
 use Rattle.ffi3_place_rules.specs.Doublewords.{doublewords, leaf_piece}
-use Rattle.ffi3_place_rules.specs.Sound.{IsPieceOf, IsExtended, CoversLeaf, HaveAll, PlaceHasAll, PlacesHaveAll}
+use Rattle.ffi3_place_rules.specs.Sound.{IsWhole, IsPieceOf, IsExtended, CoversLeaf, HaveAll, PlaceHasAll, PlacesHaveAll}
 use Rattle.ffi3_place_rules.proofs.Covered.{EndsIn, leaves_end}
-use Rattle.ffi3_place_rules.proofs.Doublewords.{filling_suits, leaf_is_piece, doublewords_have_all}
+use Rattle.ffi3_place_rules.proofs.Doublewords.{filling_suits, whole_pieces, leaf_is_piece, doublewords_have_all}
 use Rattle.ffi3_riscv_rules.specs.declared.Shape.{Shape}
 use Rattle.ffi3_riscv_rules.specs.declared.Shape.TheVariants.{OneF, TwoF, FI, IF, Words, ByRef}
 use Rattle.ffi3_riscv_rules.specs.declared.TakenWords.{TakenWords}
@@ -20,9 +21,17 @@ use Rattle.ffi3_riscv_rules.proofs.Shapes.{Suits, HasSmall, leaf, passed_suits, 
 
 -- ---- doublewords
 
+word_is_whole_if : (w : ℕ) (b : Bool) → IsWhole (cond {A = Loc} b (G (integer_register w)) (S (8 * (w - 8)) 8))
+word_is_whole_if w true = refl
+word_is_whole_if w false = refl
+
+word_is_whole : (w : ℕ) → IsWhole (word w)
+word_is_whole w = word_is_whole_if w (ltb w 8)
+
 words_have_all : (w : ℕ) (t : Tree) (count : ℕ) → count ≡ doublewords t → HaveAll t (word_pieces w t count)
 words_have_all w t count e =
-    subst (λ n. HaveAll t (word_pieces w t n)) (sym e) (doublewords_have_all (λ j. word (w + j)) t (extension t) (filling_suits Riscv (λ u p h. h) t))
+    let place : ℕ → Loc = λ j. word (w + j) in
+    subst (λ n. HaveAll t (word_pieces w t n)) (sym e) (doublewords_have_all place t (extension t) (whole_pieces place t (extension t) (filling_suits Riscv (λ u p h. h) t) (λ j. word_is_whole (w + j))))
 
 -- ---- leaves
 
@@ -32,11 +41,11 @@ boxes t r o _ = tt
 
 floating_piece_of : (t : Tree) (f : ℕ) (l : Leaf) → scalar_size l.kind ≤ 8 → EndsIn (size_of t) l → IsPieceOf t (floating_piece f l)
 floating_piece_of t f l small h =
-    leaf_is_piece t (F (floating_register f)) (boxing l.kind) l small h (boxes t (floating_register f) l.at l.kind)
+    leaf_is_piece t (F (floating_register f)) (boxing l.kind) l refl small h (boxes t (floating_register f) l.at l.kind)
 
 integer_piece_of : (t : Tree) (w : ℕ) (l : Leaf) → scalar_size l.kind ≤ 8 → EndsIn (size_of t) l → IsPieceOf t (integer_piece w l)
 integer_piece_of t w l small h =
-    leaf_is_piece t (G (integer_register w)) Free l small h tt
+    leaf_is_piece t (G (integer_register w)) Free l refl small h tt
 
 -- the piece has the bytes of the leaf
 abbrev HasLeaf : Leaf → Piece → Type 0
@@ -82,7 +91,7 @@ spot_has_all start copies before t FI h small =
 spot_has_all start copies before t IF h small =
     have_all t _ (two_leaves t (leaves_of t) (integer_piece before.words) (floating_piece before.floats) (integer_piece_of t before.words) (λ l. (refl, refl)) (floating_piece_of t before.floats) (λ l. (refl, refl)) h small (leaves_end t))
 spot_has_all start copies before t (Words n) h small = words_have_all before.words t n h.0
-spot_has_all start copies before t ByRef h small = tt
+spot_has_all start copies before t ByRef h small = word_is_whole before.words
 
 pub arguments_have_all : (start : ℕ → Tree → ℕ) (copies : ℕ) (fixed : Option ℕ) (end : TakenWords) (i : ℕ) (ts : List Tree) → PlacesHaveAll ts (places_from start copies ts (spots_after fixed end i ts))
 arguments_have_all start copies fixed end i [] = tt

@@ -67,15 +67,15 @@ float_boxed pointer f e = cc
 
 module _ (t : Tree) (wide : is_narrow_integer t ≡ true → ⊥) where
   floating_filled : (f : ℕ) (l : Leaf) → is_floating l.kind ≡ true → IsFilled riscv t (floating_piece f l)
-  floating_filled f l floats = record { narrow = λ n. absurd (wide n); single = λ _ e. float_boxed l.kind floats e }
+  floating_filled f l floats = record { narrow = λ n _. absurd (wide n); single = λ _ e. float_boxed l.kind floats e }
 
   integer_filled : (w : ℕ) (l : Leaf) → IsFilled riscv t (integer_piece w l)
-  integer_filled w l = record { narrow = λ n. absurd (wide n); single = λ h e. absurd (in_general h) }
+  integer_filled w l = record { narrow = λ n _. absurd (wide n); single = λ h e. absurd (in_general h) }
     where
       in_general : is_floating_place (G (integer_register w)) ≡ true → ⊥
       in_general h = cc
 
-word_if : (w : ℕ) (b : Bool) → is_floating_place (cond {A = Loc} b (G (integer_register w)) (S (8 * (w - 8)))) ≡ false
+word_if : (w : ℕ) (b : Bool) → is_floating_place (cond {A = Loc} b (G (integer_register w)) (S (8 * (w - 8)) 8)) ≡ false
 word_if w true = refl
 word_if w false = refl
 

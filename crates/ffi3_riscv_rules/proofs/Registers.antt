@@ -39,8 +39,8 @@ argument_allowed = eight_allowed (closed_to_arguments riscv) (λ k. G (integer_r
 pub floating_allowed : (k : ℕ) → k < 8 → IsNoneOf (closed_to_arguments riscv) (F (floating_register k))
 floating_allowed = eight_allowed (closed_to_arguments riscv) (λ k. F (floating_register k)) refl
 
-pub stack_allowed : (n : ℕ) → IsNoneOf (closed_to_arguments riscv) (S n)
-stack_allowed n = none_of (closed_to_arguments riscv) (S n) refl
+pub stack_allowed : (n w : ℕ) → IsNoneOf (closed_to_arguments riscv) (S n w)
+stack_allowed n w = none_of (closed_to_arguments riscv) (S n w) refl
 
 pub argument_passes : (k : ℕ) → k < 8 → IsOneOf riscv.argument_registers (G (integer_register k))
 argument_passes k h =
@@ -56,5 +56,5 @@ result_allowed_general = eight_allowed (closed_to_results riscv) (λ k. G (integ
 pub result_allowed_floating : (k : ℕ) → k < 8 → IsNoneOf (closed_to_results riscv) (F (floating_register k))
 result_allowed_floating = eight_allowed (closed_to_results riscv) (λ k. F (floating_register k)) refl
 
-pub result_allowed_stack : (n : ℕ) → IsNoneOf (closed_to_results riscv) (S n)
-result_allowed_stack n = none_of (closed_to_results riscv) (S n) refl
+pub result_allowed_stack : (n w : ℕ) → IsNoneOf (closed_to_results riscv) (S n w)
+result_allowed_stack n w = none_of (closed_to_results riscv) (S n w) refl

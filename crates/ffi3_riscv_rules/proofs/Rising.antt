@@ -18,26 +18,26 @@ use Rattle.ffi3_riscv_rules.specs.Riscv.{integer_register, floating_register, fl
 
 -- ---- the stream of words
 
-word_at_if : (w at : ℕ) (b : Bool) → ltb w 8 ≡ b → cond {A = Loc} b (G (integer_register w)) (S (8 * (w - 8))) ≡ S at → (8 ≤ w) × (8 * (w - 8) ≡ at)
-word_at_if w at true e there = absurd (general_not_stack (integer_register w) at there)
-word_at_if w at false e there = (ltb-false w 8 e, stack_at (8 * (w - 8)) at there)
+word_at_if : (w at size : ℕ) (b : Bool) → ltb w 8 ≡ b → cond {A = Loc} b (G (integer_register w)) (S (8 * (w - 8)) 8) ≡ S at size → (8 ≤ w) × (8 * (w - 8) ≡ at)
+word_at_if w at size true e there = absurd (general_not_stack (integer_register w) at size there)
+word_at_if w at size false e there = (ltb-false w 8 e, stack_at (8 * (w - 8)) 8 at size there)
 
-word_at : (w at : ℕ) → word w ≡ S at → (8 ≤ w) × (8 * (w - 8) ≡ at)
-word_at w at there = word_at_if w at (ltb w 8) refl there
+word_at : (w at size : ℕ) → word w ≡ S at size → (8 ≤ w) × (8 * (w - 8) ≡ at)
+word_at w at size there = word_at_if w at size (ltb w 8) refl there
 
 words_rise : (w : ℕ) (t : Tree) (count : ℕ) → AreRising (word_pieces w t count)
 words_rise w t count =
     doublewords_rise (λ j. word (w + j)) (size_of t) (extension t) rise 0 count
   where
     rise : PlacesRise (λ j. word (w + j))
-    rise j k low high h at there =
-        let first : 8 * (w + j - 8) ≡ low = (word_at (w + j) low at).1 in
-        let second : 8 * (w + k - 8) ≡ high = (word_at (w + k) high there).1 in
-        omega (arith, h, (word_at (w + j) low at).0, first, second)
+    rise j k low v high u h at there =
+        let first : 8 * (w + j - 8) ≡ low = (word_at (w + j) low v at).1 in
+        let second : 8 * (w + k - 8) ≡ high = (word_at (w + k) high u there).1 in
+        omega (arith, h, (word_at (w + j) low v at).0, first, second)
 
 -- ---- by shapes
 
-pair_rises : (p q : Piece) → ((at : ℕ) → p.loc ≡ S at → ⊥) → AreRising (p ∷ q ∷ [])
+pair_rises : (p q : Piece) → ((at w : ℕ) → p.loc ≡ S at w → ⊥) → AreRising (p ∷ q ∷ [])
 pair_rises p q none = (register_rises p none (q ∷ []), (tt, tt))
 
 spot_rises : (start : ℕ → Tree → ℕ) (copies : ℕ) (before : TakenWords) (t : Tree) (shape : Shape) → PlaceRises (place_at start copies t (spot_of before t shape))

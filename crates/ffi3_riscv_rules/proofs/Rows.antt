@@ -101,7 +101,7 @@ nested_floats = refl
 
 -- seven sint64, a pair and a sint64: the pair is split between a7 and the stack
 pub split_pair : plan_of riscv (sig_of void (integer ∷ integer ∷ integer ∷ integer ∷ integer ∷ integer ∷ integer ∷ pair ∷ integer ∷ [])) ≡ record {
-  places = alone (G 10) ∷ alone (G 11) ∷ alone (G 12) ∷ alone (G 13) ∷ alone (G 14) ∷ alone (G 15) ∷ alone (G 16) ∷ Direct (at (G 17) 0 8 ∷ at (S 0) 8 8 ∷ []) ∷ alone (S 8) ∷ [];
+  places = alone (G 10) ∷ alone (G 11) ∷ alone (G 12) ∷ alone (G 13) ∷ alone (G 14) ∷ alone (G 15) ∷ alone (G 16) ∷ Direct (at (G 17) 0 8 ∷ at (S 0 8) 8 8 ∷ []) ∷ alone (S 8 8) ∷ [];
   res = Nothing;
   need = 304;
   frame = 16;
@@ -113,7 +113,7 @@ split_pair = refl
 
 -- eight sint64, and a pair, a sint8 and a triple on the stack, the last by reference
 pub none_left : plan_of riscv (sig_of void (replicate 8 integer ++ pair ∷ scalar s8 ∷ triple ∷ [])) ≡ record {
-  places = in_general ++ Direct (at (S 0) 0 8 ∷ at (S 8) 8 8 ∷ []) ∷ Direct (extended (S 16) 1 ∷ []) ∷ ByRef (S 24) 32 ∷ [];
+  places = in_general ++ Direct (at (S 0 8) 0 8 ∷ at (S 8 8) 8 8 ∷ []) ∷ Direct (extended (S 16 8) 1 ∷ []) ∷ ByRef (S 24 8) 32 ∷ [];
   res = Nothing;
   need = 384;
   frame = 64;
@@ -149,7 +149,7 @@ mixed_without_floating = refl
 
 -- seven of each and struct{float,sint32}, then one more: the last registers, and then the stack
 pub mixed_with_one_left : plan_of riscv (sig_of void (replicate 7 (scalar double) ++ (replicate 7 integer ++ mixed ∷ mixed ∷ []))) ≡ record {
-  places = alone (F 10) ∷ alone (F 11) ∷ alone (F 12) ∷ alone (F 13) ∷ alone (F 14) ∷ alone (F 15) ∷ alone (F 16) ∷ alone (G 10) ∷ alone (G 11) ∷ alone (G 12) ∷ alone (G 13) ∷ alone (G 14) ∷ alone (G 15) ∷ alone (G 16) ∷ Direct (boxed (F 17) 0 ∷ at (G 17) 4 4 ∷ []) ∷ alone (S 0) ∷ [];
+  places = alone (F 10) ∷ alone (F 11) ∷ alone (F 12) ∷ alone (F 13) ∷ alone (F 14) ∷ alone (F 15) ∷ alone (F 16) ∷ alone (G 10) ∷ alone (G 11) ∷ alone (G 12) ∷ alone (G 13) ∷ alone (G 14) ∷ alone (G 15) ∷ alone (G 16) ∷ Direct (boxed (F 17) 0 ∷ at (G 17) 4 4 ∷ []) ∷ alone (S 0 8) ∷ [];
   res = Nothing;
   need = 352;
   frame = 16;
@@ -161,7 +161,7 @@ mixed_with_one_left = refl
 
 -- eight sint64 and struct{float,sint32}: no integer register is left, and fa0 stays free for the double behind it
 pub mixed_without_general : plan_of riscv (sig_of void (replicate 8 integer ++ mixed ∷ scalar double ∷ [])) ≡ record {
-  places = in_general ++ alone (S 0) ∷ alone (F 10) ∷ [];
+  places = in_general ++ alone (S 0 8) ∷ alone (F 10) ∷ [];
   res = Nothing;
   need = 304;
   frame = 16;
@@ -235,7 +235,7 @@ reference = refl
 
 -- seven sint64, a uint128 and a sint64: the uint128 is split between a7 and the stack
 pub split_wide : plan_of riscv (sig_of void (integer ∷ integer ∷ integer ∷ integer ∷ integer ∷ integer ∷ integer ∷ wide ∷ integer ∷ [])) ≡ record {
-  places = alone (G 10) ∷ alone (G 11) ∷ alone (G 12) ∷ alone (G 13) ∷ alone (G 14) ∷ alone (G 15) ∷ alone (G 16) ∷ halves (G 17) (S 0) ∷ alone (S 8) ∷ [];
+  places = alone (G 10) ∷ alone (G 11) ∷ alone (G 12) ∷ alone (G 13) ∷ alone (G 14) ∷ alone (G 15) ∷ alone (G 16) ∷ halves (G 17) (S 0 8) ∷ alone (S 8 8) ∷ [];
   res = Nothing;
   need = 304;
   frame = 16;
@@ -247,7 +247,7 @@ split_wide = refl
 
 -- the same, the last two variadic: the uint128 begins at an even word, and a7 stays untouched
 pub variadic_wide : plan_of riscv (variadic_from void (integer ∷ integer ∷ integer ∷ integer ∷ integer ∷ integer ∷ integer ∷ wide ∷ integer ∷ []) 7) ≡ record {
-  places = alone (G 10) ∷ alone (G 11) ∷ alone (G 12) ∷ alone (G 13) ∷ alone (G 14) ∷ alone (G 15) ∷ alone (G 16) ∷ halves (S 0) (S 8) ∷ alone (S 16) ∷ [];
+  places = alone (G 10) ∷ alone (G 11) ∷ alone (G 12) ∷ alone (G 13) ∷ alone (G 14) ∷ alone (G 15) ∷ alone (G 16) ∷ halves (S 0 8) (S 8 8) ∷ alone (S 16 8) ∷ [];
   res = Nothing;
   need = 320;
   frame = 32;
@@ -283,7 +283,7 @@ fixed_in_next_register = refl
 
 -- eight sint64, a sint64 and a uint128: on the stack it begins at an even word
 pub wide_on_stack : plan_of riscv (sig_of void (replicate 8 integer ++ integer ∷ wide ∷ [])) ≡ record {
-  places = in_general ++ alone (S 0) ∷ halves (S 16) (S 24) ∷ [];
+  places = in_general ++ alone (S 0 8) ∷ halves (S 16 8) (S 24 8) ∷ [];
   res = Nothing;
   need = 336;
   frame = 32;

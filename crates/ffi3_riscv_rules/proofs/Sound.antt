@@ -13,7 +13,7 @@ use Rattle.ffi3_place_rules.specs.declared.Taken.{Taken}
 use Rattle.ffi3_place_rules.specs.Isa.{result_loads}
 use Rattle.ffi3_place_rules.specs.Standard.{Spot, in_pieces, by_reference, ResultSpot, no_result as nowhere, plan_of, copy_end, place_at, places_from, result_at, copies_start, frame_copies_end, frame_of}
 use Rattle.ffi3_place_rules.specs.Doublewords.{doublewords_at}
-use Rattle.ffi3_place_rules.specs.Sound.{IsOnStackOrIn, AreApart, piece_locs, place_locs, hidden_locs, result_locs, argument_locs, IsNoneOf, IsOneOf, LiesIn, call_locs, closed_to_arguments, closed_to_results, PlaceHasAll, ResultHasAll, PlaceIsFilled, ResultIsFilled, IsSound, IsDetermined}
+use Rattle.ffi3_place_rules.specs.Sound.{IsWhole, IsOnStackOrIn, AreApart, piece_locs, place_locs, hidden_locs, result_locs, argument_locs, IsNoneOf, IsOneOf, LiesIn, call_locs, closed_to_arguments, closed_to_results, PlaceHasAll, ResultHasAll, PlaceIsFilled, ResultIsFilled, IsSound, IsDetermined}
 use Rattle.ffi3_place_rules.proofs.Chain.{AtMost, at_most_self, From, Until, Chain, chain_less, chain_append, chain_apart, chain_allowed, chain_passed, chain_in, chain_lies_in}
 use Rattle.ffi3_place_rules.proofs.Frame.{up_to, frame_chain}
 use Rattle.ffi3_place_rules.proofs.Ends.{start-behind, even-behind}
@@ -53,16 +53,16 @@ more_words w v f g h k = record { general = h; vector = k; stack = omega (arith,
 
 -- ---- the stream of words
 
-word_from_if : (w f : ℕ) (b : Bool) → ltb w 8 ≡ b → IsFrom (taken_of w f) (cond {A = Loc} b (G (integer_register w)) (S (8 * (w - 8))))
+word_from_if : (w f : ℕ) (b : Bool) → ltb w 8 ≡ b → IsFrom (taken_of w f) (cond {A = Loc} b (G (integer_register w)) (S (8 * (w - 8)) 8))
 word_from_if w f true e = (w, refl, omega arith, ltb-true w 8 e)
 word_from_if w f false e = omega arith
 
 word_from : (w f : ℕ) → IsFrom (taken_of w f) (word w)
 word_from w f = word_from_if w f (ltb w 8) refl
 
-word_until_if : (w f : ℕ) (b : Bool) → ltb w 8 ≡ b → IsUntil (taken_of (w + 1) f) (cond {A = Loc} b (G (integer_register w)) (S (8 * (w - 8))))
+word_until_if : (w f : ℕ) (b : Bool) → ltb w 8 ≡ b → IsUntil (taken_of (w + 1) f) (cond {A = Loc} b (G (integer_register w)) (S (8 * (w - 8)) 8))
 word_until_if w f true e = (w, refl, omega arith)
-word_until_if w f false e = omega (arith, ltb-false w 8 e)
+word_until_if w f false e = (omega (arith, ltb-false w 8 e), omega arith, omega arith)
 
 word_until : (w f : ℕ) → IsUntil (taken_of (w + 1) f) (word w)
 word_until w f = word_until_if w f (ltb w 8) refl
@@ -258,6 +258,18 @@ module _ (t : Tree) (buffer : ℕ) where
       let fills = spot_filled riscv.copy_start 0 untouched t shape (passed_suits untouched true t) (passed_floats untouched true t) in
       result_cases (λ spot. ResultIsFilled riscv t (result_at riscv.copy_start buffer t spot)) t (λ e. tt) (filled_of t buffer (spot_of untouched t shape) fills)
 
+hidden_whole_of : (t : Tree) (buffer : ℕ) (shape : Shape) → AllByRecursion IsWhole (hidden_locs (result_at riscv.copy_start buffer t (result_from (spot_of untouched t shape))))
+hidden_whole_of t buffer OneF = tt
+hidden_whole_of t buffer TwoF = tt
+hidden_whole_of t buffer FI = tt
+hidden_whole_of t buffer IF = tt
+hidden_whole_of t buffer (Words n) = tt
+hidden_whole_of t buffer ByRef = (refl, tt)
+
+hidden_whole : (t : Tree) (buffer : ℕ) → AllByRecursion IsWhole (hidden_locs (result_at riscv.copy_start buffer t (result_spot_of t)))
+hidden_whole t buffer =
+    result_cases (λ spot. AllByRecursion IsWhole (hidden_locs (result_at riscv.copy_start buffer t spot))) t (λ e. tt) (hidden_whole_of t buffer (result_shape t))
+
 -- every law of the places
 pub sound : (s : Signature) → IsSound riscv s
 sound s =
@@ -268,6 +280,7 @@ sound s =
       on_stack = plan_lies_in s;
       allowed = plan_allowed s;
       passed = plan_passed s;
+      address = hidden_whole s.result_type buffer;
       has_all = arguments_have_all riscv.copy_start (copies_start (placing_of s)) s.fixed (taken_at_first s.result_type) 0 s.arguments;
       filled = arguments_filled riscv.copy_start (copies_start (placing_of s)) s.fixed (taken_at_first s.result_type) 0 s.arguments;
       rising = arguments_rise riscv.copy_start (copies_start (placing_of s)) s.fixed (taken_at_first s.result_type) 0 s.arguments;

@@ -98,7 +98,7 @@ floating_register k = 10 + k
 -- Word k of the stream of integer words: a0 to a7, and then the stack from offset 0 on. ("Integer Calling Convention", on a value of which the first XLEN bits are passed in the last register and the rest on the stack, and on the first argument on the stack)
 abbrev pub word : ℕ → Loc
 word k =
-    cond {A = Loc} (nat_lt k 8) (G (integer_register k)) (S (8 * (k - 8)))
+    cond {A = Loc} (nat_lt k 8) (G (integer_register k)) (S (8 * (k - 8)) 8)
 
 -- An integer narrower than XLEN is widened by its sign to 32 bits, then sign-extended. ("Integer Calling Convention", on scalars of at most XLEN bits)
 abbrev pub extension : Tree → Ext

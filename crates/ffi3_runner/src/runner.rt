@@ -170,8 +170,8 @@ impl<'a, A: Abi> Runner<'a, A> {
     /// handed to the output before the next move. With `trace` each entry and each return is told
     /// as soon as it is recorded, in two lines.
     ///
-    /// Calls alone move the machine's count of steps on: after `Done` it is 66 on amd64, 108 on aapcs64,
-    /// 112 on riscv and 3 on win64 for each call, modulo 2^64.
+    /// Calls alone move the machine's count of steps on: after `Done` it is 66 on amd64, 108 on aapcs64
+    /// and apple, 112 on riscv and 3 on win64 for each call, modulo 2^64.
     pub fn run_main<O: Sink>(
         &mut self,
         machine: &mut Machine,

@@ -5,6 +5,7 @@ ghost use Rattle.ffi3_ask.specs.Handed.{handed, signatures_in};
 use crate::{Native, Ran, RunEnd, Stop, run_script};
 use ffi3_aapcs64::Aapcs64;
 use ffi3_amd64::Amd64;
+use ffi3_apple::Apple;
 use ffi3_machine::Target;
 use ffi3_place::Abi;
 use ffi3_riscv::Riscv;
@@ -31,6 +32,7 @@ fn steps_of_a_call(target: Target) -> u64 {
         Target::Aapcs64 => 108,
         Target::Riscv => 112,
         Target::Win64 => 3,
+        Target::Apple => 108,
     }
 }
 
@@ -65,7 +67,8 @@ fn check_by<A: Abi>(
     Ok(())
 }
 
-/// Runs a script by AMD64, AAPCS64, RISC-V and Microsoft x64.
+/// Runs a script by AMD64, AAPCS64, RISC-V and Microsoft x64, and by Apple's standard, which places as AAPCS64 does where
+/// no argument is variadic or on the stack.
 pub fn check(
     rt: &impl Abort,
     alloc: Global,
@@ -79,7 +82,8 @@ pub fn check(
     check_by::<Amd64>(rt, alloc, natives, script, &wanted[0])?;
     check_by::<Aapcs64>(rt, alloc, natives, script, &wanted[1])?;
     check_by::<Riscv>(rt, alloc, natives, script, &wanted[2])?;
-    check_by::<Win64>(rt, alloc, natives, script, &wanted[3])
+    check_by::<Win64>(rt, alloc, natives, script, &wanted[3])?;
+    check_by::<Apple>(rt, alloc, natives, script, &wanted[1])
 }
 
 /// The same run by each standard, but for the lowest address that it writes.

@@ -56,5 +56,5 @@ overwritten std s byte a b is =
     let base : a.sp + std.link ≡ b.sp + std.link = ap (λ n. n + std.link) (sym is.sp) in
     record {
       registers = subst (λ n. (l : Loc) (k : ℕ) → IsPlace 0 l → k < 8 → is_free std s l k ≡ true → byte_of n b l k ≡ byte) base is.register_free;
-      frame = subst (λ at. (n : ℕ) → is_free std s (S n) 0 ≡ true → stack_byte b (at + n) ≡ byte) base is.frame_free;
+      frame = subst (λ at. (n : ℕ) → is_free std s (S n 1) 0 ≡ true → stack_byte b (at + n) ≡ byte) base is.frame_free;
     }

@@ -26,4 +26,4 @@ pub record IsShown (std : Standard) (signatures : List Signature) (closures : Cl
 pub record IsOverwritten (std : Standard) (s : Signature) (byte : ℕ) (m : State) : Type 0 where
   pub registers : (l : Loc) (k : ℕ) → IsPlace 0 l → k < 8 → is_free std s l k ≡ true
       → byte_of (m.sp + std.link) m l k ≡ byte
-  pub frame : (n : ℕ) → is_free std s (S n) 0 ≡ true → stack_byte m (m.sp + std.link + n) ≡ byte
+  pub frame : (n : ℕ) → is_free std s (S n 1) 0 ≡ true → stack_byte m (m.sp + std.link + n) ≡ byte

@@ -2,6 +2,7 @@
 use crate::call_after_main;
 use ffi3_aapcs64::Aapcs64;
 use ffi3_amd64::Amd64;
+use ffi3_apple::Apple;
 use ffi3_body::Native;
 use ffi3_natives::{Apply, Sum3, Twice};
 use ffi3_place::Abi;
@@ -65,7 +66,8 @@ fn serves_a_call_with_all_else_overwritten(rt: HostRuntime) -> Result<(), Fail> 
     check_increment::<Amd64>(&rt, alloc)?;
     check_increment::<Aapcs64>(&rt, alloc)?;
     check_increment::<Riscv>(&rt, alloc)?;
-    check_increment::<Win64>(&rt, alloc)
+    check_increment::<Win64>(&rt, alloc)?;
+    check_increment::<Apple>(&rt, alloc)
 }
 
 #[test]

@@ -27,14 +27,14 @@ unfoldable pub are_moved : List Loc → Bool
 are_moved [] = true
 are_moved (G k ∷ ls) = is_plain k && are_moved ls
 are_moved (F k ∷ ls) = nat_lt k 8 && are_moved ls
-are_moved (S k ∷ ls) = false
+are_moved (S k w ∷ ls) = false
 
 -- registers that are moved to and from the save area
 unfoldable pub are_saved : List Loc → Bool
 are_saved [] = true
 are_saved (G k ∷ ls) = is_plain k && are_saved ls
 are_saved (F k ∷ ls) = false
-are_saved (S k ∷ ls) = false
+are_saved (S k w ∷ ls) = false
 
 both : (a b : Bool) → (a && b) ≡ true → (a ≡ true) × (b ≡ true)
 both true b h = (refl, h)
@@ -100,7 +100,7 @@ exchange_loaded (F k ∷ ls) s tail ok base count h =
     let at : slice_index s.general 11 + (256 + 8 * k) ≡ EXCHANGE + (256 + 8 * k) = ap (λ b. b + (256 + 8 * k)) base in
     let step : StepsBy Amd64 s m = load_floating_row s k (256 + 8 * k) (EXCHANGE + (256 + 8 * k)) v rest small (omega arith) h at (omega arith) (load_exchange s (256 + 8 * k) (EXCHANGE + (256 + 8 * k)) (omega arith) refl) in
     joined s m _ (length ls) tail step (exchange_loaded ls m tail parts.1 base count (onward Amd64 s m (amd64_row s.pc (load (F k) 11 (256 + 8 * k))) rest 9 refl refl (length-append (amd64_row s.pc (load (F k) 11 (256 + 8 * k))) rest) h))
-exchange_loaded (S k ∷ ls) s tail ok base count h = absurd cc
+exchange_loaded (S k w ∷ ls) s tail ok base count h = absurd cc
 
 -- ---- stores to it
 
@@ -122,7 +122,7 @@ exchange_stored (F k ∷ ls) s tail ok base count h =
     let rest : List ℕ = bytes_of Amd64 (s.pc + 9) (exchange_stores 11 ls) ++ tail in
     let step : StepsBy Amd64 s m = store_floating_row s k (256 + 8 * k) (EXCHANGE + (256 + 8 * k)) rest small (omega arith) h base refl in
     joined s m _ (length ls) tail step (exchange_stored ls m tail parts.1 base count (onward Amd64 s m (amd64_row s.pc (store (F k) 11 (256 + 8 * k))) rest 9 refl refl (length-append (amd64_row s.pc (store (F k) 11 (256 + 8 * k))) rest) h))
-exchange_stored (S k ∷ ls) s tail ok base count h = absurd cc
+exchange_stored (S k w ∷ ls) s tail ok base count h = absurd cc
 
 -- ---- loads from the save area, and stores to it
 
@@ -148,7 +148,7 @@ area_loaded (G k ∷ ls) s at tail ok low high base count h =
     let step : StepsBy Amd64 s m = load_area_row s k at (s.sp + at) v rest plain.in_range plain.not_sp (omega arith) h refl (omega arith) (load_stack s (s.sp + at) (omega arith) (omega arith)) in
     joined s m _ (length ls) tail step (area_loaded ls m (at + 8) tail parts.1 low (omega arith) (kept_base s.general k v plain.not_base base) (length-set s.general k v ∙ count) (onward Amd64 s m (amd64_row s.pc (load (G k) 4 at)) rest 8 refl refl (length-append (amd64_row s.pc (load (G k) 4 at)) rest) h))
 area_loaded (F k ∷ ls) s at tail ok low high base count h = absurd cc
-area_loaded (S k ∷ ls) s at tail ok low high base count h = absurd cc
+area_loaded (S k w ∷ ls) s at tail ok low high base count h = absurd cc
 
 pub area_stored : (ls : List Loc) (s : State) (at : ℕ) (tail : List ℕ) → are_saved ls ≡ true → STACK ≤ s.sp → s.sp + at + 8 * length ls ≤ STACK_TOP → Stands Amd64 s (bytes_of Amd64 s.pc (area_stores 4 at ls) ++ tail) → Went s (to_area Amd64 at ls s) (length ls) tail
 unfolding are_saved
@@ -161,4 +161,4 @@ area_stored (G k ∷ ls) s at tail ok low high h =
     let step : StepsBy Amd64 s m = store_area_row s k at (s.sp + at) rest plain.in_range plain.not_sp (omega arith) h refl (omega arith) (omega arith) in
     joined_area s m _ (length ls) tail step (area_stored ls m (at + 8) tail parts.1 low (omega arith) (onward Amd64 s m (amd64_row s.pc (store (G k) 4 at)) rest 8 refl refl (length-append (amd64_row s.pc (store (G k) 4 at)) rest) h))
 area_stored (F k ∷ ls) s at tail ok low high h = absurd cc
-area_stored (S k ∷ ls) s at tail ok low high h = absurd cc
+area_stored (S k w ∷ ls) s at tail ok low high h = absurd cc

@@ -23,7 +23,7 @@ unfoldable pub are_apart : List Loc → Bool
 are_apart [] = true
 are_apart (G k ∷ ls) = nat_lt k 32 && (not (is_in (G k) ls) && are_apart ls)
 are_apart (F k ∷ ls) = nat_lt k 32 && (not (is_in (F k) ls) && are_apart ls)
-are_apart (S k ∷ ls) = false
+are_apart (S k w ∷ ls) = false
 
 both : (a b : Bool) → (a && b) ≡ true → (a ≡ true) × (b ≡ true)
 both true b h = (refl, h)
@@ -48,18 +48,18 @@ differ a b h e = grind (arith, nat_tests)
 received_other : (size v : ℕ) (l m : Loc) (s : State) → same_loc l m ≡ false → held l (received size m v s) ≡ held l s
 received_other size v (G a) (G b) s h = get_or-set_other s.general b a v 0 (differ a b h)
 received_other size v (G a) (F b) s h = refl
-received_other size v (G a) (S b) s h = refl
+received_other size v (G a) (S b w) s h = refl
 received_other size v (F a) (G b) s h = refl
 received_other size v (F a) (F b) s h = get_or-set_other s.floating b a v 0 (differ a b h)
-received_other size v (F a) (S b) s h = refl
-received_other size v (S a) (G b) s h = refl
-received_other size v (S a) (F b) s h = refl
-received_other size v (S a) (S b) s h = refl
+received_other size v (F a) (S b w) s h = refl
+received_other size v (S a w) (G b) s h = refl
+received_other size v (S a w) (F b) s h = refl
+received_other size v (S a x) (S b y) s h = refl
 
 pub addressed_other : (general : List ℕ) (l : Loc) (k v : ℕ) (s t : State) → t.general ≡ slice_set s.general k v → t.floating ≡ s.floating → same_loc l (G k) ≡ false → held l t ≡ held l s
 addressed_other general (G a) k v s t e f h = ap (λ (g : List ℕ). slice_index g a) e ∙ get_or-set_other s.general k a v 0 (differ a k h)
 addressed_other general (F a) k v s t e f h = ap (λ (g : List ℕ). slice_index g a) f
-addressed_other general (S a) k v s t e f h = refl
+addressed_other general (S a w) k v s t e f h = refl
 
 -- ---- from the exchange region
 
@@ -88,7 +88,7 @@ came_from_exchange isa base (F k ∷ ls) s ok g f =
     let v : ℕ = x_of (256 + 8 * k) s in
     let m : State = received size (F k) v s in
     (exchange_others isa base ls m (F k) (negated (is_in (F k) ls) more.0) ∙ get_or-set_same s.floating k v 0 (omega arith), came_from_exchange isa base ls m more.1 g (length-set s.floating k v ∙ f))
-came_from_exchange isa base (S k ∷ ls) s ok g f = absurd cc
+came_from_exchange isa base (S k w ∷ ls) s ok g f = absurd cc
 
 -- ---- from the save area
 
@@ -117,7 +117,7 @@ came_from_area isa at addr (F k ∷ ls) s here ok g f =
     let v : ℕ = number_of 8 (stack_at (s.sp + at) 8 s) in
     let m : State = received size (F k) v s in
     (area_others isa (at + 8) ls m (F k) (negated (is_in (F k) ls) more.0) ∙ get_or-set_same s.floating k v 0 (omega arith) ∙ ap (λ a. number_of 8 (stack_at a 8 s)) here, came_from_area isa (at + 8) (addr + 8) ls m (omega arith) more.1 g (length-set s.floating k v ∙ f))
-came_from_area isa at addr (S k ∷ ls) s here ok g f = absurd cc
+came_from_area isa at addr (S k w ∷ ls) s here ok g f = absurd cc
 
 -- ---- bytes that are written, and those around them
 
@@ -155,7 +155,7 @@ other_place xs a b v ne low = by_order (nat_lt a b) refl
 unfoldable pub place : Loc → ℕ
 place (G k) = k
 place (F k) = 32 + k
-place (S k) = 0
+place (S k w) = 0
 
 unfoldable pub misses : ℕ → List Loc → Bool
 misses n [] = true
@@ -166,7 +166,7 @@ unfoldable pub are_spread : List Loc → Bool
 are_spread [] = true
 are_spread (G k ∷ ls) = nat_lt k 32 && (misses k ls && are_spread ls)
 are_spread (F k ∷ ls) = nat_lt k 32 && (misses (32 + k) ls && are_spread ls)
-are_spread (S k ∷ ls) = false
+are_spread (S k w ∷ ls) = false
 
 unlike : (a b : ℕ) → not (a == b) ≡ true → a ≢ b
 unlike a b h = differ a b (negated (a == b) h)
@@ -191,7 +191,7 @@ exchange_kept isa base (F k ∷ ls) s n out ok len =
     let m : State = exchanged (size_of isa (load (F k) base 0)) (256 + 8 * k) v s in
     let at : 8 * (32 + k) ≡ 256 + 8 * k = omega arith in
     exchange_kept isa base ls m n away.1 more.1 (word_length s.exchange (256 + 8 * k) v (omega arith) ∙ len) ∙ ap (λ i. take 8 (drop (8 * n) (replace_range s.exchange i (i + length (low_bytes 8 v)) (low_bytes 8 v)))) (sym at) ∙ other_place s.exchange n (32 + k) v (unlike n (32 + k) away.0) (omega arith)
-exchange_kept isa base (S k ∷ ls) s n out ok len = absurd cc
+exchange_kept isa base (S k w ∷ ls) s n out ok len = absurd cc
 
 pub exchange_beyond : (isa : Isa) (base : ℕ) (ls : List Loc) (s : State) (at : ℕ) → 512 ≤ at → are_spread ls ≡ true → length s.exchange ≡ 552 → take 8 (drop at (to_exchange isa base ls s).exchange) ≡ take 8 (drop at s.exchange)
 unfolding are_spread
@@ -210,7 +210,7 @@ exchange_beyond isa base (F k ∷ ls) s at far ok len =
     let v : ℕ = slice_index s.floating k in
     let m : State = exchanged (size_of isa (load (F k) base 0)) (256 + 8 * k) v s in
     exchange_beyond isa base ls m at far more.1 (word_length s.exchange (256 + 8 * k) v (omega arith) ∙ len) ∙ word_above s.exchange at (256 + 8 * k) v (omega arith) (omega arith)
-exchange_beyond isa base (S k ∷ ls) s at far ok len = absurd cc
+exchange_beyond isa base (S k w ∷ ls) s at far ok len = absurd cc
 
 pub went_to_exchange : (isa : Isa) (base : ℕ) (ls : List Loc) (s : State) → are_spread ls ≡ true → length s.exchange ≡ 552 → WentToExchange ls s (to_exchange isa base ls s)
 unfolding place misses are_spread
@@ -233,7 +233,7 @@ went_to_exchange isa base (F k ∷ ls) s ok len =
     let at : 256 + 8 * k ≡ 8 * (32 + k) = omega arith in
     let still : take 8 (drop (8 * (32 + k)) (to_exchange isa base ls m).exchange) ≡ take 8 (drop (8 * (32 + k)) m.exchange) = exchange_kept isa base ls m (32 + k) more.0 more.1 kept in
     (ap (λ i. take 8 (drop i (to_exchange isa base ls m).exchange)) at ∙ still ∙ ap (λ i. take 8 (drop i m.exchange)) (sym at) ∙ word_written s.exchange (256 + 8 * k) v (omega arith), went_to_exchange isa base ls m more.1 kept)
-went_to_exchange isa base (S k ∷ ls) s ok len = absurd cc
+went_to_exchange isa base (S k w ∷ ls) s ok len = absurd cc
 
 -- ---- to the save area
 
@@ -258,7 +258,7 @@ went_to_area isa at addr (l ∷ ls) s here low high len =
 turned : (b : ℕ) (l : Loc) → same_loc (G b) l ≡ false → same_loc l (G b) ≡ false
 turned b (G a) h = let ne : b ≢ a = differ b a h in grind (arith, nat_tests)
 turned b (F a) h = refl
-turned b (S a) h = refl
+turned b (S a w) h = refl
 
 -- registers that hold the same but for one that is none of the list
 pub went_from : (b : ℕ) (ls : List Loc) (s t u : State) → is_in (G b) ls ≡ false → ((l : Loc) → same_loc l (G b) ≡ false → held l t ≡ held l s) → WentToExchange ls t u → WentToExchange ls s u
@@ -288,7 +288,7 @@ area_lengths isa at (F k ∷ ls) s =
     let v : ℕ = number_of 8 (stack_at (s.sp + at) 8 s) in
     let rest = area_lengths isa (at + 8) ls (received (size_of isa (load (F k) (stack_pointer isa) 0)) (F k) v s) in
     (rest.0, rest.1 ∙ length-set s.floating k v)
-area_lengths isa at (S k ∷ ls) s = area_lengths isa (at + 8) ls s
+area_lengths isa at (S k w ∷ ls) s = area_lengths isa (at + 8) ls s
 
 pub in_neither : (l : Loc) (xs ys : List Loc) → is_in l (xs ++ ys) ≡ false → (is_in l xs ≡ false) × (is_in l ys ≡ false)
 in_neither l [] ys h = (refl, h)
@@ -310,7 +310,7 @@ exchange_lengths isa base (G k ∷ ls) s =
     let v : ℕ = x_of (8 * k) s in
     exchange_lengths isa base ls (received (size_of isa (load (G k) base 0)) (G k) v s) ∙ length-set s.general k v
 exchange_lengths isa base (F k ∷ ls) s = exchange_lengths isa base ls (received (size_of isa (load (F k) base 0)) (F k) (x_of (256 + 8 * k) s) s)
-exchange_lengths isa base (S k ∷ ls) s = exchange_lengths isa base ls s
+exchange_lengths isa base (S k w ∷ ls) s = exchange_lengths isa base ls s
 
 -- one register is written
 pub other_than : (l : Loc) (k v : ℕ) (s t : State) → t.general ≡ slice_set s.general k v → t.floating ≡ s.floating → same_loc l (G k) ≡ false → held l t ≡ held l s

@@ -33,9 +33,9 @@ fits_general b k h =
     let r = both (not (k == b)) (not (k == 2)) q.1 in
     record { in_range = under k 32 p.0; not_zero = other k 0 q.0; not_sp = other k 2 r.1 }
 
-no_stack : (b k : ℕ) → ¬ (fits 32 0 b 2 (S k) ≡ true)
+no_stack : (b k w : ℕ) → ¬ (fits 32 0 b 2 (S k w) ≡ true)
 unfolding fits
-no_stack b k h = cc
+no_stack b k w h = cc
 
 fits_floating : (b k : ℕ) → fits 32 0 b 2 (F k) ≡ true → k < 32
 unfolding fits
@@ -45,13 +45,13 @@ load_length : (b : ℕ) (l : Loc) (pc r o : ℕ) → fits 32 0 b 2 l ≡ true �
 unfolding fits
 load_length b (G k) pc r o ok = refl
 load_length b (F k) pc r o ok = refl
-load_length b (S k) pc r o ok = absurd cc
+load_length b (S k w) pc r o ok = absurd cc
 
 store_length : (b : ℕ) (l : Loc) (pc r o : ℕ) → fits 32 0 b 2 l ≡ true → length (row_bytes Riscv pc (store l r o)) ≡ 4
 unfolding fits
 store_length b (G k) pc r o ok = refl
 store_length b (F k) pc r o ok = refl
-store_length b (S k) pc r o ok = absurd cc
+store_length b (S k w) pc r o ok = absurd cc
 
 from_x : (b : ℕ) → b < 32 → b ≢ 0 → b ≢ 2 → (s : State) (l : Loc) (tail : List ℕ) → fits 32 0 b 2 l ≡ true → s.pc % 4 ≡ 0 → slice_index s.general b ≡ EXCHANGE → Stands Riscv s (row_bytes Riscv s.pc (load l b (exchanged_at l)) ++ tail) → StepsBy Riscv s (received 4 l (x_of (exchanged_at l) s) s)
 from_x b low nz ns s (G k) tail ok al held h =
@@ -63,7 +63,7 @@ from_x b low nz ns s (F k) tail ok al held h =
     let small : k < 32 = fits_floating b k ok in
     let at : base Riscv b s + (256 + 8 * k) ≡ EXCHANGE + (256 + 8 * k) = ap (λ x. x + (256 + 8 * k)) (base_is s b nz ns ∙ held) in
     load_floating_row s k b (256 + 8 * k) (EXCHANGE + (256 + 8 * k)) (x_of (256 + 8 * k) s) tail small low (omega arith) al h at (omega arith) (load_exchange Riscv s (256 + 8 * k) (EXCHANGE + (256 + 8 * k)) (omega arith) refl)
-from_x b low nz ns s (S k) tail ok al held h = absurd (no_stack b k ok)
+from_x b low nz ns s (S k w) tail ok al held h = absurd (no_stack b k w ok)
 
 to_x : (b : ℕ) → b < 32 → b ≢ 0 → b ≢ 2 → (s : State) (l : Loc) (tail : List ℕ) → fits 32 0 b 2 l ≡ true → s.pc % 4 ≡ 0 → slice_index s.general b ≡ EXCHANGE → Stands Riscv s (row_bytes Riscv s.pc (store l b (exchanged_at l)) ++ tail) → StepsBy Riscv s (exchanged 4 (exchanged_at l) (held l s) s)
 to_x b low nz ns s (G k) tail ok al there h =
@@ -73,7 +73,7 @@ to_x b low nz ns s (G k) tail ok al there h =
 to_x b low nz ns s (F k) tail ok al there h =
     let small : k < 32 = fits_floating b k ok in
     store_floating_row s k b (256 + 8 * k) (EXCHANGE + (256 + 8 * k)) tail small low (omega arith) al h (base_is s b nz ns ∙ there) refl
-to_x b low nz ns s (S k) tail ok al there h = absurd (no_stack b k ok)
+to_x b low nz ns s (S k w) tail ok al there h = absurd (no_stack b k w ok)
 
 from_stack : (b : ℕ) (s : State) (l : Loc) (at : ℕ) (tail : List ℕ) → fits 32 0 b 2 l ≡ true → s.pc % 4 ≡ 0 → at % 8 ≡ 0 → at < 2048 → STACK ≤ s.sp + at → s.sp + at + 8 ≤ STACK_TOP → Stands Riscv s (row_bytes Riscv s.pc (load l 2 at) ++ tail) → StepsBy Riscv s (received 4 l (number_of 8 (stack_at (s.sp + at) 8 s)) s)
 from_stack b s (G k) at tail ok al eight short low high h =
@@ -81,7 +81,7 @@ from_stack b s (G k) at tail ok al eight short low high h =
     load_general_row s k 2 at (s.sp + at) (number_of 8 (stack_at (s.sp + at) 8 s)) tail p.in_range p.not_zero p.not_sp (omega arith) short al h refl (omega arith) (load_stack Riscv s (s.sp + at) low high)
 from_stack b s (F k) at tail ok al eight short low high h =
     load_floating_row s k 2 at (s.sp + at) (number_of 8 (stack_at (s.sp + at) 8 s)) tail (fits_floating b k ok) (omega arith) short al h refl (omega arith) (load_stack Riscv s (s.sp + at) low high)
-from_stack b s (S k) at tail ok al eight short low high h = absurd (no_stack b k ok)
+from_stack b s (S k w) at tail ok al eight short low high h = absurd (no_stack b k w ok)
 
 to_stack : (b : ℕ) (s : State) (l : Loc) (at : ℕ) (tail : List ℕ) → fits 32 0 b 2 l ≡ true → s.pc % 4 ≡ 0 → at % 8 ≡ 0 → at < 2048 → STACK ≤ s.sp + at → s.sp + at + 8 ≤ STACK_TOP → Stands Riscv s (row_bytes Riscv s.pc (store l 2 at) ++ tail) → StepsBy Riscv s (saved 4 (s.sp + at) (held l s) s)
 to_stack b s (G k) at tail ok al eight short low high h =
@@ -89,7 +89,7 @@ to_stack b s (G k) at tail ok al eight short low high h =
     save_general_row s k at (s.sp + at) tail p.in_range p.not_zero p.not_sp short al h refl low high
 to_stack b s (F k) at tail ok al eight short low high h =
     save_floating_row s k at (s.sp + at) tail (fits_floating b k ok) short al h refl low high
-to_stack b s (S k) at tail ok al eight short low high h = absurd (no_stack b k ok)
+to_stack b s (S k w) at tail ok al eight short low high h = absurd (no_stack b k w ok)
 
 pub riscv_laws : (b : ℕ) → b < 32 → b ≢ 0 → b ≢ 2 → Laws Riscv 32 0 b 2
 riscv_laws b low nz ns = record {

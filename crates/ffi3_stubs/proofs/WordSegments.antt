@@ -20,7 +20,7 @@ use Rattle.ffi3_stubs.proofs.Standing.{Stands, onward, TakesBy, one_step, none_t
 unfoldable pub fits : ℕ → ℕ → ℕ → ℕ → Loc → Bool
 fits n a b c (G k) = nat_lt k n && (not (k == a) && (not (k == b) && not (k == c)))
 fits n a b c (F k) = nat_lt k 32
-fits n a b c (S k) = false
+fits n a b c (S k w) = false
 
 unfoldable pub all_fit : ℕ → ℕ → ℕ → ℕ → List Loc → Bool
 all_fit n a b c [] = true
@@ -90,23 +90,23 @@ received_base : (n a b c size v : ℕ) (l : Loc) (s : State) → fits n a b c l 
 unfolding fits
 received_base n a b c size v (G k) s h base = kept_base s.general b k v (not_base n a b c k h) base
 received_base n a b c size v (F k) s h base = base
-received_base n a b c size v (S k) s h base = base
+received_base n a b c size v (S k w) s h base = base
 
 received_count : (size v : ℕ) (l : Loc) (s : State) → length s.general ≡ 32 → length (received size l v s).general ≡ 32
 received_count size v (G k) s h = length-set s.general k v ∙ h
 received_count size v (F k) s h = h
-received_count size v (S k) s h = h
+received_count size v (S k w) s h = h
 
 received_pc : (n a b c v : ℕ) (l : Loc) (s : State) → fits n a b c l ≡ true → (received 4 l v s).pc ≡ s.pc + 4
 unfolding fits
 received_pc n a b c v (G k) s h = refl
 received_pc n a b c v (F k) s h = refl
-received_pc n a b c v (S k) s h = absurd cc
+received_pc n a b c v (S k w) s h = absurd cc
 
 received_sp : (size v : ℕ) (l : Loc) (s : State) → (received size l v s).sp ≡ s.sp
 received_sp size v (G k) s = refl
 received_sp size v (F k) s = refl
-received_sp size v (S k) s = refl
+received_sp size v (S k w) s = refl
 
 sized : (isa : Isa) (s : State) (row : List ℕ) (pc pc2 k : ℕ) (rows : List Row) (tail : List ℕ) → k ≡ 4 → Stands isa s ((row ++ bytes_of isa (s.pc + k) rows) ++ tail) → Stands isa s (row ++ (bytes_of isa (s.pc + 4) rows ++ tail))
 sized isa s row pc pc2 k rows tail e h =

@@ -7,7 +7,7 @@ use Rattle.ffi3_type_rules.specs.declared.Isa.{Isa}
 use Rattle.ffi3_type_rules.specs.declared.Isa.TheVariants.{Amd64, Aarch64, Riscv}
 use Rattle.ffi3_type_rules.specs.declared.limits.TheConstants.{STACK, RETURN}
 use Rattle.ffi3_place_rules.specs.declared.Loc.{Loc}
-use Rattle.ffi3_place_rules.specs.declared.Loc.TheVariants.{G, F, S}
+use Rattle.ffi3_place_rules.specs.declared.Loc.TheVariants.{G, F}
 use Rattle.ffi3_place_rules.specs.Isa.{pushed_bytes, call_scratch, entry_scratch, exit_scratch, call_loads}
 use Rattle.ffi3_place_rules.specs.Isa.{entry_stores, callee_saved_words, stub_area, area_bytes, result_loads}
 use Rattle.ffi3_machine.specs.State.{State, x_of, stack_at, lowered}
@@ -20,7 +20,6 @@ use Rattle.ffi3_stubs.specs.Effects.{riscv_entered, riscv_left, riscv_returned}
 abbrev pub same_loc : Loc → Loc → Bool
 same_loc (G a) (G b) = a == b
 same_loc (F a) (F b) = a == b
-same_loc (S a) (S b) = a == b
 same_loc l m = false
 
 abbrev pub is_in : Loc → List Loc → Bool

@@ -30,13 +30,13 @@ addressed size k s = record s {
 abbrev pub received : ℕ → Loc → ℕ → State → State
 received size (G k) value s = record s { general = slice_set s.general k value; pc = s.pc + size; steps = counted s }
 received size (F k) value s = record s { floating = slice_set s.floating k value; pc = s.pc + size; steps = counted s }
-received size (S k) value s = s
+received size (S k w) value s = s
 
 -- what a register holds
 abbrev pub held_in : Loc → List ℕ → List ℕ → ℕ
 held_in (G k) general floating = slice_index general k
 held_in (F k) general floating = slice_index floating k
-held_in (S k) general floating = 0
+held_in (S k w) general floating = 0
 
 abbrev pub held : Loc → State → ℕ
 held l s = held_in l s.general s.floating

@@ -18,7 +18,7 @@ machine_has Aarch64 (G k) h = omega (arith, h)
 machine_has Aarch64 (F k) h = omega (arith, h)
 machine_has Riscv (G k) h = omega (arith, h)
 machine_has Riscv (F k) h = omega (arith, h)
-machine_has isa (S n) h = omega (arith, h)
+machine_has isa (S n w) h = omega (arith, h.0, h.1)
 
 -- number k of a list of such registers
 pub is_register : (isa : Isa) (ls : List Loc) (k : ℕ) (at : Loc) → AllByRecursion (LiesIn isa 0) ls → k < length ls → at ≡ slice_index_or ls k at → IsRegister at

@@ -61,7 +61,7 @@ pub by_reference : argument_text Aarch64 (ByRef (G 0) 32) ≡ codes " ref x0 cop
 unfolding digits
 by_reference = refl
 
-pub by_reference_on_stack : argument_text Riscv (ByRef (S 8) 16) ≡ codes " ref stack8 copy 16"
+pub by_reference_on_stack : argument_text Riscv (ByRef (S 8 8) 16) ≡ codes " ref stack8 copy 16"
 unfolding digits
 by_reference_on_stack = refl
 
@@ -70,12 +70,12 @@ unfolding digits
 hidden_in_x8 = refl
 
 -- in a register and on the stack
-pub half_on_stack : argument_text Riscv (Direct (piece (G 17) 0 8 ∷ piece (S 0) 8 8 ∷ [])) ≡ codes " a7:0+8 stack0:8+8"
+pub half_on_stack : argument_text Riscv (Direct (piece (G 17) 0 8 ∷ piece (S 0 8) 8 8 ∷ [])) ≡ codes " a7:0+8 stack0:8+8"
 unfolding digits
 half_on_stack = refl
 
 -- the end's padding is not told
-pub five_floats : argument_text Riscv (Direct (piece (S 0) 0 8 ∷ piece (S 8) 8 8 ∷ piece (S 16) 16 4 ∷ [])) ≡ codes " stack0:0+20"
+pub five_floats : argument_text Riscv (Direct (piece (S 0 8) 0 8 ∷ piece (S 8 8) 8 8 ∷ piece (S 16 8) 16 4 ∷ [])) ≡ codes " stack0:0+20"
 unfolding digits
 five_floats = refl
 

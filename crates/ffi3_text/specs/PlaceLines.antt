@@ -17,7 +17,7 @@ use Rattle.ffi3_place_rules.specs.Standard.{Standard, plan_of}
 use Rattle.ffi3_text.specs.Registers.{loc_name}
 
 abbrev pub is_on_stack : Loc → Bool
-is_on_stack (S n) = true
+is_on_stack (S n w) = true
 is_on_stack _ = false
 
 -- so many bytes of the value, from an offset on, stand at a place

@@ -22,4 +22,4 @@ floating_text Riscv r = slice_index_or (floating_names Riscv) r []
 abbrev pub loc_name : Isa → Loc → List ℕ
 loc_name isa (G r) = general_text isa r
 loc_name isa (F r) = floating_text isa r
-loc_name isa (S n) = codes "stack" ++ decimal n
+loc_name isa (S n w) = codes "stack" ++ decimal n

@@ -16,7 +16,7 @@ use Rattle.ffi3_run_rules.specs.Lines.{a_line, address_text, word_text}
 abbrev pub IsRegister : Loc → Type 0
 IsRegister (G k) = k < 32
 IsRegister (F k) = k < 32
-IsRegister (S n) = ⊥
+IsRegister (S n w) = ⊥
 
 -- THE LINE OF AN ENTRY: the closure's address, the stack pointer, and the arguments
 abbrev pub enter_text_of : Signature → Event → List ValueTree → List ℕ

@@ -35,6 +35,6 @@ pub fn write_loc(isa: Isa, at: Loc, text: &mut Bytes) -> Result<(), NoMemory>
     match at {
         Loc::G(r) => write_general(isa, r, text),
         Loc::F(r) => write_floating(isa, r, text),
-        Loc::S(n) => write_labelled("stack", n as u64, text),
+        Loc::S(n, _) => write_labelled("stack", n as u64, text),
     }
 }

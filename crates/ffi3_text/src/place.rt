@@ -168,7 +168,7 @@ fn write_length(len: u128, text: &mut Bytes) -> Result<(), NoMemory>
 fn is_on_stack(at: Loc) -> bool
     ensures { result ≡ is_on_stack at }
 {
-    matches!(at, Loc::S(_))
+    matches!(at, Loc::S(_, _))
 }
 
 fn first_on_stack(pieces: &Pieces) -> Option<Piece>

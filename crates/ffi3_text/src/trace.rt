@@ -130,7 +130,7 @@ fn register(event: &Event, at: Loc) -> u64
     match at {
         Loc::G(k) => event.general[k as usize],
         Loc::F(k) => event.floating[k as usize],
-        Loc::S(_) => unreachable!(),
+        Loc::S(_, _) => unreachable!(),
     }
 }
 

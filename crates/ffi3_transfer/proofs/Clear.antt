@@ -20,7 +20,7 @@ register_apart : (l : Loc) (at n : ℕ) → IsPlace 0 l → AllByRecursion (Apar
 register_apart l at zero h = tt
 register_apart (G r) at (suc n) h = (tt, register_apart (G r) (at + 8) n h)
 register_apart (F r) at (suc n) h = (tt, register_apart (F r) (at + 8) n h)
-register_apart (S k) at (suc n) h = absurd (omega (arith, h))
+register_apart (S k w) at (suc n) h = absurd (omega (arith, h.0, h.1))
 
 register_apart_copies : (l : Loc) (ts : List Tree) (ps : List Place) → IsPlace 0 l → AllByRecursion (Apart l) (copy_locs ts ps)
 register_apart_copies l [] ps h = tt

@@ -1,40 +1,34 @@
 -- Stores one after another.
-use Rattle.std.proofs.Common.{◌≡◌, ℕ, ◌<◌, List, [], ◌∷◌, ◌++◌, get_or, ◌∙◌, ap, refl, lit<}
+use Rattle.std.proofs.Common.{◌≡◌, ℕ, ◌<◌, List, [], ◌++◌, get_or, ◌∙◌, ap, refl}
 use Rattle.std.specs.Int.{w64, to_le_bytes, from_le_bytes}
 use Rattle.ffi3_place_rules.specs.declared.Loc.{Loc}
 use Rattle.ffi3_place_rules.specs.declared.Loc.TheVariants.{G, F, S}
 use Rattle.ffi3_place_rules.specs.Image.{Image, byte_at, word_at}
+use Rattle.ffi3_place_rules.specs.Sound.{place_size}
+use Rattle.ffi3_place_rules.proofs.Words.{same_bytes}
 use Rattle.ffi3_pieces.proofs.Composing.{none_append}
 use Rattle.ffi3_transfer.specs.Stored.{SameAt, Stays}
 
 pub same_itself : (base : ℕ) (l : Loc) (m : Image) → SameAt base l m m
 same_itself base (G r) m = refl
 same_itself base (F r) m = refl
-same_itself base (S n) m = λ k h. refl
+same_itself base (S n w) m = λ k h. refl
 
 pub same_then : (base : ℕ) (l : Loc) (a b c : Image) → SameAt base l a b → SameAt base l b c → SameAt base l a c
 same_then base (G r) a b c s t = t ∙ s
 same_then base (F r) a b c s t = t ∙ s
-same_then base (S n) a b c s t = λ k h. t k h ∙ s k h
+same_then base (S n w) a b c s t = λ k h. t k h ∙ s k h
 
-pub same_byte : (base : ℕ) (l : Loc) (a b : Image) → SameAt base l a b → (k : ℕ) → k < 8 → byte_at b base l k ≡ byte_at a base l k
+pub same_byte : (base : ℕ) (l : Loc) (a b : Image) → SameAt base l a b → (k : ℕ) → k < place_size l → byte_at b base l k ≡ byte_at a base l k
 same_byte base (G r) a b s k h = ap (λ n. get_or (to_le_bytes w64 n) k 0) s
 same_byte base (F r) a b s k h = ap (λ n. get_or (to_le_bytes w64 n) k 0) s
-same_byte base (S n) a b s k h = s k h
+same_byte base (S n w) a b s k h = s k h
 
 pub same_word_at : (base : ℕ) (l : Loc) (a b : Image) → SameAt base l a b → word_at b base l ≡ word_at a base l
 same_word_at base (G r) a b s = s
 same_word_at base (F r) a b s = s
-same_word_at base (S n) a b s =
-    let e0 = s 0 (lit< tt) in
-    let e1 = s 1 (lit< tt) in
-    let e2 = s 2 (lit< tt) in
-    let e3 = s 3 (lit< tt) in
-    let e4 = s 4 (lit< tt) in
-    let e5 = s 5 (lit< tt) in
-    let e6 = s 6 (lit< tt) in
-    let e7 = s 7 (lit< tt) in
-    λ i. from_le_bytes w64 (e0 i ∷ e1 i ∷ e2 i ∷ e3 i ∷ e4 i ∷ e5 i ∷ e6 i ∷ e7 i ∷ [])
+same_word_at base (S n w) a b s =
+    ap (from_le_bytes w64) (same_bytes (byte_at b base (S n w)) (byte_at a base (S n w)) w s)
 
 pub stays_none : (base : ℕ) (m : Image) → Stays base [] m m
 stays_none base m = record { sp = refl; size = refl; below = λ i h. refl; others = λ l none. same_itself base l m }

@@ -25,14 +25,14 @@ use Rattle.ffi3_transfer.proofs.Stepping.{all_keep, all_since, all_stand_stays}
 -- ---- stack words
 
 -- a place that is none of the stack words lies before or behind them
-pub clear_of_words : (at n q : ℕ) → IsNoneOf (stack_words at n) (S q) → (n ≡ 0) ⊎ ((q + 8 ≤ at) ⊎ (at + 8 * n ≤ q))
-clear_of_words at zero q h = inl refl
-clear_of_words at (suc n) q h = inr (both h.0 (clear_of_words (at + 8) n q h.1))
+pub clear_of_words : (at n q w : ℕ) → 0 < w → IsNoneOf (stack_words at n) (S q w) → (n ≡ 0) ⊎ ((q + w ≤ at) ⊎ (at + 8 * n ≤ q))
+clear_of_words at zero q w some h = inl refl
+clear_of_words at (suc n) q w some h = inr (both h.0 (clear_of_words (at + 8) n q w some h.1))
   where
-    both : (q + 8 ≤ at) ⊎ (at + 8 ≤ q) → (n ≡ 0) ⊎ ((q + 8 ≤ at + 8) ⊎ (at + 8 + 8 * n ≤ q)) → (q + 8 ≤ at) ⊎ (at + 8 * suc n ≤ q)
+    both : (q + w ≤ at) ⊎ (at + 8 ≤ q) → (n ≡ 0) ⊎ ((q + w ≤ at + 8) ⊎ (at + 8 + 8 * n ≤ q)) → (q + w ≤ at) ⊎ (at + 8 * suc n ≤ q)
     both (inl below) rest = inl below
     both (inr above) (inl none) = inr (omega (arith, above, none))
-    both (inr above) (inr (inl x)) = absurd (omega (arith, above, x))
+    both (inr above) (inr (inl x)) = absurd (omega (arith, above, x, some))
     both (inr above) (inr (inr x)) = inr (omega (arith, x))
 
 -- the bytes of stack words that stay
@@ -40,7 +40,7 @@ pub words_same : (base at n : ℕ) (ls : List Loc) (a b : Image) → AllByRecurs
 words_same base at zero ls a b none s i h = absurd (omega (arith, h))
 words_same base at (suc n) ls a b none s i h =
     elim (cases_lt i 8) [
-      | inl first ↦ s.others (S at) none.0 i first
+      | inl first ↦ s.others (S at 8) none.0 i first
       | inr later ↦
           let there : base + (at + 8) + (i - 8) ≡ base + at + i = omega (arith, later) in
           subst (λ k. get_or b.stack k 0 ≡ get_or a.stack k 0) there (words_same base (at + 8) n ls a b none.1 s (i - 8) (omega (arith, h, later)))
@@ -96,19 +96,19 @@ module _ (base copy n : ℕ) (bytes : List ℕ) (old : Image) (few : length byte
       outside : (j : ℕ) → (j < base + copy) ⊎ (base + copy + length bytes ≤ j) → get_or (stored (base + copy) bytes old).stack j 0 ≡ get_or old.stack j 0
       outside = stored_outside (base + copy) bytes old fits
 
-      clear_byte : (q k : ℕ) → k < 8 → (n ≡ 0) ⊎ ((q + 8 ≤ copy) ⊎ (copy + 8 * n ≤ q)) → get_or (stored (base + copy) bytes old).stack (base + q + k) 0 ≡ get_or old.stack (base + q + k) 0
-      clear_byte q k h (inl none) =
+      clear_byte : (q w k : ℕ) → k < w → (n ≡ 0) ⊎ ((q + w ≤ copy) ⊎ (copy + 8 * n ≤ q)) → get_or (stored (base + copy) bytes old).stack (base + q + k) 0 ≡ get_or old.stack (base + q + k) 0
+      clear_byte q w k h (inl none) =
           elim (cases_lt (q + k) copy) [
             | inl below ↦ outside (base + q + k) (inl (omega (arith, below)))
             | inr above ↦ outside (base + q + k) (inr (omega (arith, above, few, none)))
           ]
-      clear_byte q k h (inr (inl below)) = outside (base + q + k) (inl (omega (arith, below, h)))
-      clear_byte q k h (inr (inr above)) = outside (base + q + k) (inr (omega (arith, above, few)))
+      clear_byte q w k h (inr (inl below)) = outside (base + q + k) (inl (omega (arith, below, h)))
+      clear_byte q w k h (inr (inr above)) = outside (base + q + k) (inr (omega (arith, above, few)))
 
       others : (l : Loc) → IsNoneOf (stack_words copy n) l → SameAt base l old (stored (base + copy) bytes old)
       others (G q) none = refl
       others (F q) none = refl
-      others (S q) none = λ k h. clear_byte q k h (clear_of_words copy n q none)
+      others (S q w) none = λ k h. clear_byte q w k h (clear_of_words copy n q w (omega (arith, h)) none)
 
   copy_has : part after.stack (base + copy) (length bytes) ≡ bytes
   copy_has =

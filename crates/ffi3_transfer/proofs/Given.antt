@@ -34,11 +34,11 @@ use Rattle.ffi3_transfer.proofs.Owning.{pieces_stand, pieces_filled}
 
 -- ---- registers alone
 
-none_of_registers : (ls : List Loc) (n : ℕ) → AllByRecursion (IsPlace 0) ls → IsNoneOf ls (S n)
-none_of_registers [] n h = tt
-none_of_registers (G r ∷ ls) n h = (tt, none_of_registers ls n h.1)
-none_of_registers (F r ∷ ls) n h = (tt, none_of_registers ls n h.1)
-none_of_registers (S k ∷ ls) n h = absurd (omega (arith, h.0))
+none_of_registers : (ls : List Loc) (n w : ℕ) → AllByRecursion (IsPlace 0) ls → IsNoneOf ls (S n w)
+none_of_registers [] n w h = tt
+none_of_registers (G r ∷ ls) n w h = (tt, none_of_registers ls n w h.1)
+none_of_registers (F r ∷ ls) n w h = (tt, none_of_registers ls n w h.1)
+none_of_registers (S k v ∷ ls) n w h = absurd (omega (arith, h.0.0, h.0.1))
 
 -- where registers alone are written the stack stays
 pub stack_same : (base : ℕ) (ls : List Loc) (a b : Image) → AllByRecursion (IsPlace 0) ls → Stays base ls a b → b.stack ≡ a.stack
@@ -51,24 +51,24 @@ stack_same base ls a b registers s =
           | inl low ↦ s.below i low
           | inr high ↦
               let there : base + (i - base) + 0 ≡ i = omega (arith, high) in
-              subst (λ k. get_or b.stack k 0 ≡ get_or a.stack k 0) there (s.others (S (i - base)) (none_of_registers ls (i - base) registers) 0 (omega arith))
+              subst (λ k. get_or b.stack k 0 ≡ get_or a.stack k 0) there (s.others (S (i - base) 1) (none_of_registers ls (i - base) 1 registers) 0 (omega arith))
         ]
 
 -- a register is the same whatever the stack's places count from
 register_same : (base : ℕ) (l : Loc) (a b : Image) → IsPlace 0 l → SameAt base l a b → SameAt 0 l a b
 register_same base (G r) a b h same = same
 register_same base (F r) a b h same = same
-register_same base (S n) a b h same = absurd (omega (arith, h))
+register_same base (S n w) a b h same = absurd (omega (arith, h.0, h.1))
 
 byte_moved : (std : Standard) (base : ℕ) (l : Loc) (m : Image) (k : ℕ) → IsPlace 0 l → byte_at (at_return std m) 0 l k ≡ byte_at m base l k
 byte_moved std base (G r) m k h = refl
 byte_moved std base (F r) m k h = refl
-byte_moved std base (S n) m k h = absurd (omega (arith, h))
+byte_moved std base (S n w) m k h = absurd (omega (arith, h.0, h.1))
 
 word_moved : (std : Standard) (base : ℕ) (l : Loc) (m : Image) → IsPlace 0 l → word_at (at_return std m) 0 l ≡ word_at m base l
 word_moved std base (G r) m h = refl
 word_moved std base (F r) m h = refl
-word_moved std base (S n) m h = absurd (omega (arith, h))
+word_moved std base (S n w) m h = absurd (omega (arith, h.0, h.1))
 
 pieces_moved : (std : Standard) (base : ℕ) (t : Tree) (bytes : List ℕ) (m : Image) (ps : List Piece) → AllByRecursion (IsPlace 0) (piece_locs ps) → AllByRecursion (PieceStands base m t bytes) ps → AllByRecursion (PieceStands 0 (at_return std m) t bytes) ps
 pieces_moved std base t bytes m [] lie stand = tt
@@ -84,7 +84,7 @@ pieces_moved std base t bytes m (p ∷ ps) lie stand = (
 from_base : (base : ℕ) (l : Loc) (m : Image) (k : ℕ) → IsPlace 0 l → byte_at m 0 l k ≡ byte_at m base l k
 from_base base (G r) m k h = refl
 from_base base (F r) m k h = refl
-from_base base (S n) m k h = absurd (omega (arith, h))
+from_base base (S n w) m k h = absurd (omega (arith, h.0, h.1))
 
 keeps_moved : (base : ℕ) (old new : Image) (ps : List Piece) → AllByRecursion (IsPlace 0) (piece_locs ps) → AllByRecursion (KeepsAbove base old new) ps → AllByRecursion (KeepsAbove 0 old new) ps
 keeps_moved base old new [] lie keep = tt
@@ -147,7 +147,7 @@ module _ (std : Standard) (s : Signature) (sound : IsSound std s) (right : Signa
   same_at : (l : Loc) → SameAt 0 l old old
   same_at (G r) = refl
   same_at (F r) = refl
-  same_at (S n) = λ k few. refl
+  same_at (S n w) = λ k few. refl
 
   pub nothing_given : giving_bytes std s ≤ length old.stack → old.sp + length old.stack < 2 ^ 64 → (plan_of std s).res ≡ Nothing → IsGiven std s bytes old old
   nothing_given room low is = record {
@@ -248,7 +248,7 @@ module _ (std : Standard) (s : Signature) (sound : IsSound std s) (right : Signa
         register_back : (l : Loc) → IsPlace 0 l → SameAt 0 l (record old { stack = mid }) new → SameAt 0 l old new
         register_back (G r) h same = same
         register_back (F r) h same = same
-        register_back (S n) h same = absurd (omega (arith, h))
+        register_back (S n w) h same = absurd (omega (arith, h.0, h.1))
 
         apart : (i : ℕ) → (old.sp + i < word_at old std.link at) ⊎ (word_at old std.link at + size_of s.result_type ≤ old.sp + i) → (i < from) ⊎ (from + length bytes ≤ i)
         apart i (inl below) = inl (omega (arith, below, address_is, from_is))

@@ -1,6 +1,7 @@
 pub mod Puts
 pub mod Filling
 pub mod Composing
+pub mod PlaceBytes
 pub mod Stepping
 pub mod Copying
 pub mod Packing

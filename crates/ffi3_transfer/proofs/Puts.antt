@@ -1,32 +1,26 @@
 -- A register that is set, and bytes that are stored on the stack.
 use Rattle.std.specs.Prelude.{◌^◌, slice_set}
-use Rattle.std.proofs.Common.{◌≡◌, ℕ, ◌+◌, ◌<◌, ◌≤◌, ◌⊎◌, inl, inr, List, [], ◌∷◌, ◌++◌, take, drop, get_or, length, refl, ap, sym, ◌∙◌, subst, arith, lit<}
+use Rattle.std.proofs.Common.{◌≡◌, ℕ, ◌+◌, ◌<◌, ◌≤◌, ◌⊎◌, inl, inr, List, [], ◌∷◌, ◌++◌, map, take, drop, get_or, length, refl, ap, sym, ◌∙◌, subst, arith}
 use Rattle.std.specs.Int.{w64, to_le_bytes, from_le_bytes}
-use Rattle.std.proofs.lemmas.List.{get_or-set_same, get_or-set_other, length-append, length-take-le, length-drop}
+use Rattle.std.specs.List.{range_with_len}
+use Rattle.std.proofs.lemmas.List.FromFn.{get_or-map-range_with_len}
+use Rattle.std.proofs.lemmas.List.{ext_get_or, get_or-set_same, get_or-set_other, length-append, length-take-le, length-drop}
 use Rattle.std.proofs.lemmas.Nat.{from_le_bytes-to_le_bytes_8}
 use Rattle.ffi3_place_rules.specs.declared.Loc.{Loc}
 use Rattle.ffi3_place_rules.specs.declared.Loc.TheVariants.{G, F, S}
 use Rattle.ffi3_place_rules.specs.declared.Piece.{Piece}
 use Rattle.ffi3_place_rules.specs.Image.{Image, byte_at, word_at}
-use Rattle.ffi3_place_rules.specs.Sound.{IsNoneOf, IsWithin}
+use Rattle.ffi3_place_rules.specs.Sound.{IsNoneOf, IsWhole, IsWithin}
 use Rattle.ffi3_type_rules.proofs.Parts.{index_part, length_part, below_part, inside_part, above_part}
 use Rattle.ffi3_pieces.specs.Stored.{HasLow}
 use Rattle.ffi3_pieces.proofs.Putting.{same_word}
 use Rattle.ffi3_transfer.specs.Stored.{SameAt, Stays, HasBytes, IsPut, IsSet, IsWordPut}
 
 -- the eight bytes of a place on the stack make the number
-pub word_there : (base n w : ℕ) (m : Image) → w < 2 ^ 64 → ((k : ℕ) → k < 8 → byte_at m base (S n) k ≡ get_or (to_le_bytes w64 w) k 0) → word_at m base (S n) ≡ w
-word_there base n w m h here =
-    let e0 = here 0 (lit< tt) in
-    let e1 = here 1 (lit< tt) in
-    let e2 = here 2 (lit< tt) in
-    let e3 = here 3 (lit< tt) in
-    let e4 = here 4 (lit< tt) in
-    let e5 = here 5 (lit< tt) in
-    let e6 = here 6 (lit< tt) in
-    let e7 = here 7 (lit< tt) in
-    let bytes : (byte_at m base (S n) 0 ∷ byte_at m base (S n) 1 ∷ byte_at m base (S n) 2 ∷ byte_at m base (S n) 3 ∷ byte_at m base (S n) 4 ∷ byte_at m base (S n) 5 ∷ byte_at m base (S n) 6 ∷ byte_at m base (S n) 7 ∷ []) ≡ to_le_bytes w64 w = λ i. e0 i ∷ e1 i ∷ e2 i ∷ e3 i ∷ e4 i ∷ e5 i ∷ e6 i ∷ e7 i ∷ [] in
-    ap (from_le_bytes w64) bytes ∙ from_le_bytes-to_le_bytes_8 w h
+pub word_there : (base n v : ℕ) (m : Image) → v < 2 ^ 64 → ((k : ℕ) → k < 8 → byte_at m base (S n 8) k ≡ get_or (to_le_bytes w64 v) k 0) → word_at m base (S n 8) ≡ v
+word_there base n v m h here =
+    let bytes : map (byte_at m base (S n 8)) (range_with_len 0 8) ≡ to_le_bytes w64 v = ext_get_or 0 (map (byte_at m base (S n 8)) (range_with_len 0 8)) (to_le_bytes w64 v) refl (λ k below. get_or-map-range_with_len (byte_at m base (S n 8)) 0 8 k k 0 below (omega arith) ∙ here k below) in
+    ap (from_le_bytes w64) bytes ∙ from_le_bytes-to_le_bytes_8 v h
 
 -- ---- registers
 
@@ -43,7 +37,7 @@ module _ (base r : ℕ) (bytes : List ℕ) (value : ℕ) (old : Image) where
       others : (l : Loc) → IsNoneOf (G r ∷ []) l → SameAt base l old (with_general r value old)
       others (G q) none = get_or-set_other old.general r q value 0 none.0
       others (F q) none = refl
-      others (S n) none = λ k h. refl
+      others (S n w) none = λ k h. refl
 
   floating_stays : Stays base (F r ∷ []) old (with_floating r value old)
   floating_stays = record { sp = refl; size = refl; below = λ i h. refl; others = others }
@@ -51,7 +45,7 @@ module _ (base r : ℕ) (bytes : List ℕ) (value : ℕ) (old : Image) where
       others : (l : Loc) → IsNoneOf (F r ∷ []) l → SameAt base l old (with_floating r value old)
       others (G q) none = refl
       others (F q) none = get_or-set_other old.floating r q value 0 none.0
-      others (S n) none = λ k h. refl
+      others (S n w) none = λ k h. refl
 
   pub general_put : r < length old.general → HasLow bytes (get_or old.general r 0) value → IsPut base (G r) bytes old (with_general r value old)
   general_put here word =
@@ -59,7 +53,7 @@ module _ (base r : ℕ) (bytes : List ℕ) (value : ℕ) (old : Image) where
         here = λ k h. ap (λ n. get_or (to_le_bytes w64 n) k 0) is ∙ word.low k h;
         kept = λ k from below. ap (λ n. get_or (to_le_bytes w64 n) k 0) is ∙ word.high k from below;
         stays = general_stays;
-        whole = λ w h e. is ∙ same_word value w word.below h (λ k below. word.low k (subst (λ xs. k < length xs) (sym e) below) ∙ ap (λ xs. get_or xs k 0) e);
+        whole = λ eight w h e. is ∙ same_word value w word.below h (λ k below. word.low k (subst (λ xs. k < length xs) (sym e) below) ∙ ap (λ xs. get_or xs k 0) e);
       }
 
   pub floating_put : r < length old.floating → HasLow bytes (get_or old.floating r 0) value → IsPut base (F r) bytes old (with_floating r value old)
@@ -68,7 +62,7 @@ module _ (base r : ℕ) (bytes : List ℕ) (value : ℕ) (old : Image) where
         here = λ k h. ap (λ n. get_or (to_le_bytes w64 n) k 0) is ∙ word.low k h;
         kept = λ k from below. ap (λ n. get_or (to_le_bytes w64 n) k 0) is ∙ word.high k from below;
         stays = floating_stays;
-        whole = λ w h e. is ∙ same_word value w word.below h (λ k below. word.low k (subst (λ xs. k < length xs) (sym e) below) ∙ ap (λ xs. get_or xs k 0) e);
+        whole = λ eight w h e. is ∙ same_word value w word.below h (λ k below. word.low k (subst (λ xs. k < length xs) (sym e) below) ∙ ap (λ xs. get_or xs k 0) e);
       }
 
 -- ---- the stack
@@ -90,8 +84,8 @@ module _ (at : ℕ) (bytes : List ℕ) (old : Image) (fits : at + length bytes �
   stored_size =
       omega (arith, length-append (take at old.stack) (bytes ++ drop (length bytes) (drop at old.stack)), length-append bytes (drop (length bytes) (drop at old.stack)), length-take-le at old.stack (omega (arith, fits)), length-drop (length bytes) (drop at old.stack), length-drop at old.stack, fits)
 
-module _ (base n : ℕ) (bytes : List ℕ) (old : Image) (few : length bytes ≤ 8) (fits : base + n + length bytes ≤ length old.stack) where
-  stack_stays : Stays base (S n ∷ []) old (stored (base + n) bytes old)
+module _ (base n w : ℕ) (bytes : List ℕ) (old : Image) (few : length bytes ≤ w) (fits : base + n + length bytes ≤ length old.stack) where
+  stack_stays : Stays base (S n w ∷ []) old (stored (base + n) bytes old)
   stack_stays = record {
     sp = refl;
     size = stored_size (base + n) bytes old fits;
@@ -99,27 +93,31 @@ module _ (base n : ℕ) (bytes : List ℕ) (old : Image) (few : length bytes ≤
     others = others;
   }
     where
-      apart_byte : (q k : ℕ) → k < 8 → (q + 8 ≤ n) ⊎ (n + 8 ≤ q) → get_or (stored (base + n) bytes old).stack (base + q + k) 0 ≡ get_or old.stack (base + q + k) 0
-      apart_byte q k h (inl below) = stored_outside (base + n) bytes old fits (base + q + k) (inl (omega (arith, below, h)))
-      apart_byte q k h (inr above) = stored_outside (base + n) bytes old fits (base + q + k) (inr (omega (arith, above, few)))
+      apart_byte : (q u k : ℕ) → k < u → (q + u ≤ n) ⊎ (n + w ≤ q) → get_or (stored (base + n) bytes old).stack (base + q + k) 0 ≡ get_or old.stack (base + q + k) 0
+      apart_byte q u k h (inl below) = stored_outside (base + n) bytes old fits (base + q + k) (inl (omega (arith, below, h)))
+      apart_byte q u k h (inr above) = stored_outside (base + n) bytes old fits (base + q + k) (inr (omega (arith, above, few)))
 
-      others : (l : Loc) → IsNoneOf (S n ∷ []) l → SameAt base l old (stored (base + n) bytes old)
+      others : (l : Loc) → IsNoneOf (S n w ∷ []) l → SameAt base l old (stored (base + n) bytes old)
       others (G q) none = refl
       others (F q) none = refl
-      others (S q) none = λ k h. apart_byte q k h none.0
+      others (S q u) none = λ k h. apart_byte q u k h none.0
 
-  pub stack_put : IsPut base (S n) bytes old (stored (base + n) bytes old)
+  word_is : (v : ℕ) → v < 2 ^ 64 → bytes ≡ to_le_bytes w64 v → word_at (stored (base + n) bytes old) base (S n 8) ≡ v
+  word_is v h e =
+      word_there base n v (stored (base + n) bytes old) h (λ k below. stored_inside (base + n) bytes old fits k (subst (λ xs. k < length xs) (sym e) below) ∙ ap (λ xs. get_or xs k 0) e)
+
+  pub stack_put : IsPut base (S n w) bytes old (stored (base + n) bytes old)
   stack_put = record {
     here = λ k h. stored_inside (base + n) bytes old fits k h;
     kept = λ k from below. stored_outside (base + n) bytes old fits (base + n + k) (inr (omega (arith, from)));
     stays = stack_stays;
-    whole = λ w h e. word_there base n w (stored (base + n) bytes old) h (λ k below. stored_inside (base + n) bytes old fits k (subst (λ xs. k < length xs) (sym e) below) ∙ ap (λ xs. get_or xs k 0) e);
+    whole = λ eight v h e. subst (λ u. word_at (stored (base + n) bytes old) base (S n u) ≡ v) (sym eight) (word_is v h e);
   }
 
-pub word_put : (base : ℕ) (l : Loc) (w : ℕ) (bytes : List ℕ) (old new : Image) → w < 2 ^ 64 → bytes ≡ to_le_bytes w64 w → IsPut base l bytes old new → IsWordPut base l w old new
-word_put base l w bytes old new h e is = record {
+pub word_put : (base : ℕ) (l : Loc) (w : ℕ) (bytes : List ℕ) (old new : Image) → IsWhole l → w < 2 ^ 64 → bytes ≡ to_le_bytes w64 w → IsPut base l bytes old new → IsWordPut base l w old new
+word_put base l w bytes old new whole h e is = record {
   here = subst (HasBytes base new l) e is.here;
-  word = is.whole w h e;
+  word = is.whole whole w h e;
   stays = is.stays;
 }
 

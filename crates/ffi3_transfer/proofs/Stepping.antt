@@ -8,7 +8,7 @@ use Rattle.ffi3_place_rules.specs.declared.Loc.{Loc}
 use Rattle.ffi3_place_rules.specs.declared.Piece.{Piece}
 use Rattle.ffi3_place_rules.specs.Image.{Image}
 use Rattle.ffi3_place_rules.specs.Holds.{FillsAs}
-use Rattle.ffi3_place_rules.specs.Sound.{Apart, AreApart, IsNoneOf, IsPieceOf, piece_locs}
+use Rattle.ffi3_place_rules.specs.Sound.{Apart, AreApart, IsNoneOf, IsPieceOf, piece_locs, place_size}
 use Rattle.ffi3_place_rules.proofs.Elements.{drop_read}
 use Rattle.ffi3_pieces.proofs.Composing.{apart_sym}
 use Rattle.ffi3_pieces.proofs.Stepping.{each_drop}
@@ -33,7 +33,7 @@ module _ (base : ℕ) where
       (λ free k from below. keep.0 free k from below ∙ same_byte base p.loc o a (s.others p.loc none.0) k below, all_since ls o a b ps none.1 s keep.1)
 
 module _ (base : ℕ) (t : Tree) (bytes : List ℕ) where
-  stands_stays : (ls : List Loc) (a b : Image) (p : Piece) → p.len ≤ 8 → IsNoneOf ls p.loc → Stays base ls a b → PieceStands base a t bytes p → PieceStands base b t bytes p
+  stands_stays : (ls : List Loc) (a b : Image) (p : Piece) → p.len ≤ place_size p.loc → IsNoneOf ls p.loc → Stays base ls a b → PieceStands base a t bytes p → PieceStands base b t bytes p
   stands_stays ls a b p few none s stands =
       let same = s.others p.loc none in record {
         held = λ k h. same_byte base p.loc a b same k (omega (arith, h, few)) ∙ stands.held k h;
@@ -43,7 +43,7 @@ module _ (base : ℕ) (t : Tree) (bytes : List ℕ) where
   pub all_stand_stays : (ls : List Loc) (a b : Image) (ps : List Piece) → AllByRecursion (IsPieceOf t) ps → AllByRecursion (IsNoneOf ls) (piece_locs ps) → Stays base ls a b → AllByRecursion (PieceStands base a t bytes) ps → AllByRecursion (PieceStands base b t bytes) ps
   all_stand_stays ls a b [] parts none s stand = tt
   all_stand_stays ls a b (p ∷ ps) parts none s stand =
-      (stands_stays ls a b p parts.0.short none.0 s stand.0, all_stand_stays ls a b ps parts.1 none.1 s stand.1)
+      (stands_stays ls a b p parts.0.fits none.0 s stand.0, all_stand_stays ls a b ps parts.1 none.1 s stand.1)
 
   none_of_one : (l : Loc) (ls : List Loc) → AllByRecursion (Apart l) ls → AllByRecursion (IsNoneOf (l ∷ [])) ls
   none_of_one l [] h = tt

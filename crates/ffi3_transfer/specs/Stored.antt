@@ -9,7 +9,7 @@ use Rattle.ffi3_place_rules.specs.declared.Ext.TheVariants.{Free}
 use Rattle.ffi3_place_rules.specs.declared.Piece.{Piece}
 use Rattle.ffi3_place_rules.specs.Image.{Image, byte_at, word_at}
 use Rattle.ffi3_place_rules.specs.Holds.{FillsAs}
-use Rattle.ffi3_place_rules.specs.Sound.{IsNoneOf}
+use Rattle.ffi3_place_rules.specs.Sound.{place_size, IsWhole, IsNoneOf}
 use Rattle.ffi3_transfer.specs.declared.Registers.{Registers}
 
 -- registers, and the bytes of memory from the stack pointer on
@@ -17,12 +17,12 @@ abbrev pub image_in : Registers → List ℕ → Image
 image_in r stack =
     record { general = r.general; floating = r.floating; sp = r.sp; stack = stack }
 
--- the place holds the same in both: a register its word, a place on the stack its eight bytes
+-- the place holds the same in both: a register its word, a place on the stack its bytes
 abbrev pub SameAt : ℕ → Loc → Image → Image → Type 0
 SameAt base (G r) old new = get_or new.general r 0 ≡ get_or old.general r 0
 SameAt base (F r) old new = get_or new.floating r 0 ≡ get_or old.floating r 0
-SameAt base (S n) old new =
-    (k : ℕ) → k < 8 → get_or new.stack (base + n + k) 0 ≡ get_or old.stack (base + n + k) 0
+SameAt base (S n w) old new =
+    (k : ℕ) → k < w → get_or new.stack (base + n + k) 0 ≡ get_or old.stack (base + n + k) 0
 
 -- EVERY PLACE APART FROM THE LIST STAYS, and so do the stack pointer and the bytes below the stack places
 pub record Stays (base : ℕ) (locs : List Loc) (old new : Image) : Type 0 where
@@ -37,15 +37,15 @@ HasBytes base m l bytes = (k : ℕ) → k < length bytes → byte_at m base l k 
 
 -- the bytes of the place from number n on stay
 abbrev pub KeepsFrom : ℕ → Loc → ℕ → Image → Image → Type 0
-KeepsFrom base l n old new = (k : ℕ) → n ≤ k → k < 8 → byte_at new base l k ≡ byte_at old base l k
+KeepsFrom base l n old new = (k : ℕ) → n ≤ k → k < place_size l → byte_at new base l k ≡ byte_at old base l k
 
 -- THE PLACE HOLDS THE BYTES. Its other bytes stay, and so do all other places.
 pub record IsPut (base : ℕ) (l : Loc) (bytes : List ℕ) (old new : Image) : Type 0 where
   pub here : HasBytes base new l bytes
   pub kept : KeepsFrom base l (length bytes) old new
   pub stays : Stays base (l ∷ []) old new
-  -- eight bytes are the place's word
-  pub whole : (w : ℕ) → w < 2 ^ 64 → bytes ≡ to_le_bytes w64 w → word_at new base l ≡ w
+  -- eight bytes are the word of a place that has eight
+  pub whole : IsWhole l → (w : ℕ) → w < 2 ^ 64 → bytes ≡ to_le_bytes w64 w → word_at new base l ≡ w
 
 -- where nothing fills the rest of a piece's place, that keeps what stood there
 abbrev pub KeepsAbove : ℕ → Image → Image → Piece → Type 0

@@ -42,7 +42,7 @@ fn hidden_end(res: &Res) -> u64
 {
     match res {
         Res::Hidden { at, .. } => match at {
-            Loc::S(n) => *n as u64 + 8,
+            Loc::S(n, len) => *n as u64 + *len as u64,
             Loc::G(_) | Loc::F(_) => 0,
         },
         Res::Nothing | Res::Direct(_) => 0,

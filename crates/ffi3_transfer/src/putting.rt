@@ -2,7 +2,7 @@
 ghost use Rattle.std.specs.Prelude.{◌≡◌, ℕ, ◌+◌, ◌-◌, ◌/◌, ◌^◌, ◌<◌, ◌≤◌, length, get_or};
 ghost use Rattle.std.specs.Int.{w64, to_le_bytes};
 ghost use Rattle.ffi3_type_rules.specs.Layout.{size_of};
-ghost use Rattle.ffi3_place_rules.specs.Sound.{IsPieceOf, IsWithin};
+ghost use Rattle.ffi3_place_rules.specs.Sound.{IsPieceOf, IsWhole, IsWithin, place_size};
 ghost use Rattle.ffi3_pieces.specs.Stored.{HasLow, IsPlace};
 ghost use Rattle.ffi3_transfer.specs.Stored.{IsPut, IsSet, IsStored, IsWordPut, image_in};
 
@@ -31,7 +31,7 @@ fn with_low(word: u64, bytes: &[u8]) -> u64
 /// Puts bytes into a place, whose other bytes stay. Stack places count from `base` bytes above the stack pointer.
 pub fn put(registers: &mut Registers, stack: &mut [u8], base: u64, at: Loc, bytes: &[u8])
     requires lies { IsPlace (length stack.old - base) at }
-    requires few { length bytes.now ≤ 8 }
+    requires few { length bytes.now ≤ place_size at }
     ensures { IsPut base at bytes.now (image_in registers.old stack.old) (image_in registers.new stack.new) }
 {
     // its length tells that the sums below are small
@@ -45,16 +45,17 @@ pub fn put(registers: &mut Registers, stack: &mut [u8], base: u64, at: Loc, byte
             let word = with_low(registers.floating[r as usize], bytes);
             registers.floating[r as usize] = word;
         }
-        Loc::S(n) => {
+        Loc::S(n, _) => {
             let from = base as usize + n as usize;
             stack[from..from + bytes.len()].copy_from_slice(bytes);
         }
     }
 }
 
-/// Puts a number into a place. Stack places count from `base` bytes above the stack pointer.
+/// Puts a number into a place of eight bytes. Stack places count from `base` bytes above the stack pointer.
 pub fn put_word(registers: &mut Registers, stack: &mut [u8], base: u64, at: Loc, word: u64)
-    requires { IsPlace (length stack.old - base) at }
+    requires lies { IsPlace (length stack.old - base) at }
+    requires whole { IsWhole at }
     ensures { IsWordPut base at word (image_in registers.old stack.old) (image_in registers.new stack.new) }
 {
     put(registers, stack, base, at, &word.to_le_bytes());

@@ -1,29 +1,30 @@
 // Bytes that stand at places, read from registers and stack.
 ghost use Rattle.std.specs.Prelude.{◌≡◌, length};
 ghost use Rattle.std.specs.List.{AllByRecursion};
-ghost use Rattle.ffi3_place_rules.specs.Image.{byte_at, word_at};
+ghost use Rattle.ffi3_place_rules.specs.Image.{word_at};
 ghost use Rattle.ffi3_place_rules.specs.Sound.{IsWithin};
-ghost use Rattle.ffi3_explain_rules.specs.Explain.{eight, first_bytes};
+ghost use Rattle.ffi3_explain_rules.specs.Explain.{eight, first_bytes, place_byte};
 ghost use Rattle.ffi3_explain.specs.Places.{CanBeRead, HasPlace, IsPieceRead};
 ghost use Rattle.ffi3_transfer.specs.Stored.{image_in};
 
 use crate::Registers;
 use ffi3_place::{Loc, Piece, Pieces};
 
-/// The eight bytes of a place. Stack places count from `base` bytes above the stack pointer.
+/// The bytes of a place, and zeros behind them. Stack places count from `base` bytes above the stack pointer.
 pub(crate) fn place_bytes(registers: &Registers, stack: &[u8], base: u64, at: Loc) -> [u8; 8]
     requires { HasPlace (image_in registers.now stack.now) base at }
-    ensures { result ≡ eight (byte_at (image_in registers.now stack.now) base at) }
+    ensures { result ≡ eight (place_byte (image_in registers.now stack.now) base at) }
 {
     // its length tells that the sum below is small
     let _len = stack.len();
     match at {
         Loc::G(r) => registers.general[r as usize].to_le_bytes(),
         Loc::F(r) => registers.floating[r as usize].to_le_bytes(),
-        Loc::S(n) => {
+        Loc::S(n, len) => {
             let start = base as usize + n as usize;
+            let len = len as usize;
             let mut bytes = [0; 8];
-            bytes.copy_from_slice(&stack[start..start + 8]);
+            bytes[..len].copy_from_slice(&stack[start..start + len]);
             bytes
         }
     }
@@ -37,7 +38,7 @@ pub fn place_word(registers: &Registers, stack: &[u8], base: u64, at: Loc) -> u6
     match at {
         Loc::G(r) => registers.general[r as usize],
         Loc::F(r) => registers.floating[r as usize],
-        Loc::S(_) => u64::from_le_bytes(place_bytes(registers, stack, base, at)),
+        Loc::S(_, _) => u64::from_le_bytes(place_bytes(registers, stack, base, at)),
     }
 }
 

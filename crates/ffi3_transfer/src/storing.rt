@@ -5,7 +5,7 @@ ghost use Rattle.ffi3_type_rules.specs.Layout.{size_of};
 ghost use Rattle.ffi3_place_rules.specs.Isa.{to_list};
 ghost use Rattle.ffi3_place_rules.specs.Standard.{plan_of};
 ghost use Rattle.ffi3_place_rules.specs.Holds.{OwnsHidden, RegisterHolds};
-ghost use Rattle.ffi3_place_rules.specs.Sound.{Apart, AreApart, hidden_locs, IsPieceOf, PlaceHasAll, piece_locs, stack_words_for};
+ghost use Rattle.ffi3_place_rules.specs.Sound.{Apart, AreApart, hidden_locs, IsPieceOf, IsWhole, PlaceHasAll, piece_locs, stack_words_for};
 ghost use Rattle.ffi3_pieces.specs.Stored.{IsPlace};
 ghost use Rattle.ffi3_pieces.specs.Standing.{PlaceLies, all_uses, place_uses};
 ghost use Rattle.ffi3_explain.specs.Places.{HiddenIsThere};
@@ -56,6 +56,7 @@ fn store_copy(
     requires fits { base + copy + size_of ty.now ≤ length stack.old }
     requires high { registers.old.sp + length stack.old < 2 ^ 64 }
     requires lies { IsPlace (length stack.old - base) at }
+    requires whole { IsWhole at }
     requires apart { AllByRecursion (Apart at) (stack_words_for copy ty.now) }
     requires sized { length bytes.now ≡ size_of ty.now }
     ensures { IsCopied base ty.now bytes.now at copy (image_in registers.old stack.old) (image_in registers.new stack.new) }
@@ -124,6 +125,7 @@ fn store_arguments<A: Abi>(cif: &Cif<A>, values: &[u8], registers: &mut Register
 fn store_hidden(registers: &mut Registers, stack: &mut [u8], base: u64, res: &Res)
     requires base { base ≤ length stack.old }
     requires there { HiddenIsThere (image_in registers.old stack.old) base res.now }
+    requires whole { AllByRecursion IsWhole (hidden_locs res.now) }
     ensures stands { OwnsHidden (image_in registers.new stack.new) base res.now }
     ensures stays { Stays base (hidden_locs res.now) (image_in registers.old stack.old) (image_in registers.new stack.new) }
 {

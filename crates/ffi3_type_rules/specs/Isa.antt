@@ -9,3 +9,4 @@ isa_of target.Amd64 = Amd64
 isa_of target.Aapcs64 = Aarch64
 isa_of target.Riscv = Riscv
 isa_of target.Win64 = Amd64
+isa_of target.Apple = Aarch64

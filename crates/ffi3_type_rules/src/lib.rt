@@ -51,13 +51,15 @@ impl Role {
     }
 }
 
-/// The standard that a call follows: System V AMD64, Arm AAPCS64, RISC-V with LP64D, or Microsoft x64.
+/// The standard that a call follows: System V AMD64, Arm AAPCS64, RISC-V with LP64D, Microsoft x64, or Apple's of
+/// AArch64.
 #[derive(Clone, Copy, Debug, PartialEq, Eq)]
 pub enum Target {
     Amd64,
     Aapcs64,
     Riscv,
     Win64,
+    Apple,
 }
 
 /// The instruction set of a target: of its decoder, its trampolines and its registers' numbers.
@@ -78,6 +80,7 @@ impl Target {
             Target::Aapcs64 => Isa::Aarch64,
             Target::Riscv => Isa::Riscv,
             Target::Win64 => Isa::Amd64,
+            Target::Apple => Isa::Aarch64,
         }
     }
 }

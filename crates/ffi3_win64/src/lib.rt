@@ -47,7 +47,7 @@ fn position_place(p: u64) -> Loc
     if p < 4 {
         Loc::G(GENERAL_ARGUMENTS[p as usize])
     } else {
-        Loc::S((8 * p) as u32)
+        Loc::S((8 * p) as u32, 8)
     }
 }
 

@@ -13,7 +13,7 @@ use Rattle.ffi3_win64_rules.specs.Win64.{win64}
 written : (l : Loc) → IsNoneOf win64.reserved l → TakesWrites (isa_of win64.target) l
 written (G k) h = refl
 written (F k) h = tt
-written (S n) h = tt
+written (S n w) h = tt
 
 pub agrees : AgreesWithMachine win64
 agrees = record {

@@ -17,12 +17,12 @@ differ b h k = cc
 -- a piece that is in no vector register
 plain_filled : (t : Tree) (at : Loc) → is_floating_place at ≡ false → IsFilled win64 t (whole at t)
 plain_filled t at plain =
-    record { narrow = narrow_filling Widen t; single = λ h k. absurd (differ (is_floating_place at) h plain) }
+    record { narrow = λ is_narrow _. narrow_filling Widen t is_narrow; single = λ h k. absurd (differ (is_floating_place at) h plain) }
 
 -- floating-point, in any place
 scalar_filled : (s : Scalar) (at : Loc) → is_floating_type (scalar s) ≡ true → IsFilled win64 (scalar s) (whole at (scalar s))
-scalar_filled float at e = record { narrow = λ h. cc; single = λ h k. refl }
-scalar_filled double at e = record { narrow = λ h. cc; single = λ h k. refl }
+scalar_filled float at e = record { narrow = λ h _. cc; single = λ h k. refl }
+scalar_filled double at e = record { narrow = λ h _. cc; single = λ h k. refl }
 scalar_filled u8 at e = cc
 scalar_filled s8 at e = cc
 scalar_filled u16 at e = cc
@@ -45,7 +45,7 @@ floating_filled (array ts n) at e = cc
 position_is_plain : (p : ℕ) → is_floating_place (position_place p) ≡ false
 position_is_plain p = by_test (ltb p 4)
   where
-    by_test : (b : Bool) → is_floating_place (cond b (G (general_argument p)) (S (8 * p))) ≡ false
+    by_test : (b : Bool) → is_floating_place (cond b (G (general_argument p)) (S (8 * p) 8)) ≡ false
     by_test true = refl
     by_test false = refl
 

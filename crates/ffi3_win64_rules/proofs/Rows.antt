@@ -16,7 +16,7 @@ saved = refl
 
 -- void(sint64,double,sint32,float,double): each position has its own register of each kind, and the fifth its own stack
 pub by_position : plan_of win64 (sig_of void (integer ∷ scalar double ∷ scalar s32 ∷ scalar float ∷ scalar double ∷ [])) ≡ record {
-  places = alone (G 1) ∷ alone (F 1) ∷ Direct (widened (G 8) 4 ∷ []) ∷ Direct (at (F 3) 0 4 ∷ []) ∷ alone (S 32) ∷ [];
+  places = alone (G 1) ∷ alone (F 1) ∷ Direct (widened (G 8) 4 ∷ []) ∷ Direct (at (F 3) 0 4 ∷ []) ∷ alone (S 32 8) ∷ [];
   res = Nothing;
   need = 256;
   frame = 48;
@@ -81,7 +81,7 @@ struct_sizes = refl
 
 -- A hidden result takes the first position: the third argument is the last in a register. The address of a copy goes to the stack as any argument, and so does a narrow integer.
 pub behind_hidden : plan_of win64 (sig_of triple (scalar float ∷ integer ∷ scalar double ∷ triple ∷ scalar s8 ∷ [])) ≡ record {
-  places = Direct (at (F 1) 0 4 ∷ []) ∷ alone (G 8) ∷ alone (F 3) ∷ ByRef (S 32) 48 ∷ Direct (widened (S 40) 1 ∷ []) ∷ [];
+  places = Direct (at (F 1) 0 4 ∷ []) ∷ alone (G 8) ∷ alone (F 3) ∷ ByRef (S 32 8) 48 ∷ Direct (widened (S 40 8) 1 ∷ []) ∷ [];
   res = Hidden (G 1) 80;
   need = 336;
   frame = 112;
@@ -93,7 +93,7 @@ behind_hidden = refl
 
 -- double(sint32, double, double, double, double;): all floating arguments of a variadic signature in registers are in both, the fixed ones too; on the stack there is one place
 pub all_variadic : plan_of win64 (variadic_from (scalar double) (scalar s32 ∷ scalar double ∷ scalar double ∷ scalar double ∷ scalar double ∷ []) 5) ≡ record {
-  places = Direct (widened (G 1) 4 ∷ []) ∷ Direct (at (G 2) 0 8 ∷ at (F 1) 0 8 ∷ []) ∷ Direct (at (G 8) 0 8 ∷ at (F 2) 0 8 ∷ []) ∷ Direct (at (G 9) 0 8 ∷ at (F 3) 0 8 ∷ []) ∷ alone (S 32) ∷ [];
+  places = Direct (widened (G 1) 4 ∷ []) ∷ Direct (at (G 2) 0 8 ∷ at (F 1) 0 8 ∷ []) ∷ Direct (at (G 8) 0 8 ∷ at (F 2) 0 8 ∷ []) ∷ Direct (at (G 9) 0 8 ∷ at (F 3) 0 8 ∷ []) ∷ alone (S 32 8) ∷ [];
   res = DirectRes (at (F 0) 0 8 ∷ []);
   need = 256;
   frame = 48;

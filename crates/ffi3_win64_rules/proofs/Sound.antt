@@ -12,7 +12,7 @@ use Rattle.ffi3_place_rules.specs.declared.Loc.{Loc}
 use Rattle.ffi3_place_rules.specs.declared.Loc.TheVariants.{G, F, S}
 use Rattle.ffi3_place_rules.specs.declared.Taken.{Taken}
 use Rattle.ffi3_place_rules.specs.Standard.{ResultSpot, no_result as not_passed, in_result_pieces, in_buffer, in_pieces, by_reference, place_at, places_from, copy_end, result_at, copies_start, frame_copies_end, frame_of, plan_of}
-use Rattle.ffi3_place_rules.specs.Sound.{AreApart, IsOnStackOrIn, piece_locs, place_locs, hidden_locs, result_locs, argument_locs, IsNoneOf, LiesIn, call_locs, closed_to_arguments, closed_to_results, ResultHasAll, ResultIsFilled, IsSound, IsDetermined}
+use Rattle.ffi3_place_rules.specs.Sound.{AreApart, IsWhole, IsOnStackOrIn, piece_locs, place_locs, hidden_locs, result_locs, argument_locs, IsNoneOf, LiesIn, call_locs, closed_to_arguments, closed_to_results, ResultHasAll, ResultIsFilled, IsSound, IsDetermined}
 use Rattle.ffi3_place_rules.proofs.Chain.{AtMost, at_most_self, Chain, chain_append, chain_apart, chain_allowed, chain_passed, chain_lies_in}
 use Rattle.ffi3_place_rules.proofs.Forbidden.{none_of}
 use Rattle.ffi3_place_rules.proofs.Frame.{up_to, frame_chain}
@@ -36,11 +36,11 @@ more p q h = record { general = h; vector = h; stack = omega (arith, h) }
 
 -- ---- one argument, in its position
 
-place_chain_if : (p : ℕ) (b : Bool) → ltb p 4 ≡ b → PlacesChain (before_position p) (cond b (G (general_argument p)) (S (8 * p)) ∷ []) (before_position (p + 1))
+place_chain_if : (p : ℕ) (b : Bool) → ltb p 4 ≡ b → PlacesChain (before_position p) (cond b (G (general_argument p)) (S (8 * p) 8) ∷ []) (before_position (p + 1))
 place_chain_if p true e =
     (before_position (p + 1), (p, refl, omega arith, ltb-true p 4 e), (p, refl, omega arith), more p (p + 1) (omega arith), at_most_self (before_position (p + 1)))
 place_chain_if p false e =
-    (before_position (p + 1), omega arith, omega arith, more p (p + 1) (omega arith), at_most_self (before_position (p + 1)))
+    (before_position (p + 1), omega arith, (omega arith, omega arith, omega arith), more p (p + 1) (omega arith), at_most_self (before_position (p + 1)))
 
 place_chain : (p : ℕ) → PlacesChain (before_position p) (position_place p ∷ []) (before_position (p + 1))
 place_chain p = place_chain_if p (ltb p 4) refl
@@ -160,7 +160,7 @@ result_by P none floating general s =
 
 result_has_all : (s : Signature) → ResultHasAll s.result_type (plan_of win64 s).res
 result_has_all s =
-    result_cases (λ spot. ResultHasAll s.result_type (result_at win64.copy_start (frame_copies_end win64 s) s.result_type spot)) s.result_type (λ e. e) (λ e. tt) (λ e. whole_has_all s.result_type e (result_place s.result_type) [])
+    result_cases (λ spot. ResultHasAll s.result_type (result_at win64.copy_start (frame_copies_end win64 s) s.result_type spot)) s.result_type (λ e. e) (λ e. tt) (λ e. whole_has_all s.result_type e (result_place s.result_type) [] (either_register IsWhole refl refl (is_floating_type s.result_type), tt))
 
 result_is_filled : (s : Signature) → ResultIsFilled win64 s.result_type (plan_of win64 s).res
 result_is_filled s =
@@ -175,6 +175,7 @@ sound s = record {
   allowed = plan_allowed s;
   passed = plan_passed s;
   has_all = arguments_have_all win64.copy_start (copies_start (placing_of s)) (is_some s.fixed) (first_position s.result_type) s.arguments;
+  address = result_cases (λ spot. AllByRecursion IsWhole (hidden_locs (result_at win64.copy_start (frame_copies_end win64 s) s.result_type spot))) s.result_type (λ e. tt) (λ e. (refl, tt)) (λ e. tt);
   filled = arguments_filled win64.copy_start (copies_start (placing_of s)) (is_some s.fixed) (first_position s.result_type) s.arguments;
   rising = arguments_rise win64.copy_start (copies_start (placing_of s)) (is_some s.fixed) (first_position s.result_type) s.arguments;
   result_apart = result_by AreApart tt (tt, tt) (tt, tt) s;

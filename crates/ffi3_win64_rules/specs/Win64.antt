@@ -41,7 +41,7 @@ general_argument p = get_or general_arguments p 0
 
 -- The general register of a position. The fifth argument and those after it are passed on the stack, each in eight bytes, behind the space for the first four. ("Parameter passing"; "Calling convention defaults": after the shadow store)
 abbrev pub position_place : ℕ → Loc
-position_place p = cond (nat_lt p 4) (G (general_argument p)) (S (8 * p))
+position_place p = cond (nat_lt p 4) (G (general_argument p)) (S (8 * p) 8)
 
 -- A float or a double in the first four positions is passed in xmm0 to xmm3, depending on the position. ("Parameter passing") Of a function with variable arguments both the integer register and the floating-point register must contain the value. ("Varargs". That the named arguments are passed so too, and that the integer register comes first, is this library's rule.)
 abbrev pub floating_places : Bool → ℕ → List Loc

@@ -12,7 +12,7 @@ use Rattle.clap.specs.Simple.{argument_words, built_leaf, entered, inherited, na
 use Rattle.clap.specs.Faults.{check_fault, defaults_fault, entered_fault, other_fault, settle_fault, turn_fault, walk_fault}
 use Rattle.clap.specs.declared.error.kind.ErrorKind.TheVariants.{DisplayHelpOnMissingArgumentOrSubcommand, MissingSubcommand}
 use Rattle.ffi3_type_rules.specs.declared.Target.{Target}
-use Rattle.ffi3_type_rules.specs.declared.Target.TheVariants.{Amd64, Aapcs64, Riscv, Win64}
+use Rattle.ffi3_type_rules.specs.declared.Target.TheVariants.{Amd64, Aapcs64, Riscv, Win64, Apple}
 use Rattle.ffi3_words.specs.declared.words.Request.{Request}
 use Rattle.ffi3_words.specs.declared.words.Request.TheVariants.{OnInput}
 use Rattle.ffi3_words.specs.declared.words.InputCommand.TheVariants.{Layout, Place, Run, Cdecl, Cplace, Explain, Arguments}
@@ -153,12 +153,13 @@ module _ (at at' : Addresses) where
   abbrev IsTarget : Text → Type 0
   IsTarget v = (t : Target) × (target_of v ≡ Some t)
 
-  is_target : (v : Text) (is_amd64 is_aapcs64 is_riscv is_win64 : Bool) → bytes_eq (codes "amd64") v ≡ is_amd64 → bytes_eq (codes "aapcs64") v ≡ is_aapcs64 → bytes_eq (codes "riscv") v ≡ is_riscv → bytes_eq (codes "win64") v ≡ is_win64 → (is_amd64 || (is_aapcs64 || (is_riscv || (is_win64 || false)))) ≡ true → IsTarget v
-  is_target v true b2 b3 b4 e1 e2 e3 e4 one = subst IsTarget ((bytes_eq-Decides (codes "amd64") v).0 e1) (Amd64, refl)
-  is_target v false true b3 b4 e1 e2 e3 e4 one = subst IsTarget ((bytes_eq-Decides (codes "aapcs64") v).0 e2) (Aapcs64, refl)
-  is_target v false false true b4 e1 e2 e3 e4 one = subst IsTarget ((bytes_eq-Decides (codes "riscv") v).0 e3) (Riscv, refl)
-  is_target v false false false true e1 e2 e3 e4 one = subst IsTarget ((bytes_eq-Decides (codes "win64") v).0 e4) (Win64, refl)
-  is_target v false false false false e1 e2 e3 e4 one = absurd (true≢false (sym one))
+  is_target : (v : Text) (is_amd64 is_aapcs64 is_riscv is_win64 is_apple : Bool) → bytes_eq (codes "amd64") v ≡ is_amd64 → bytes_eq (codes "aapcs64") v ≡ is_aapcs64 → bytes_eq (codes "riscv") v ≡ is_riscv → bytes_eq (codes "win64") v ≡ is_win64 → bytes_eq (codes "apple") v ≡ is_apple → (is_amd64 || (is_aapcs64 || (is_riscv || (is_win64 || (is_apple || false))))) ≡ true → IsTarget v
+  is_target v true b2 b3 b4 b5 e1 e2 e3 e4 e5 one = subst IsTarget ((bytes_eq-Decides (codes "amd64") v).0 e1) (Amd64, refl)
+  is_target v false true b3 b4 b5 e1 e2 e3 e4 e5 one = subst IsTarget ((bytes_eq-Decides (codes "aapcs64") v).0 e2) (Aapcs64, refl)
+  is_target v false false true b4 b5 e1 e2 e3 e4 e5 one = subst IsTarget ((bytes_eq-Decides (codes "riscv") v).0 e3) (Riscv, refl)
+  is_target v false false false true b5 e1 e2 e3 e4 e5 one = subst IsTarget ((bytes_eq-Decides (codes "win64") v).0 e4) (Win64, refl)
+  is_target v false false false false true e1 e2 e3 e4 e5 one = subst IsTarget ((bytes_eq-Decides (codes "apple") v).0 e5) (Apple, refl)
+  is_target v false false false false false e1 e2 e3 e4 e5 one = absurd (true≢false (sym one))
 
   -- ---- the command that was met
 
@@ -184,13 +185,13 @@ module _ (at at' : Addresses) where
   asks_place : (rest : List Text) → entered_fault app (Some (codes "place", rest)) ≡ [] → Asks (Some (codes "place", rest))
   asks_place rest fine =
       let got = has_target (codes "place") (one_of_words at targets) rest fine in
-      let is = is_target got.0 _ _ _ _ refl refl refl refl got.1 in
+      let is = is_target got.0 _ _ _ _ _ refl refl refl refl refl got.1 in
       inl (OnInput (Place is.0), ap (λ o. with_target_of o (λ t. Place t)) got.2 ∙ ap (option_map (λ t. OnInput (Place t))) is.1)
 
   asks_run : (rest : List Text) → entered_fault app (Some (codes "run", rest)) ≡ [] → Asks (Some (codes "run", rest))
   asks_run rest fine =
       let got = has_target_traced (codes "run") (one_of_words at' targets) rest fine in
-      let is = is_target got.0 _ _ _ _ refl refl refl refl got.1 in
+      let is = is_target got.0 _ _ _ _ _ refl refl refl refl refl got.1 in
       let rules = built_target (one_of_words at' targets) ∷ trace_and_help in
       let trace : Bool = is_set (first_of (codes "trace") (rows_after rules [] rest)) in
       inl (OnInput (Run is.0 trace), ap (λ o. with_target_of o (λ t. Run t trace)) got.2 ∙ ap (option_map (λ t. OnInput (Run t trace))) is.1)

@@ -3,7 +3,7 @@ use Rattle.std.proofs.Common.{◌≡◌, true, false, List, [], ◌∷◌, codes
 use Rattle.clap.specs.Words.{Text, fault_of, subcommand_of}
 use Rattle.clap.proofs.OnLiterals.{clap_on_literals}
 use Rattle.ffi3_type_rules.specs.declared.Target.{Target}
-use Rattle.ffi3_type_rules.specs.declared.Target.TheVariants.{Amd64, Aapcs64, Riscv, Win64}
+use Rattle.ffi3_type_rules.specs.declared.Target.TheVariants.{Amd64, Aapcs64, Riscv, Win64, Apple}
 use Rattle.ffi3_words.specs.declared.words.InputCommand.{InputCommand}
 use Rattle.ffi3_words.specs.declared.words.InputCommand.TheVariants.{Layout, Place, Run, Cdecl, Cplace, Explain, Arguments}
 use Rattle.ffi3_words.specs.declared.words.Request.{Request}
@@ -44,6 +44,7 @@ module _ (at at' : Addresses) (name : Text) where
   places Aapcs64 = (refl, refl)
   places Riscv = (refl, refl)
   places Win64 = (refl, refl)
+  places Apple = (refl, refl)
 
   runs : (t : Target) → Reads (codes "run" ∷ codes "--target" ∷ target_word t ∷ []) (OnInput (Run t false))
   unfolding clap_on_literals
@@ -51,6 +52,7 @@ module _ (at at' : Addresses) (name : Text) where
   runs Aapcs64 = (refl, refl)
   runs Riscv = (refl, refl)
   runs Win64 = (refl, refl)
+  runs Apple = (refl, refl)
 
   traces_first : (t : Target) → Reads (codes "run" ∷ codes "--trace" ∷ codes "--target" ∷ target_word t ∷ []) (OnInput (Run t true))
   unfolding clap_on_literals
@@ -58,6 +60,7 @@ module _ (at at' : Addresses) (name : Text) where
   traces_first Aapcs64 = (refl, refl)
   traces_first Riscv = (refl, refl)
   traces_first Win64 = (refl, refl)
+  traces_first Apple = (refl, refl)
 
   traces_last : (t : Target) → Reads (codes "run" ∷ codes "--target" ∷ target_word t ∷ codes "--trace" ∷ []) (OnInput (Run t true))
   unfolding clap_on_literals
@@ -65,6 +68,7 @@ module _ (at at' : Addresses) (name : Text) where
   traces_last Aapcs64 = (refl, refl)
   traces_last Riscv = (refl, refl)
   traces_last Win64 = (refl, refl)
+  traces_last Apple = (refl, refl)
 
   states_command : (rest : List Text) (command : InputCommand) → StatesCommand rest command → Reads rest (OnInput command)
   states_command rest Layout is = subst (λ ws. Reads ws (OnInput Layout)) (sym is) lays

@@ -11,7 +11,7 @@ use Rattle.clap.specs.declared.builder.value_parser.ValueParser.{ValueParser}
 use Rattle.clap.specs.declared.builder.value_parser.ValueParser.TheVariants as vp
 use Rattle.ffi3_type_rules.specs.declared.limits.TheConstants.{MOST_CALLS}
 use Rattle.ffi3_type_rules.specs.declared.Target.{Target}
-use Rattle.ffi3_type_rules.specs.declared.Target.TheVariants.{Amd64, Aapcs64, Riscv, Win64}
+use Rattle.ffi3_type_rules.specs.declared.Target.TheVariants.{Amd64, Aapcs64, Riscv, Win64, Apple}
 use Rattle.ffi3_words.specs.declared.words.InputCommand.{InputCommand}
 use Rattle.ffi3_words.specs.declared.words.InputCommand.TheVariants.{Layout, Place, Run, Cdecl, Cplace, Explain, Arguments}
 use Rattle.ffi3_words.specs.declared.words.Request.{Request}
@@ -20,14 +20,15 @@ use Rattle.ffi3_words.specs.declared.words.Request.TheVariants.{OnInput, Bench}
 -- ---- the words of a target
 
 abbrev pub targets : List Text
-targets = codes "amd64" ∷ codes "aapcs64" ∷ codes "riscv" ∷ codes "win64" ∷ []
+targets = codes "amd64" ∷ codes "aapcs64" ∷ codes "riscv" ∷ codes "win64" ∷ codes "apple" ∷ []
 
 abbrev pub target_of : Text → Option Target
 target_of word =
     cond (bytes_eq word (codes "amd64")) (Some Amd64)
     (cond (bytes_eq word (codes "aapcs64")) (Some Aapcs64)
     (cond (bytes_eq word (codes "riscv")) (Some Riscv)
-    (cond (bytes_eq word (codes "win64")) (Some Win64) None)))
+    (cond (bytes_eq word (codes "win64")) (Some Win64)
+    (cond (bytes_eq word (codes "apple")) (Some Apple) None))))
 
 -- ---- the commands and their options
 

@@ -3,7 +3,7 @@ use Rattle.std.specs.Prelude.{◌≡◌, ◌⊎◌, ◌<◌, ◌≤◌, ◌^◌,
 use Rattle.clap.specs.Words.{Text, fault_of, subcommand_of}
 use Rattle.ffi3_type_rules.specs.declared.limits.TheConstants.{MOST_CALLS}
 use Rattle.ffi3_type_rules.specs.declared.Target.{Target}
-use Rattle.ffi3_type_rules.specs.declared.Target.TheVariants.{Amd64, Aapcs64, Riscv, Win64}
+use Rattle.ffi3_type_rules.specs.declared.Target.TheVariants.{Amd64, Aapcs64, Riscv, Win64, Apple}
 use Rattle.ffi3_words.specs.declared.words.InputCommand.{InputCommand}
 use Rattle.ffi3_words.specs.declared.words.InputCommand.TheVariants.{Layout, Place, Run, Cdecl, Cplace, Explain, Arguments}
 use Rattle.ffi3_words.specs.declared.words.Request.{Request}
@@ -15,6 +15,7 @@ target_word Amd64 = codes "amd64"
 target_word Aapcs64 = codes "aapcs64"
 target_word Riscv = codes "riscv"
 target_word Win64 = codes "win64"
+target_word Apple = codes "apple"
 
 -- the words after the program's name ask for this command
 abbrev pub StatesCommand : List Text → InputCommand → Type 0

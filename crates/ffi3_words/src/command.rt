@@ -10,7 +10,7 @@ use clap::{Arg, ArgAction, Command};
 use std::alloc::{AllocError, Global};
 
 /// The words of the targets.
-static TARGETS: [&str; 4] = ["amd64", "aapcs64", "riscv", "win64"];
+static TARGETS: [&str; 5] = ["amd64", "aapcs64", "riscv", "win64", "apple"];
 
 /// The program, its commands and their options.
 pub fn program<'a>(alloc: Global) -> Result<Command<'a>, AllocError>

@@ -21,6 +21,7 @@ pub const AFTER_HELP: &str = "Targets:
   aapcs64  procedure call standard for the Arm 64-bit architecture
   riscv    RISC-V psABI, LP64D
   win64    Microsoft x64 calling convention
+  apple    Apple ARM64 calling convention
 
 Exit status:
   0  done
@@ -90,6 +91,7 @@ pub const PLACE_AFTER_HELP: &str = "Targets:
   aapcs64  procedure call standard for the Arm 64-bit architecture
   riscv    RISC-V psABI, LP64D
   win64    Microsoft x64 calling convention
+  apple    Apple ARM64 calling convention
 
 Exit status:
   0  done
@@ -109,7 +111,7 @@ pub const RUN_LONG_ABOUT: &str = "Run the script on a modelled machine.
 Reads a script of at most 1,048,576 bytes from standard input. Does what its
 main function says: makes closures, calls them by the calling convention of
 the target, and writes the lines that the script prints. Registers, stack and
-closure code are modelled in software, for each of the four targets alike: no
+closure code are modelled in software, for each of the five targets alike: no
 code of the host is called.
 
 With --trace, before the target or after it, each call of a closure writes two
@@ -131,6 +133,7 @@ pub const RUN_AFTER_HELP: &str = "Targets:
   aapcs64  procedure call standard for the Arm 64-bit architecture
   riscv    RISC-V psABI, LP64D
   win64    Microsoft x64 calling convention
+  apple    Apple ARM64 calling convention
 
 Exit status:
   0  done
@@ -210,7 +213,7 @@ pub const CPLACE_ABOUT: &str = "Read a C declaration, and print where a call has
 pub const CPLACE_LONG_ABOUT: &str = "Read a C declaration, and print where a call has its values.
 
 Reads the declaration of one function from standard input, as cdecl does.
-Writes the two lines of cdecl, and then for each of the four targets its name
+Writes the two lines of cdecl, and then for each of the five targets its name
 and the lines that place writes of the signature:
 
   sint32(pointer;)
@@ -229,6 +232,7 @@ pub const CPLACE_AFTER_HELP: &str = "Targets:
   aapcs64  procedure call standard for the Arm 64-bit architecture
   riscv    RISC-V psABI, LP64D
   win64    Microsoft x64 calling convention
+  apple    Apple ARM64 calling convention
 
 Exit status:
   0  done
@@ -279,6 +283,7 @@ pub const EXPLAIN_AFTER_HELP: &str = "Targets:
   aapcs64  procedure call standard for the Arm 64-bit architecture
   riscv    RISC-V psABI, LP64D
   win64    Microsoft x64 calling convention
+  apple    Apple ARM64 calling convention
 
 Exit status:
   0  done
@@ -318,6 +323,7 @@ pub const ARGUMENTS_AFTER_HELP: &str = "Targets:
   aapcs64  procedure call standard for the Arm 64-bit architecture
   riscv    RISC-V psABI, LP64D
   win64    Microsoft x64 calling convention
+  apple    Apple ARM64 calling convention
 
 Exit status:
   0  done

@@ -181,6 +181,9 @@ fn target_of(word: &str) -> Option<Target>
     if word == "win64" {
         return Some(Target::Win64);
     }
+    if word == "apple" {
+        return Some(Target::Apple);
+    }
     None
 }
 
@@ -193,6 +196,7 @@ pub fn target_word(target: Target) -> &'static str
         Target::Aapcs64 => "aapcs64",
         Target::Riscv => "riscv",
         Target::Win64 => "win64",
+        Target::Apple => "apple",
     }
 }
 

@@ -6,7 +6,7 @@ use Rattle.ffi3_pieces.proofs.Filling.{narrow_number, narrow_small, free_stored,
 use Rattle.ffi3_pieces.proofs.fill_piece.Goals as goal
 
 pub set_piece-requires-clause-fits : goal.set_piece-requires-clause-fits
-set_piece-requires-clause-fits c = (c.requires.part.short, omega (arith, c.requires.part.within, c.requires.sized))
+set_piece-requires-clause-fits c = (c.requires.part.short, omega (arith, c.requires.part.within, c.requires.sized), c.requires.part.fits)
 
 pub widen-requires-clause-kind : goal.widen-requires-clause-kind
 widen-requires-clause-kind c = rw c.as_type-plain.ensures.value (narrow_number c.args.ty.now (subst (IsExtended c.args.ty.now c.args.piece) c.in-Widen.is c.requires.part.extended).0)

@@ -1,5 +1,6 @@
-use Rattle.std.proofs.Common.{◌-◌, sym, subst, arith, ap}
+use Rattle.std.proofs.Common.{◌-◌, ◌≤◌, length, sym, subst, arith, ap}
 use Rattle.ffi3_place_rules.specs.declared.Loc.TheVariants.{G, F, S}
+use Rattle.ffi3_place_rules.specs.Sound.{place_size}
 use Rattle.ffi3_type_rules.specs.declared.limits.TheConstants.{STACK_TOP}
 use Rattle.ffi3_pieces.specs.Stored.{IsPlace, HasLow, IsPut, IsWritable}
 use Rattle.ffi3_pieces.specs.Passing.{by_exchange, passing}
@@ -33,6 +34,7 @@ pub returns-in-S : goal.returns-in-S
 returns-in-S c =
     let old = passing c.args.machine.now in
     let lies = subst (IsPlace (STACK_TOP - c.args.base)) c.in-S.is c.requires.lies in
+    let few = subst (λ l. length c.args.bytes.now ≤ place_size l) c.in-S.is c.requires.few in
     subst (λ l. IsPut c.args.base l c.args.bytes.now old (passing c.store_stack.new.self)) (sym c.in-S.is)
-    (subst (IsPut c.args.base (S c.in-S.n) c.args.bytes.now old) (sym (ap passing (rw c.address.ensures.value at c.store_stack.ensures)))
-    (stack_put c.args.base c.in-S.n c.args.bytes.now old c.address.ensures.low c.requires.few (omega (arith, lies, c.address.ensures.low, c.address.ensures.high, c.requires.few, c.sp-m.ensures.machine.stack))))
+    (subst (IsPut c.args.base (S c.in-S.n c.in-S.field-1) c.args.bytes.now old) (sym (ap passing (rw c.address.ensures.value at c.store_stack.ensures)))
+    (stack_put c.args.base c.in-S.n c.in-S.field-1 c.args.bytes.now old c.address.ensures.low few (omega (arith, lies.0, few, c.address.ensures.low, c.address.ensures.high, c.sp-m.ensures.machine.stack))))

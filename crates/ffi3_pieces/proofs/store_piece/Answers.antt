@@ -5,7 +5,7 @@ use Rattle.ffi3_pieces.proofs.Loading.{piece_stored}
 use Rattle.ffi3_pieces.proofs.store_piece.Goals as goal
 
 pub load_piece-requires-clause-within : goal.load_piece-requires-clause-within
-load_piece-requires-clause-within c = (c.requires.part.short, omega (arith, c.requires.part.within, c.requires.sized))
+load_piece-requires-clause-within c = (c.requires.part.short, omega (arith, c.requires.part.within, c.requires.sized), c.requires.part.fits)
 
 pub returns-clause-stored : goal.returns-clause-stored
 returns-clause-stored c =

@@ -1,4 +1,4 @@
-use Rattle.ffi3_type_rules.specs.declared.Target.TheVariants.{Amd64, Aapcs64, Riscv, Win64}
+use Rattle.ffi3_type_rules.specs.declared.Target.TheVariants.{Amd64, Aapcs64, Riscv, Win64, Apple}
 use Rattle.ffi3_script.specs.ScriptOf.{script_of}
 use Rattle.ffi3_app.specs.Commands.{place_text}
 use Rattle.ffi3_app.proofs.Pieces.{placed_by}
@@ -19,3 +19,7 @@ returns-in-Riscv g c =
 pub returns-in-Win64 : goal.returns-in-Win64
 returns-in-Win64 g c =
     placed_by (λ std. place_text std (script_of c.args.script.now)) c.args.target Win64 _ _ c.place_by-in-Win64.result c.in-Win64.is c.place_by-in-Win64.ensures
+
+pub returns-in-Apple : goal.returns-in-Apple
+returns-in-Apple g c =
+    placed_by (λ std. place_text std (script_of c.args.script.now)) c.args.target Apple _ _ c.place_by-in-Apple.result c.in-Apple.is c.place_by-in-Apple.ensures

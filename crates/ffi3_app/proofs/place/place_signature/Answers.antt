@@ -1,4 +1,4 @@
-use Rattle.ffi3_type_rules.specs.declared.Target.TheVariants.{Amd64, Aapcs64, Riscv, Win64}
+use Rattle.ffi3_type_rules.specs.declared.Target.TheVariants.{Amd64, Aapcs64, Riscv, Win64, Apple}
 use Rattle.std.specs.List.{concat}
 use Rattle.ffi3_app.specs.Commands.{place_lines}
 use Rattle.ffi3_app.proofs.Pieces.{placed_by}
@@ -19,3 +19,7 @@ returns-in-Riscv g c =
 pub returns-in-Win64 : goal.returns-in-Win64
 returns-in-Win64 g c =
     placed_by (λ std. concat (place_lines std c.args.number c.args.sig.now)) c.args.target Win64 _ _ c.place_one-in-Win64.result c.in-Win64.is c.place_one-in-Win64.ensures
+
+pub returns-in-Apple : goal.returns-in-Apple
+returns-in-Apple g c =
+    placed_by (λ std. concat (place_lines std c.args.number c.args.sig.now)) c.args.target Apple _ _ c.place_one-in-Apple.result c.in-Apple.is c.place_one-in-Apple.ensures

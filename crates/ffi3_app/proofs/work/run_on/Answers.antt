@@ -1,4 +1,4 @@
-use Rattle.ffi3_type_rules.specs.declared.Target.TheVariants.{Amd64, Aapcs64, Riscv, Win64}
+use Rattle.ffi3_type_rules.specs.declared.Target.TheVariants.{Amd64, Aapcs64, Riscv, Win64, Apple}
 use Rattle.ffi3_script.specs.ScriptOf.{script_of}
 use Rattle.ffi3_ask.specs.Handed.{handed}
 use Rattle.ffi3_app.proofs.Working.{works_by}
@@ -19,3 +19,7 @@ returns-in-Riscv g c =
 pub returns-in-Win64 : goal.returns-in-Win64
 returns-in-Win64 g c =
     works_by (handed _ _ _ c.args.natives.now.items) (script_of c.args.script.now) c.args.trace (g.O.Sink.state c.args.output.now) (g.O.Sink.state c.run_by-in-Win64.new.output) c.args.machine.now c.run_by-in-Win64.new.machine c.args.target Win64 c.run_by-in-Win64.result c.in-Win64.is c.run_by-in-Win64.ensures
+
+pub returns-in-Apple : goal.returns-in-Apple
+returns-in-Apple g c =
+    works_by (handed _ _ _ c.args.natives.now.items) (script_of c.args.script.now) c.args.trace (g.O.Sink.state c.args.output.now) (g.O.Sink.state c.run_by-in-Apple.new.output) c.args.machine.now c.run_by-in-Apple.new.machine c.args.target Apple c.run_by-in-Apple.result c.in-Apple.is c.run_by-in-Apple.ensures

@@ -22,11 +22,11 @@ loop-n-preserved g c =
     let sized : length c.loop-n.machine.stack ≡ STACK_BYTES = before.only.within.size ∙ c.sp-m.ensures.machine.stack in
     elim c.if-not-carries.branch [
       | then-not-carries w ↦ (
-          let has : carries g.A.Abi.standard c.args.cif.now (S c.loop-n.n) 0 ≡ false = sym c.carries.ensures ∙ w.if-not-carries.true in
+          let has : carries g.A.Abi.standard c.args.cif.now (S c.loop-n.n 1) 0 ≡ false = sym c.carries.ensures ∙ w.if-not-carries.true in
           subst (IsFrameDone std s c.args.base c.args.byte (n + 1) c.args.machine.now) (sym w.machine-is) (byte_written std s c.args.base c.args.byte n c.args.machine.now c.loop-n.machine before w.fill_stack.new.self (rw c.address-start.ensures.value at w.fill_stack.ensures) c.address-start.ensures.low c.requires sized inside (frame_free std s n inside has))
           )
       | else-not-carries w ↦ (
-          let has : carries g.A.Abi.standard c.args.cif.now (S c.loop-n.n) 0 ≡ true = sym c.carries.ensures ∙ w.if-not-carries.false in
-          subst (IsFrameDone std s c.args.base c.args.byte (n + 1) c.args.machine.now) (sym w.machine-is) (byte_left std s c.args.base c.args.byte n c.args.machine.now c.loop-n.machine before (carries_not_free std s (S n) 0 has))
+          let has : carries g.A.Abi.standard c.args.cif.now (S c.loop-n.n 1) 0 ≡ true = sym c.carries.ensures ∙ w.if-not-carries.false in
+          subst (IsFrameDone std s c.args.base c.args.byte (n + 1) c.args.machine.now) (sym w.machine-is) (byte_left std s c.args.base c.args.byte n c.args.machine.now c.loop-n.machine before (carries_not_free std s (S n 1) 0 has))
           )
     ]

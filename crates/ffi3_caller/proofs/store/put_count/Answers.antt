@@ -2,8 +2,14 @@ use Rattle.std.proofs.Common.{subst}
 use Rattle.std.specs.List.{AllByRecursion}
 use Rattle.ffi3_place_rules.specs.Isa.{to_list}
 use Rattle.ffi3_pieces.specs.Stored.{IsPlace}
+use Rattle.ffi3_pieces.proofs.Composing.{register_is_whole}
 use Rattle.ffi3_caller.proofs.Calling.{register_lies}
 use Rattle.ffi3_caller.proofs.store.put_count.Goals as goal
+
+pub put_word-requires-clause-whole : goal.put_word-requires-clause-whole
+put_word-requires-clause-whole c =
+    let registers = subst (λ k. AllByRecursion (IsPlace 0) (to_list k)) c.in-Some.is c.requires.registers in
+    register_is_whole c.in-Some.at registers.0
 
 pub returns-in-Some-clause-within : goal.returns-in-Some-clause-within
 returns-in-Some-clause-within c =

@@ -2,7 +2,7 @@ use Rattle.std.proofs.Common.{◌≡◌, ◌+◌, ◌++◌, ◌-◌, ◌<◌, �
 use Rattle.std.specs.List.{AllByRecursion, flat_map}
 use Rattle.ffi3_type_rules.specs.declared.limits.TheConstants.{STACK, STACK_TOP}
 use Rattle.ffi3_place_rules.specs.Standard.{plan_of, frame_of}
-use Rattle.ffi3_place_rules.specs.Sound.{IsNoneOf, argument_locs, hidden_locs, place_locs}
+use Rattle.ffi3_place_rules.specs.Sound.{IsWhole, IsNoneOf, argument_locs, hidden_locs, place_locs}
 use Rattle.ffi3_place_rules.specs.Isa.{to_list}
 use Rattle.ffi3_machine.specs.State.{scribbled}
 use Rattle.ffi3_pieces.specs.Passing.{passing}
@@ -53,6 +53,10 @@ store_hidden-requires-clause-writable g c =
     let target = c.store_places.new.machine.target in
     let write = written_by_law std s sound g.met.A.Abi.agrees c.store_places.new.machine.target _ g.met.A.Abi.target_is (c.store_places.ensures.within.target ∙ c.begin_frame.ensures.within.target ∙ c.requires.target) in
     subst (λ r. AllByRecursion (IsWritable target) (hidden_locs r)) (sym c.result_place.ensures) (each_first (IsWritable target) (hidden_locs (plan_of std s).res) (flat_map place_locs (plan_of std s).places) write)
+
+pub store_hidden-requires-clause-whole : goal.store_hidden-requires-clause-whole
+store_hidden-requires-clause-whole g c =
+    subst (λ r. AllByRecursion IsWhole (hidden_locs r)) (sym c.result_place.ensures) (g.met.A.Abi.sound c.args.cif.now).address
 
 pub put_count-requires-clause-registers : goal.put_count-requires-clause-registers
 put_count-requires-clause-registers g c =
@@ -167,13 +171,13 @@ returns-clause-free g c =
     let registers = subst (λ k. AllByRecursion (IsPlace 0) (to_list k)) (sym c.vector_count-count.ensures) (count_is_register std g.met.A.Abi.agrees) in
     let low : STACK ≤ c.at-base.result = omega (arith, c.begin_frame.ensures.sp, c.frame.ensures, c.at-base.ensures, c.sp.ensures.value, c.requires.room) in
     let all = call_stored std s sound c.sig-sig.ensures.faultless c.args.values.now m.target c.at-base.result c.result_place.result.now c.vector_count-count.result c.vectors.result (passing (scribbled (length m.events) m)) (passing c.begin_frame.new.machine) (passing c.store_places.new.machine) (passing c.store_hidden.new.machine) (passing c.put_count.new.machine) (c.at-base.ensures ∙ c.sp.ensures.value) low c.result_place.ensures c.vector_count-count.ensures c.vectors.ensures write registers c.requires.fit c.begin_frame.ensures.registers c.store_places.ensures.stand c.store_places.ensures.stays c.store_places.ensures.within c.store_places.ensures.unused c.store_hidden.ensures.stands c.store_hidden.ensures.stays c.store_hidden.ensures.within c.put_count.ensures.told c.put_count.ensures.stays c.put_count.ensures.within in
-    λ at k room none below.
+    λ at w k room none below.
     let o = c.begin_frame.new.machine in
     let d = c.put_count.new.machine in
     let there : d.sp + at + k ≡ o.sp + at + k = omega (arith, all.sp) in
     let within : at + k < c.frame.result = omega (arith, room, below, c.frame.ensures) in
     let back : o.sp + (at + k) ≡ o.sp + at + k = omega arith in
-    ap (stack_byte d) there ∙ all.free at none k below ∙ ap (stack_byte o) (sym back) ∙ c.begin_frame.ensures.filled (at + k) within
+    ap (stack_byte d) there ∙ all.free at w none k below ∙ ap (stack_byte o) (sym back) ∙ c.begin_frame.ensures.filled (at + k) within
 
 pub returns-clause-sp : goal.returns-clause-sp
 returns-clause-sp g c =

@@ -1,4 +1,4 @@
-use Rattle.ffi3_type_rules.specs.declared.Target.TheVariants.{Amd64, Aapcs64, Riscv, Win64}
+use Rattle.ffi3_type_rules.specs.declared.Target.TheVariants.{Amd64, Aapcs64, Riscv, Win64, Apple}
 use Rattle.ffi3_explain.specs.ImageOf.{image_of}
 use Rattle.ffi3_image.specs.AnswerOf.{answer_about}
 use Rattle.ffi3_image.proofs.Answering.{answered_by}
@@ -19,3 +19,7 @@ returns-in-Riscv c =
 pub returns-in-Win64 : goal.returns-in-Win64
 returns-in-Win64 c =
     answered_by (λ std. answer_about c.args.question std c.args.sig.now (image_of c.args.image.now)) c.args.target Win64 c.answer_by-in-Win64.result c.in-Win64.is c.answer_by-in-Win64.ensures
+
+pub returns-in-Apple : goal.returns-in-Apple
+returns-in-Apple c =
+    answered_by (λ std. answer_about c.args.question std c.args.sig.now (image_of c.args.image.now)) c.args.target Apple c.answer_by-in-Apple.result c.in-Apple.is c.answer_by-in-Apple.ensures

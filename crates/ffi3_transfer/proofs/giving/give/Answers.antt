@@ -4,8 +4,8 @@ use Rattle.ffi3_type_rules.specs.Layout.{size_of}
 use Rattle.ffi3_type_rules.specs.Isa.{isa_of}
 use Rattle.ffi3_place_rules.specs.declared.Place.TheVariants.{Direct}
 use Rattle.ffi3_place_rules.specs.Image.{word_at}
-use Rattle.ffi3_place_rules.specs.Isa.{to_list}
 use Rattle.ffi3_place_rules.specs.Sound.{hidden_locs}
+use Rattle.ffi3_place_rules.specs.Isa.{to_list}
 use Rattle.ffi3_place_rules.specs.Standard.{plan_of}
 use Rattle.ffi3_place_rules.proofs.Tests.{and_left}
 use Rattle.ffi3_pieces.proofs.Arguments.{lies_more}
@@ -15,6 +15,7 @@ use Rattle.ffi3_explain_rules.proofs.Pieces.{is_le}
 use Rattle.ffi3_explain.proofs.Standing.{found_inside}
 use Rattle.ffi3_transfer.specs.Stored.{image_in}
 use Rattle.ffi3_transfer.specs.Standing.{PiecesStand}
+use Rattle.ffi3_transfer.proofs.PlaceBytes.{hidden_there}
 use Rattle.ffi3_transfer.proofs.Given.{nothing_given, result_registers, direct_given, hidden_given}
 use Rattle.ffi3_transfer.proofs.giving.give.Goals as goal
 
@@ -49,6 +50,11 @@ returns-in-Direct-clause-ok g c =
     let low : c.args.registers.now.sp + length c.args.stack.now < 2 ^ 64 = omega (arith, c.if-registers-stack.false) in
     direct_given std s (g.met.A.Abi.sound s) c.checked_sig-sig.ensures.faultless g.met.A.Abi.agrees c.args.value.now sized (image_in c.args.registers.now c.args.stack.now) new c.in-Direct.pieces (sym c.result_place-2.ensures ∙ c.in-Direct.is) room low c.LINK-base.result
     (subst (λ t. PiecesStand c.LINK-base.result new t c.args.value.now c.in-Direct.pieces) type_is c.store_pieces.ensures.stand) c.store_pieces.ensures.kept c.store_pieces.ensures.stays
+
+pub place_word-address-requires : goal.place_word-address-requires
+place_word-address-requires g c =
+    let room : c.LINK-base.result + stack_end (hidden_locs (plan_of g.A.Abi.standard c.args.cif.now).res) ≤ length c.args.stack.now = omega (arith, c.if-stack-least.false, c.hidden_end.ensures.value, ap (λ r. stack_end (hidden_locs r)) c.result_place.ensures) in
+    hidden_there g.A.Abi.standard c.args.cif.now (g.met.A.Abi.sound c.args.cif.now) (image_in c.args.registers.now c.args.stack.now) c.LINK-base.result c.in-Hidden.at c.in-Hidden.buffer (sym c.result_place-2.ensures ∙ c.in-Hidden.is) room
 
 pub returns-in-Some-clause-ok : goal.returns-in-Some-clause-ok
 returns-in-Some-clause-ok g c =

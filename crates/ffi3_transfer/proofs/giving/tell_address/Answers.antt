@@ -2,9 +2,15 @@ use Rattle.std.proofs.Common.{subst}
 use Rattle.std.specs.List.{AllByRecursion}
 use Rattle.ffi3_place_rules.specs.Isa.{to_list}
 use Rattle.ffi3_pieces.specs.Stored.{IsPlace}
+use Rattle.ffi3_pieces.proofs.Composing.{register_is_whole}
 use Rattle.ffi3_transfer.specs.Stored.{image_in}
 use Rattle.ffi3_transfer.proofs.Given.{stack_same}
 use Rattle.ffi3_transfer.proofs.giving.tell_address.Goals as goal
+
+pub put_word-requires-clause-whole : goal.put_word-requires-clause-whole
+put_word-requires-clause-whole c =
+    let registers = subst (λ o. AllByRecursion (IsPlace 0) (to_list o)) c.in-Some.is c.requires in
+    register_is_whole c.in-Some.at registers.0
 
 pub returns-in-Some-clause-stack : goal.returns-in-Some-clause-stack
 returns-in-Some-clause-stack c =

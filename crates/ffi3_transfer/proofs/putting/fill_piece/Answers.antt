@@ -6,7 +6,7 @@ use Rattle.ffi3_transfer.proofs.Filling.{free_stored, boxed_stored, widened_stor
 use Rattle.ffi3_transfer.proofs.putting.fill_piece.Goals as goal
 
 pub set_piece-requires-clause-fits : goal.set_piece-requires-clause-fits
-set_piece-requires-clause-fits c = (c.requires.part.short, omega (arith, c.requires.part.within, c.requires.sized))
+set_piece-requires-clause-fits c = (c.requires.part.short, omega (arith, c.requires.part.within, c.requires.sized), c.requires.part.fits)
 
 pub widened-requires-clause-kind : goal.widened-requires-clause-kind
 widened-requires-clause-kind c = rw c.as_type-plain.ensures.value (narrow_number c.args.ty.now (subst (IsExtended c.args.ty.now c.args.piece) c.in-Widen.is c.requires.part.extended).0)

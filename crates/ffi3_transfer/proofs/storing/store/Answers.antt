@@ -1,4 +1,6 @@
 use Rattle.std.proofs.Common.{◌≡◌, ◌+◌, ◌<◌, ◌≤◌, ◌^◌, length, sym, ◌∙◌, subst, arith}
+use Rattle.std.specs.List.{AllByRecursion}
+use Rattle.ffi3_place_rules.specs.Sound.{IsWhole, hidden_locs}
 use Rattle.ffi3_place_rules.specs.Standard.{frame_of}
 use Rattle.ffi3_explain.specs.Places.{HiddenIsThere}
 use Rattle.ffi3_explain.proofs.Ready.{result_ready}
@@ -15,6 +17,11 @@ store_hidden-requires-clause-there g c =
     let room : c.LINK-base.result + frame_of std s ≤ length c.store_arguments.new.stack = omega (arith, c.frame.ensures, c.if-stack-wanted.false, c.store_arguments.ensures.stays.size) in
     let high : c.store_arguments.new.registers.sp + c.LINK-base.result + frame_of std s < 2 ^ 64 = omega (arith, c.if-registers-stack.false, c.store_arguments.ensures.stays.size, c.store_arguments.ensures.stays.sp, room) in
     subst (HiddenIsThere m c.LINK-base.result) (sym c.result_place.ensures) (result_ready std s (g.met.A.Abi.sound s) m c.LINK-base.result room high)
+
+pub store_hidden-requires-clause-whole : goal.store_hidden-requires-clause-whole
+store_hidden-requires-clause-whole g c =
+    let sound = g.met.A.Abi.sound c.args.cif.now in
+    subst (λ r. AllByRecursion IsWhole (hidden_locs r)) (sym c.result_place.ensures) sound.address
 
 pub returns-clause-ok : goal.returns-clause-ok
 returns-clause-ok g c =

@@ -1,0 +1,14 @@
+use Rattle.ffi3_place_rules.proofs.Alike.{arrays_as_elements}
+use Rattle.ffi3_apple_rules.specs.Apple.{apple}
+use Rattle.ffi3_apple_rules.proofs.Alike.{goes_by_layout}
+use Rattle.ffi3_apple_rules.proofs.Ends.{by_ends}
+use Rattle.ffi3_apple.proofs.laws.placement_laws.Goals as goal
+
+pub returns-clause-ends : goal.returns-clause-ends
+returns-clause-ends c = by_ends c.args._sig.now
+
+pub returns-clause-by_layout : goal.returns-clause-by_layout
+returns-clause-by_layout c = goes_by_layout
+
+pub returns-clause-arrays_as_elements : goal.returns-clause-arrays_as_elements
+returns-clause-arrays_as_elements c = arrays_as_elements apple goes_by_layout

@@ -1,0 +1,265 @@
+-- The places of a signature are a chain, so no two share a register or a byte of stack; and they have all of the values, which they therefore determine.
+use Rattle.std.proofs.Common.{◌≡◌, ℕ, ◌+◌, ◌*◌, ◌≤◌, Bool, true, false, cond, leb, List, [], ◌∷◌, ◌++◌, ap, sym, ◌∙◌, refl, arith}
+use Rattle.std.specs.Prelude.{Option}
+use Rattle.std.specs.List.{AllByRecursion, flat_map}
+use Rattle.std.proofs.lemmas.Bool.{leb-true}
+use Rattle.ffi3_type_rules.specs.declared.Isa.TheVariants.{Aarch64}
+use Rattle.ffi3_type_rules.specs.Isa.{isa_of}
+use Rattle.ffi3_type_rules.specs.Tree.{Tree, scalar, pointer}
+use Rattle.ffi3_type_rules.specs.Layout.{leaves_of, size_of, align_of, least_multiple}
+use Rattle.ffi3_type_rules.specs.Signature.{Signature}
+use Rattle.ffi3_type_rules.proofs.Layouts.{least_multiple-above}
+use Rattle.ffi3_place_rules.specs.declared.Loc.{Loc}
+use Rattle.ffi3_place_rules.specs.declared.Loc.TheVariants.{G, S}
+use Rattle.ffi3_place_rules.specs.declared.Piece.{Piece}
+use Rattle.ffi3_place_rules.specs.declared.Taken.{Taken}
+use Rattle.ffi3_place_rules.specs.Isa.{result_loads}
+use Rattle.ffi3_place_rules.specs.Standard.{Spot, in_pieces, by_reference, start, place_at, places_from, copy_end, result_at, copies_start, frame_copies_end, frame_of, plan_of, round8}
+use Rattle.ffi3_place_rules.specs.Doublewords.{doublewords, widening, stack_pieces}
+use Rattle.ffi3_place_rules.specs.Sound.{Apart, AreApart, IsWhole, IsOnStackOrIn, piece_locs, place_locs, hidden_locs, result_locs, argument_locs, IsNoneOf, IsOneOf, LiesIn, copy_locs, buffer_locs, call_locs, closed_to_arguments, closed_to_results, PlaceHasAll, PlacesHaveAll, ResultHasAll, IsFilled, PlaceIsFilled, PlacesAreFilled, ResultIsFilled, IsSound, IsDetermined}
+use Rattle.ffi3_place_rules.proofs.Chain.{AtMost, at_most_self, chain_append, chain_apart, chain_allowed, chain_passed, chain_in, chain_lies_in}
+use Rattle.ffi3_place_rules.proofs.Frame.{up_to, value_chain, frame_chain}
+use Rattle.ffi3_place_rules.proofs.Ends.{start-behind}
+use Rattle.ffi3_place_rules.proofs.Aligned.{frame_is_aligned, need_is_aligned}
+use Rattle.ffi3_place_rules.proofs.Tests.{and_right, each_weaker}
+use Rattle.ffi3_place_rules.proofs.Filled.{doublewords_filled}
+use Rattle.ffi3_place_rules.proofs.Forbidden.{one_of}
+use Rattle.ffi3_place_rules.proofs.Determines.{determined}
+use Rattle.ffi3_aapcs64_rules.specs.Aapcs64.{aapcs64, in_vectors, is_copied, member_pieces, general_pieces, register_pieces, register_spot, untouched, stack_spot as rounded_spot}
+use Rattle.ffi3_aapcs64_rules.proofs.Covered.{register_spot_has_all, stack_spot_has_all, registers_have_all, registers_filled, copied_not_vectors, NeedBy, pointer_rounded}
+use Rattle.ffi3_aapcs64_rules.proofs.Registers.{numbered, all_registers, argument_allowed, vector_allowed, stack_allowed, hidden_allowed, argument_passes, vector_passes, hidden_passes, argument_not_hidden, result_allowed_general, result_allowed_vector, result_allowed_stack}
+use Rattle.ffi3_aapcs64_rules.proofs.Sound.{PlacesChain, members_chain, generals_chain, result_cases, result_chain, results_taken, in_results, in_vector_results, few_chain_if, apart_from_hidden}
+use Rattle.ffi3_apple_rules.specs.Apple.{apple, is_named, is_packed, packed_pieces, stack_start, stack_spot, register_start, in_registers, spot_after, spots_after, taken_with, taken_after, placing_of}
+use Rattle.ffi3_apple_rules.proofs.Packed.{packed_have_all, packed_filled, packed_chain}
+use Rattle.ffi3_apple_rules.proofs.Rising.{arguments_rise}
+
+-- ---- one argument, by whether it is in registers, packed, copied, and in vector registers
+
+abbrev PassedBy : Bool → Tree → Tree
+PassedBy copied t = cond {A = Tree} copied (scalar pointer) t
+
+abbrev StartBy : Bool → Taken → ℕ
+StartBy vector a = cond vector a.vector a.general
+
+-- where it begins on the stack, and how much it takes there
+abbrev AtBy : Bool → Bool → Taken → Tree → ℕ
+AtBy packed copied a t =
+    cond packed (least_multiple (align_of t) a.stack) (start a.stack (PassedBy copied t))
+
+abbrev SizeBy : Bool → Bool → Tree → ℕ
+SizeBy packed copied t = cond packed (size_of t) (round8 (size_of (PassedBy copied t)))
+
+abbrev SpotBy : Bool → Bool → Bool → Bool → Taken → Tree → Spot
+SpotBy fits packed copied vector a t =
+    cond fits
+    (cond copied (by_reference (G (StartBy vector a))) (in_pieces (cond vector (member_pieces (StartBy vector a) (leaves_of t)) (general_pieces (StartBy vector a) t))))
+    (cond packed (in_pieces (packed_pieces (AtBy packed copied a t) t))
+    (cond copied (by_reference (S (AtBy packed copied a t) 8)) (in_pieces (stack_pieces (AtBy packed copied a t) t))))
+
+abbrev TakenBy : Bool → Bool → Bool → Bool → Taken → Tree → Taken
+TakenBy fits packed copied vector a t = record {
+  general = cond vector a.general (StartBy vector a + NeedBy vector copied t);
+  vector = cond vector (StartBy vector a + NeedBy vector copied t) a.vector;
+  stack = cond fits a.stack (AtBy packed copied a t + SizeBy packed copied t);
+}
+
+-- what an argument leaves is never less
+at_behind : (packed copied : Bool) (a : Taken) (t : Tree) → a.stack ≤ AtBy packed copied a t
+at_behind true copied a t = least_multiple-above (align_of t) a.stack
+at_behind false copied a t = start-behind a.stack (PassedBy copied t)
+
+taken_by_more : (fits packed copied vector : Bool) (a : Taken) (t : Tree) → AtMost a (TakenBy fits packed copied vector a t)
+taken_by_more true packed copied true a t =
+    record { general = omega arith; vector = omega arith; stack = omega arith }
+taken_by_more true packed copied false a t =
+    record { general = omega arith; vector = omega arith; stack = omega arith }
+taken_by_more false packed copied true a t =
+    record { general = omega arith; vector = omega arith; stack = omega (arith, at_behind packed copied a t) }
+taken_by_more false packed copied false a t =
+    record { general = omega arith; vector = omega arith; stack = omega (arith, at_behind packed copied a t) }
+
+abbrev FitsBy : Bool → Bool → Taken → Tree → Bool
+FitsBy vector copied a t = leb (StartBy vector a + NeedBy vector copied t) 8
+
+fits_by : (named : Bool) (a : Taken) (t : Tree) (vector copied : Bool) → in_vectors t ≡ vector → is_copied t ≡ copied → in_registers named a t ≡ true → StartBy vector a + NeedBy vector copied t ≤ 8
+fits_by named a t vector copied ev ec ef =
+    leb-true _ _ (sym (ap (λ v. FitsBy v (is_copied t) a t) ev ∙ ap (λ c. FitsBy vector c a t) ec) ∙ and_right named _ ef)
+
+module _ (begin : ℕ → Tree → ℕ) where
+  argument_chain_by : (end : ℕ) (named : Bool) (a : Taken) (t : Tree) (fits packed copied vector : Bool) → in_registers named a t ≡ fits → is_copied t ≡ copied → in_vectors t ≡ vector → PlacesChain a (place_locs (place_at begin end t (SpotBy fits packed copied vector a t))) (TakenBy fits packed copied vector a t)
+  argument_chain_by end named a t true packed true true ef ec ev = let apart = copied_not_vectors t ec in cc
+  argument_chain_by end named a t true packed true false ef ec ev =
+      let room : a.general + 1 ≤ 8 = fits_by named a t false true ev ec ef in
+      (TakenBy true packed true false a t, (a.general, refl, omega arith, omega (arith, room)), (a.general, refl, omega arith), taken_by_more true packed true false a t, at_most_self (TakenBy true packed true false a t))
+  argument_chain_by end named a t true packed false true ef ec ev =
+      members_chain a a.vector (leaves_of t) (TakenBy true packed false true a t) (omega arith) (fits_by named a t true false ev ec ef) (omega arith) (omega arith) (omega arith)
+  argument_chain_by end named a t true packed false false ef ec ev =
+      let room : a.general + doublewords t ≤ 8 = fits_by named a t false false ev ec ef in
+      generals_chain a a.general (size_of t) (widening t) 0 (doublewords t) (TakenBy true packed false false a t) (omega arith) (omega (arith, room)) (omega arith) (omega arith) (omega arith)
+  argument_chain_by end named a t false true copied vector ef ec ev =
+      let more = taken_by_more false true copied vector a t in
+      packed_chain numbered numbered 8 8 a (least_multiple (align_of t) a.stack) t (TakenBy false true copied vector a t) (least_multiple-above (align_of t) a.stack) (omega arith) more.general more.vector
+  argument_chain_by end named a t false false true vector ef ec ev =
+      (TakenBy false false true vector a t, start-behind a.stack (scalar pointer), (omega (arith, pointer_rounded), omega arith, omega arith), taken_by_more false false true vector a t, at_most_self (TakenBy false false true vector a t))
+  argument_chain_by end named a t false false false vector ef ec ev =
+      let more = taken_by_more false false false vector a t in
+      value_chain numbered numbered 8 8 a (start a.stack t) t (TakenBy false false false vector a t) (start-behind a.stack t) (omega arith) more.general more.vector
+
+  argument_chain : (end : ℕ) (named : Bool) (a : Taken) (t : Tree) → PlacesChain a (place_locs (place_at begin end t (spot_after named a t))) (taken_with named a t)
+  argument_chain end named a t =
+      argument_chain_by end named a t (in_registers named a t) (is_packed named t) (is_copied t) (in_vectors t) refl refl refl
+
+  places_chain : (end : ℕ) (fixed : Option ℕ) (a : Taken) (i : ℕ) (ts : List Tree) → PlacesChain a (flat_map place_locs (places_from begin end ts (spots_after fixed a i ts))) (taken_after fixed a i ts)
+  places_chain end fixed a i [] = at_most_self a
+  places_chain end fixed a i (t ∷ ts) =
+      let named = is_named fixed i in
+      chain_append numbered numbered 8 8 a (place_locs (place_at begin end t (spot_after named a t))) (taken_with named a t) _ _
+      (argument_chain end named a t) (places_chain (copy_end begin end t (spot_after named a t)) fixed (taken_with named a t) (i + 1) ts)
+
+-- ---- what the pieces have, and what fills the rest of their places
+
+on_stack_has_all : (begin : ℕ → Tree → ℕ) (end at : ℕ) (t : Tree) (packed : Bool) → PlaceHasAll t (place_at begin end t (cond packed (in_pieces (packed_pieces at t)) (rounded_spot at t)))
+on_stack_has_all begin end at t true = packed_have_all at t
+on_stack_has_all begin end at t false = stack_spot_has_all begin end at t (is_copied t)
+
+spot_has_all_if : (begin : ℕ → Tree → ℕ) (end first at : ℕ) (named : Bool) (t : Tree) (fits : Bool) → PlaceHasAll t (place_at begin end t (cond fits (register_spot first t) (stack_spot named at t)))
+spot_has_all_if begin end first at named t true = register_spot_has_all begin end first t (is_copied t)
+spot_has_all_if begin end first at named t false = on_stack_has_all begin end at t (is_packed named t)
+
+arguments_have_all : (begin : ℕ → Tree → ℕ) (end : ℕ) (fixed : Option ℕ) (before : Taken) (i : ℕ) (ts : List Tree) → PlacesHaveAll ts (places_from begin end ts (spots_after fixed before i ts))
+arguments_have_all begin end fixed before i [] = tt
+arguments_have_all begin end fixed before i (t ∷ ts) =
+    let named = is_named fixed i in
+    (spot_has_all_if begin end (register_start before t) (stack_start named before.stack t) named t (in_registers named before t), arguments_have_all begin (copy_end begin end t (spot_after named before t)) fixed (taken_with named before t) (i + 1) ts)
+
+-- registers are filled as by AAPCS64
+also_here : (t : Tree) (ps : List Piece) → AllByRecursion (IsFilled aapcs64 t) ps → AllByRecursion (IsFilled apple t) ps
+also_here t [] h = tt
+also_here t (p ∷ ps) h = (record { narrow = h.0.narrow; single = h.0.single }, also_here t ps h.1)
+
+register_filled : (begin : ℕ → Tree → ℕ) (end first : ℕ) (t : Tree) (copied : Bool) → PlaceIsFilled apple t (place_at begin end t (cond copied (by_reference (G first)) (in_pieces (register_pieces first t))))
+register_filled begin end first t true = tt
+register_filled begin end first t false = also_here t (register_pieces first t) (registers_filled first t)
+
+rounded_filled : (begin : ℕ → Tree → ℕ) (end at : ℕ) (t : Tree) (copied : Bool) → PlaceIsFilled apple t (place_at begin end t (cond copied (by_reference (S at 8)) (in_pieces (stack_pieces at t))))
+rounded_filled begin end at t true = tt
+rounded_filled begin end at t false =
+    doublewords_filled apple t (λ j. S (at + 8 * j) 8) (λ j. refl) 0 (doublewords t)
+
+on_stack_filled : (begin : ℕ → Tree → ℕ) (end at : ℕ) (t : Tree) (packed : Bool) → PlaceIsFilled apple t (place_at begin end t (cond packed (in_pieces (packed_pieces at t)) (rounded_spot at t)))
+on_stack_filled begin end at t true = packed_filled apple at t
+on_stack_filled begin end at t false = rounded_filled begin end at t (is_copied t)
+
+spot_filled_if : (begin : ℕ → Tree → ℕ) (end first at : ℕ) (named : Bool) (t : Tree) (fits : Bool) → PlaceIsFilled apple t (place_at begin end t (cond fits (register_spot first t) (stack_spot named at t)))
+spot_filled_if begin end first at named t true = register_filled begin end first t (is_copied t)
+spot_filled_if begin end first at named t false = on_stack_filled begin end at t (is_packed named t)
+
+arguments_filled : (begin : ℕ → Tree → ℕ) (end : ℕ) (fixed : Option ℕ) (before : Taken) (i : ℕ) (ts : List Tree) → PlacesAreFilled apple ts (places_from begin end ts (spots_after fixed before i ts))
+arguments_filled begin end fixed before i [] = tt
+arguments_filled begin end fixed before i (t ∷ ts) =
+    let named = is_named fixed i in
+    (spot_filled_if begin end (register_start before t) (stack_start named before.stack t) named t (in_registers named before t), arguments_filled begin (copy_end begin end t (spot_after named before t)) fixed (taken_with named before t) (i + 1) ts)
+
+-- ---- the whole signature, but for the hidden result's address
+
+abbrev taken_by_all : Signature → Taken
+taken_by_all s = taken_after s.fixed untouched 0 s.arguments
+
+abbrev pieces_and_references : Signature → List Loc
+pieces_and_references s = flat_map place_locs (plan_of apple s).places
+
+pieces_chain : (s : Signature) → PlacesChain untouched (pieces_and_references s) (taken_by_all s)
+pieces_chain s =
+    places_chain apple.copy_start (copies_start (placing_of s)) s.fixed untouched 0 s.arguments
+
+abbrev framed : Signature → Taken
+framed s = up_to (taken_by_all s) (frame_of apple s)
+
+abbrev copies_and_buffer : Signature → List Loc
+copies_and_buffer s =
+    copy_locs s.arguments (plan_of apple s).places ++ buffer_locs s.result_type (plan_of apple s).res
+
+call_chain : (s : Signature) → PlacesChain untouched (pieces_and_references s ++ copies_and_buffer s) (framed s)
+call_chain s =
+    chain_append numbered numbered 8 8 untouched (pieces_and_references s) (taken_by_all s) _ (framed s) (pieces_chain s) (frame_chain numbered numbered 8 8 apple start-behind s (taken_by_all s) (omega arith))
+
+-- ---- the hidden result's address, in x8
+
+hidden_cases : (P : List Loc → Type 0) → P [] → P (G 8 ∷ []) → (s : Signature) → P (hidden_locs (plan_of apple s).res)
+hidden_cases P none there s =
+    result_cases (λ spot. P (hidden_locs (result_at apple.copy_start (frame_copies_end apple s) s.result_type spot))) s.result_type (λ e. none) (λ e. there) (λ e. none)
+
+plan_apart : (s : Signature) → AreApart (call_locs s (plan_of apple s))
+plan_apart s =
+    let others = chain_apart numbered numbered 8 8 all_registers untouched _ _ (call_chain s) in
+    let none = chain_allowed numbered numbered 8 8 (G 8 ∷ []) argument_not_hidden (λ k h. (tt, tt)) (λ n w. (tt, tt)) untouched _ _ (call_chain s) in
+    let from_hidden = each_weaker (IsNoneOf (G 8 ∷ [])) (Apart (G 8)) apart_from_hidden _ none in
+    hidden_cases (λ hs. AreApart ((hs ++ pieces_and_references s) ++ copies_and_buffer s)) others (from_hidden, others) s
+
+plan_in_frame : (s : Signature) → AllByRecursion (LiesIn (isa_of apple.target) (frame_of apple s)) (call_locs s (plan_of apple s))
+plan_in_frame s =
+    let others = chain_lies_in numbered numbered 8 8 (isa_of apple.target) (λ k h. omega arith) (λ k h. omega arith) untouched _ (framed s) (frame_of apple s) (omega arith) (call_chain s) in
+    hidden_cases (λ hs. AllByRecursion (LiesIn (isa_of apple.target) (frame_of apple s)) ((hs ++ pieces_and_references s) ++ copies_and_buffer s)) others (omega arith, others) s
+
+plan_on_stack : (s : Signature) → AllByRecursion (LiesIn (isa_of apple.target) (placing_of s).stack_bytes) (argument_locs (plan_of apple s))
+plan_on_stack s =
+    let others = chain_lies_in numbered numbered 8 8 (isa_of apple.target) (λ k h. omega arith) (λ k h. omega arith) untouched _ _ (placing_of s).stack_bytes (omega arith) (pieces_chain s) in
+    hidden_cases (λ hs. AllByRecursion (LiesIn (isa_of apple.target) (placing_of s).stack_bytes) (hs ++ pieces_and_references s)) others (omega arith, others) s
+
+plan_allowed : (s : Signature) → AllByRecursion (IsNoneOf (closed_to_arguments apple)) (argument_locs (plan_of apple s))
+plan_allowed s =
+    let others = chain_allowed numbered numbered 8 8 (closed_to_arguments apple) argument_allowed vector_allowed stack_allowed untouched _ _ (pieces_chain s) in
+    hidden_cases (λ hs. AllByRecursion (IsNoneOf (closed_to_arguments apple)) (hs ++ pieces_and_references s)) others (hidden_allowed, others) s
+
+plan_passed : (s : Signature) → AllByRecursion (IsOnStackOrIn apple.argument_registers) (argument_locs (plan_of apple s))
+plan_passed s =
+    let others = chain_passed numbered numbered 8 8 apple.argument_registers argument_passes vector_passes untouched _ _ (pieces_chain s) in
+    hidden_cases (λ hs. AllByRecursion (IsOnStackOrIn apple.argument_registers) (hs ++ pieces_and_references s)) others (hidden_passes, others) s
+
+-- ---- the result, as by AAPCS64
+
+-- what holds of no places, and of those in registers, holds of a result's
+result_by : (P : List Loc → Type 0) → P [] → (s : Signature) → (is_copied s.result_type ≡ false → P (piece_locs (register_pieces 0 s.result_type))) → P (result_locs (plan_of apple s).res)
+result_by P none s direct =
+    result_cases (λ spot. P (result_locs (result_at apple.copy_start (frame_copies_end apple s) s.result_type spot))) s.result_type (λ e. none) (λ e. none) direct
+
+result_has_all : (s : Signature) → ResultHasAll s.result_type (plan_of apple s).res
+result_has_all s =
+    result_cases (λ spot. ResultHasAll s.result_type (result_at apple.copy_start (frame_copies_end apple s) s.result_type spot)) s.result_type (λ e. e) (λ e. tt) (λ e. registers_have_all 0 s.result_type)
+
+result_filled : (s : Signature) → ResultIsFilled apple s.result_type (plan_of apple s).res
+result_filled s =
+    result_cases (λ spot. ResultIsFilled apple s.result_type (result_at apple.copy_start (frame_copies_end apple s) s.result_type spot)) s.result_type (λ e. tt) (λ e. tt) (λ e. also_here s.result_type (register_pieces 0 s.result_type) (registers_filled 0 s.result_type))
+
+-- every law of the places
+pub sound : (s : Signature) → IsSound apple s
+sound s = record {
+  apart = plan_apart s;
+  in_frame = plan_in_frame s;
+  on_stack = plan_on_stack s;
+  allowed = plan_allowed s;
+  passed = plan_passed s;
+  has_all = arguments_have_all apple.copy_start (copies_start (placing_of s)) s.fixed untouched 0 s.arguments;
+  address = hidden_cases (AllByRecursion IsWhole) tt (refl, tt) s;
+  filled = arguments_filled apple.copy_start (copies_start (placing_of s)) s.fixed untouched 0 s.arguments;
+  rising = arguments_rise apple.copy_start (copies_start (placing_of s)) s.fixed untouched 0 s.arguments;
+  result_apart = result_by AreApart tt s (λ e. chain_apart numbered numbered 8 8 all_registers untouched _ _ (result_chain s.result_type e));
+  result_in_registers = result_by (AllByRecursion (LiesIn (isa_of apple.target) 0)) tt s (λ e. chain_lies_in numbered numbered 8 8 (isa_of apple.target) (λ k h. omega arith) (λ k h. omega arith) untouched _ _ 0 (omega arith) (result_chain s.result_type e));
+  result_allowed = result_by (AllByRecursion (IsNoneOf (closed_to_results apple))) tt s (λ e. chain_allowed numbered numbered 8 8 (closed_to_results apple) result_allowed_general result_allowed_vector result_allowed_stack untouched _ _ (result_chain s.result_type e));
+  result_has_all = result_has_all s;
+  result_filled = result_filled s;
+  frame_aligned = frame_is_aligned apple s;
+  need_aligned = need_is_aligned apple s refl;
+}
+
+pub determines : (s : Signature) → IsDetermined apple s
+determines s = determined apple s (sound s).has_all (sound s).result_has_all
+
+-- ---- the result, by the stubs
+
+pub result_loaded : (s : Signature) → AllByRecursion (IsOneOf (result_loads Aarch64)) (result_locs (plan_of apple s).res)
+result_loaded s =
+    result_by (AllByRecursion (IsOneOf (result_loads Aarch64))) tt s (λ e. chain_in numbered numbered 8 8 (result_loads Aarch64) results_taken refl in_results in_vector_results untouched _ (few_chain_if s.result_type (in_vectors s.result_type) e refl))
+
+pub hidden_saved : (s : Signature) → AllByRecursion (IsOneOf (G 8 ∷ [])) (hidden_locs (plan_of apple s).res)
+hidden_saved s = hidden_cases (AllByRecursion (IsOneOf (G 8 ∷ []))) tt (one_of (G 8 ∷ []) (G 8) refl, tt) s

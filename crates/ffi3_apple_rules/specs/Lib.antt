@@ -1,0 +1,2 @@
+pub mod Apple
+pub mod Ends
