@@ -404,8 +404,8 @@ struct ffi3_result {
  * What the function that the LENGTH bytes at TEXT, or the COUNT nodes at NODES, declare gave back, by the standard
  * TARGET: REGISTERS and STACK, the memory from REGISTERS->sp on, are the machine's where it has returned, as at a
  * debugger's stop behind `finish`. What the standard leaves free is not looked at. A large result is read where the
- * address points that comes back, if all of it is among the bytes of STACK; by FFI3_AAPCS64 and FFI3_RISCV none comes
- * back. Who knows a buffer's address reads the result there. A CAPACITY of 0 asks for the size.
+ * address points that comes back, if all of it is among the bytes of STACK; by FFI3_AAPCS64, FFI3_RISCV and FFI3_APPLE
+ * none comes back. Who knows a buffer's address reads the result there. A CAPACITY of 0 asks for the size.
  *
  * VALUE has room for CAPACITY bytes, and is given FOUND->size of them, as the result stands in memory. Bytes that stand
  * in no register are 0.

@@ -9,7 +9,7 @@
 #define SLOT_SIZE 64
 #define MOVES 10000
 #define STACK 1048576
-#define TARGETS 4
+#define TARGETS 5
 #define HOST_STACK (1UL << 30) /* of the thread that runs main: calls nest as deep as there are moves */
 
 /* A closure of libffi. It is never given back to malloc: a closure that frees itself is still to return. */
@@ -20,7 +20,7 @@ struct made {
     void *code;
 };
 
-static const char *const targets[TARGETS] = {"amd64", "aapcs64", "riscv", "win64"};
+static const char *const targets[TARGETS] = {"amd64", "aapcs64", "riscv", "win64", "apple"};
 static const struct {
     const char *name;
     ffi_abi abi;
@@ -174,18 +174,18 @@ static void write_long(void *result)
 
 static struct signature of_one = {
     .text = "sint64(sint64)",
-    .need = {80, 192, 224, 208},
+    .need = {80, 192, 224, 208, 192},
     .write_result = write_long,
 };
 static struct signature of_pointer = {
     .text = "sint64(pointer,sint64)",
-    .need = {80, 192, 224, 208},
+    .need = {80, 192, 224, 208, 192},
     .write_arguments = write_pointer_and_long,
     .write_result = write_long,
 };
 static struct signature of_three = {
     .text = "sint64(sint64,sint64,sint64)",
-    .need = {96, 208, 240, 224},
+    .need = {96, 208, 240, 224, 208},
     .write_arguments = write_three_longs,
     .write_result = write_long,
 };

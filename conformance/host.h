@@ -13,7 +13,7 @@ typedef unsigned long address;
 /* A signature: its text, what its call takes of the stack on each target, and how its values are written. */
 struct signature {
     const char *text;
-    long need[4];
+    long need[5];
     void (*write_arguments)(void **arguments);
     void (*write_result)(void *result);
     ffi_cif cif;

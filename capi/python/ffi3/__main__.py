@@ -33,6 +33,7 @@ which stands at OFFSET of the caller's frame. `buffer` is the address of where t
   python3 -m ffi3 header zlib.h --target riscv --function crc32
   python3 -m ffi3 header SDL.h -I /usr/include/SDL2 -D SDL_DISABLE_IMMINTRIN_H --json
   python3 -m ffi3 header w.h --cc "clang --target=x86_64-pc-windows-msvc"     as Windows' compilers have long, wchar_t
+  python3 -m ffi3 header w.h --cc "clang --target=arm64-apple-macos"          for apple
 
 The compiler of each target preprocesses and is asked for sizes, signs and offsets: gcc, aarch64-linux-gnu-gcc,
 riscv64-linux-gnu-gcc, x86_64-w64-mingw32-gcc; for apple --cc names one. What is not read is listed with its reason, and
