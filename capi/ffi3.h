@@ -32,7 +32,7 @@
  *
  * What the library makes does not outlive a call, but for the interfaces that ffi3_prepare and ffi3_share leave, each
  * of which ffi3_release gives back. Any number of threads may call, each with interfaces of its own. Memory is taken
- * from malloc. No function ends the program: where memory is refused it says so. A call takes less than 24 KiB of
+ * from malloc. No function ends the program: where memory is refused it says so. A call takes less than 28 KiB of
  * stack, what malloc takes among them: a thread with 64 KiB has enough.
  */
 #ifndef FFI3_H
