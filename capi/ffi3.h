@@ -32,7 +32,7 @@
  *
  * What the library makes does not outlive a call, but for the interfaces that ffi3_prepare and ffi3_share leave, each
  * of which ffi3_release gives back. Any number of threads may call, each with interfaces of its own. Memory is taken
- * from malloc. No function ends the program: where memory is refused it says so. A call takes less than 24 KiB of
+ * from malloc. No function ends the program: where memory is refused it says so. A call takes less than 28 KiB of
  * stack, what malloc takes among them: a thread with 64 KiB has enough.
  */
 #ifndef FFI3_H
@@ -119,8 +119,8 @@ struct ffi3_fault {
 
 /* What a caller writes into the REST of an argument's register, or of its last eight bytes on the stack, and a callee
  * into that of a result's. Who reads it looks at the value's own bytes, and counts on the rest only where the standard
- * says so: that of FFI3_RISCV says the last two. The others ask for no extension to 64 bits; it stands here since it is
- * right for whoever counts on 32. */
+ * says so: that of FFI3_RISCV says the last two. The others ask for no extension to 64 bits, and that of FFI3_APPLE
+ * for one to 32 in a register; it stands here since it is right for whoever counts on 32. */
 #define FFI3_REST_FREE 0           /* anything */
 #define FFI3_REST_EXTENDED 1       /* the integer is sign- or zero-extended to 64 bits, by its type */
 #define FFI3_REST_EXTENDED_BY_32 2 /* so to 32 bits, and from there sign-extended to 64 */
@@ -403,12 +403,12 @@ struct ffi3_result {
  *
  * What the function that the LENGTH bytes at TEXT, or the COUNT nodes at NODES, declare gave back, by the standard
  * TARGET: REGISTERS and STACK, the memory from REGISTERS->sp on, are the machine's where it has returned, as at a
- * debugger's stop behind `finish`. What the standard leaves free is not looked at. A large result is read where the
- * address points that comes back, if all of it is among the bytes of STACK; by FFI3_AAPCS64, FFI3_RISCV and FFI3_APPLE
+ * debugger's stop behind `finish`. What the standard leaves free is not judged. A large result is read where the
+ * address points that comes back, if all of it is among the bytes of STACK; by FFI3_AAPCS64, FFI3_APPLE and FFI3_RISCV
  * none comes back. Who knows a buffer's address reads the result there. A CAPACITY of 0 asks for the size.
  *
- * VALUE has room for CAPACITY bytes, and is given FOUND->size of them, as the result stands in memory. Bytes that stand
- * in no register are 0.
+ * VALUE has room for CAPACITY bytes, and is given FOUND->size of them, as the result stands in memory. Padding is as
+ * registers or memory have it, and 0 where it stands in no register.
  *
  * FFI3_OK: FOUND and VALUE are filled.
  * FFI3_TOO_SMALL: FOUND is filled, and VALUE is as it was: it wants FOUND->size bytes.

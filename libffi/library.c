@@ -87,7 +87,8 @@ static bool has_asked(const struct key *key, const struct ffi3_node *nodes, size
     library_enter();
     bool has = ffi3_prepare(target, nodes, length, fixed, &interface, &fault) == FFI3_OK &&
                has_told_all(&interface, told);
-    ffi3_release(&interface);
+    if (library_has_malloced())
+        ffi3_release(&interface);
     library_leave();
     if (has)
         told->stack = stack_of(told);

@@ -18,10 +18,10 @@
 #include <sys/mman.h>
 #include <unistd.h>
 
-enum { MUCH = 1 << 19, ALL = 200, PAINT = 0xA5 };
+enum { MUCH = 1 << 19, ALL = 200, DEEP = 4096, PAINT = 0xA5 };
 
 #ifdef PLANTED
-// ffi3_place with one of the errors that are to be found; tools/check_shipped lists them.
+// Exports with one of the errors that are to be found; tools/check_shipped lists them.
 uint32_t __real_ffi3_place(uint32_t target, const char *text, size_t length, struct ffi3_call *call,
                            struct ffi3_piece *pieces, size_t capacity);
 
@@ -42,6 +42,41 @@ uint32_t __wrap_ffi3_place(uint32_t target, const char *text, size_t length, str
         pieces[capacity].part = 0;
     if (PLANTED == 5 && status == FFI3_TOO_SMALL && capacity)
         pieces[capacity - 1].rest = FFI3_REST_FREE;
+    return status;
+}
+
+uint32_t __real_ffi3_arguments_nodes(uint32_t target, const struct ffi3_node *nodes, size_t count, uint32_t fixed,
+                                     const struct ffi3_registers *registers, const unsigned char *stack,
+                                     size_t stack_length, struct ffi3_arguments *found, struct ffi3_argument *each,
+                                     size_t most, unsigned char *values, size_t capacity);
+
+uint32_t __wrap_ffi3_arguments_nodes(uint32_t target, const struct ffi3_node *nodes, size_t count, uint32_t fixed,
+                                     const struct ffi3_registers *registers, const unsigned char *stack,
+                                     size_t stack_length, struct ffi3_arguments *found, struct ffi3_argument *each,
+                                     size_t most, unsigned char *values, size_t capacity)
+{
+    uint32_t status = __real_ffi3_arguments_nodes(target, nodes, count, fixed, registers, stack, stack_length, found,
+                                                  each, most, values, capacity);
+    if (PLANTED == 6 && status == FFI3_OK)
+        each[most].status = 0;
+    if (PLANTED == 7 && status == FFI3_TOO_SMALL && capacity && capacity < found->size)
+        values[0] = 0;
+    if (PLANTED == 8 && stack_length && ((const volatile unsigned char *)stack)[stack_length] == 7)
+        found->stack = 0;
+    return status;
+}
+
+uint32_t __real_ffi3_result(uint32_t target, const char *text, size_t length, const struct ffi3_registers *registers,
+                            const unsigned char *stack, size_t stack_length, struct ffi3_result *found,
+                            unsigned char *value, size_t capacity);
+
+uint32_t __wrap_ffi3_result(uint32_t target, const char *text, size_t length, const struct ffi3_registers *registers,
+                            const unsigned char *stack, size_t stack_length, struct ffi3_result *found,
+                            unsigned char *value, size_t capacity)
+{
+    uint32_t status = __real_ffi3_result(target, text, length, registers, stack, stack_length, found, value, capacity);
+    if (PLANTED == 9 && status == FFI3_OK && found->size)
+        value[found->size] = 0;
     return status;
 }
 #endif
@@ -82,7 +117,7 @@ struct room {
     unsigned char *start, *end;
 };
 
-static struct room texts, calls, arrays, registers, stacks;
+static struct room texts, calls, rows, arrays, registers, stacks;
 
 static struct room make_room(size_t size)
 {
@@ -201,24 +236,31 @@ static void add_found(uint32_t status, const struct ffi3_arguments *found)
     add(row, sizeof row);
 }
 
+// A machine whose registers and memory have such addresses; its stack is memory from its start on.
+static struct ffi3_registers machine;
+static unsigned char memory[1 << 16];
+
+static void draw_machine(void)
+{
+    machine.sp = UINT64_C(0x7FFF00001000);
+    for (size_t i = 0; i < 32; i++)
+        machine.general[i] = address_near(machine.sp, DEEP), machine.floating[i] = drawn();
+    for (size_t i = 0; i < sizeof memory; i += 8) {
+        uint64_t word = address_near(machine.sp, DEEP);
+        memcpy(memory + i, &word, 8);
+    }
+}
+
 static void try_arguments(uint32_t target, const char *text, size_t length, int all, int at_end)
 {
-    static struct ffi3_registers held;
-    static unsigned char bytes[1 << 16], whole[MUCH];
+    static unsigned char whole[MUCH];
     static struct ffi3_arguments found;
-    size_t deep = 4096;
-    held.sp = UINT64_C(0x7FFF00001000);
-    for (size_t i = 0; i < 32; i++)
-        held.general[i] = address_near(held.sp, deep), held.floating[i] = drawn();
-    for (size_t i = 0; i < sizeof bytes; i += 8) {
-        uint64_t word = address_near(held.sp, deep);
-        memcpy(bytes + i, &word, 8);
-    }
-    const struct ffi3_registers *lent = lend(&registers, &held, sizeof held, at_end);
-    uint32_t is = ffi3_arguments(target, text, length, lent, bytes, sizeof bytes, &found, whole, sizeof whole);
+    draw_machine();
+    const struct ffi3_registers *lent = lend(&registers, &machine, sizeof machine, at_end);
+    uint32_t is = ffi3_arguments(target, text, length, lent, memory, sizeof memory, &found, whole, sizeof whole);
     size_t least = found.stack, room = is == FFI3_OK ? found.size : 64;
     for (size_t there = all ? 0 : least; there <= least + 2; there = next(there, least)) {
-        const unsigned char *stack = lend(&stacks, bytes, there, at_end);
+        const unsigned char *stack = lend(&stacks, memory, there, at_end);
         struct ffi3_arguments *told = place_in(&calls, sizeof *told, at_end);
         unsigned char *values = place_in(&arrays, room, at_end);
         uint32_t status = ffi3_arguments(target, text, length, lent, stack, there, told, values, room);
@@ -226,17 +268,135 @@ static void try_arguments(uint32_t target, const char *text, size_t length, int 
         check(status == FFI3_OK ? is == FFI3_OK && told->size == room : is_painted(values, room), "arguments");
         check((status == FFI3_SHORT_STACK) == (told->stack > there), "short stack");
     }
-    const unsigned char *stack = lend(&stacks, bytes, deep, at_end);
-    is = ffi3_arguments(target, text, length, lent, stack, deep, &found, whole, sizeof whole);
+    const unsigned char *stack = lend(&stacks, memory, DEEP, at_end);
+    is = ffi3_arguments(target, text, length, lent, stack, DEEP, &found, whole, sizeof whole);
     size_t wanted = is == FFI3_OK ? found.size : 0;
     add(whole, wanted);
     for (size_t capacity = all ? 0 : wanted; capacity <= wanted + 2; capacity = next(capacity, wanted)) {
         struct ffi3_arguments *told = place_in(&calls, sizeof *told, at_end);
         unsigned char *values = place_in(&arrays, capacity, at_end);
-        uint32_t status = ffi3_arguments(target, text, length, lent, stack, deep, told, values, capacity);
+        uint32_t status = ffi3_arguments(target, text, length, lent, stack, DEEP, told, values, capacity);
         check(status == (is == FFI3_OK && capacity < wanted ? FFI3_TOO_SMALL : is) && told->size == found.size
                   && told->stack == found.stack && told->address == found.address, "arguments with less room");
         check_array(values, whole, 1, wanted, capacity, "values");
+    }
+}
+
+// What declares the function of a call: a text, or nodes.
+struct function {
+    int has_text;
+    const char *text;
+    const struct ffi3_node *nodes;
+    size_t length; // of either
+    uint32_t fixed;
+};
+
+static uint32_t each_of(const struct function *of, uint32_t target, const struct ffi3_registers *lent,
+                        const unsigned char *stack, size_t there, struct ffi3_arguments *told,
+                        struct ffi3_argument *each, size_t most, unsigned char *values, size_t capacity)
+{
+    return of->has_text ? ffi3_arguments_each(target, of->text, of->length, lent, stack, there, told, each, most,
+                                              values, capacity)
+                        : ffi3_arguments_nodes(target, of->nodes, of->length, of->fixed, lent, stack, there, told,
+                                               each, most, values, capacity);
+}
+
+static uint32_t result_of(const struct function *of, uint32_t target, const struct ffi3_registers *lent,
+                          const unsigned char *stack, size_t there, struct ffi3_result *told, unsigned char *value,
+                          size_t capacity)
+{
+    return of->has_text ? ffi3_result(target, of->text, of->length, lent, stack, there, told, value, capacity)
+                        : ffi3_result_nodes(target, of->nodes, of->length, of->fixed, lent, stack, there, told, value,
+                                            capacity);
+}
+
+// Each argument of its own, with so many elements and so many bytes for values, beside what came with much room.
+static void try_rooms(const struct function *of, uint32_t target, const struct ffi3_registers *lent,
+                      const unsigned char *stack, size_t most, size_t capacity, int at_end)
+{
+    static struct ffi3_argument whole[ALL];
+    static unsigned char bytes_of_all[MUCH];
+    static struct ffi3_arguments found;
+    uint32_t is = each_of(of, target, lent, stack, DEEP, &found, whole, ALL, bytes_of_all, sizeof bytes_of_all);
+    size_t count = is == FFI3_OK ? found.arguments : 0, size = is == FFI3_OK ? found.size : 0;
+    struct ffi3_arguments *told = place_in(&calls, sizeof *told, at_end);
+    struct ffi3_argument *each = place_in(&rows, most * sizeof *each, at_end);
+    unsigned char *values = place_in(&arrays, capacity, at_end);
+    uint32_t status = each_of(of, target, lent, stack, DEEP, told, each, most, values, capacity);
+    check(status == (most < count || capacity < size ? FFI3_TOO_SMALL : is) && !memcmp(told, &found, sizeof found),
+          "each argument with less room");
+    check_array(each, whole, sizeof *each, count, most, "what is told of each argument");
+    check_array(values, bytes_of_all, 1, size, capacity, "values of each argument");
+}
+
+static void try_each(const struct function *of, uint32_t target, int all, int at_end)
+{
+    static struct ffi3_argument whole[ALL];
+    static unsigned char values_of_all[MUCH];
+    static struct ffi3_arguments found;
+    draw_machine();
+    const struct ffi3_registers *lent = lend(&registers, &machine, sizeof machine, at_end);
+    uint32_t is = each_of(of, target, lent, memory, sizeof memory, &found, whole, ALL, values_of_all,
+                          sizeof values_of_all);
+    size_t least = found.stack, count = found.arguments, size = found.size;
+    add_found(is, &found);
+    if (is == FFI3_OK) {
+        add(whole, count * sizeof *whole);
+        add(values_of_all, size);
+    }
+    for (size_t there = all ? 0 : least; there <= least + 2 && there <= sizeof memory; there = next(there, least)) {
+        const unsigned char *stack = lend(&stacks, memory, there, at_end);
+        struct ffi3_arguments *told = place_in(&calls, sizeof *told, at_end);
+        struct ffi3_argument *each = place_in(&rows, count * sizeof *each, at_end);
+        unsigned char *values = place_in(&arrays, size, at_end);
+        uint32_t status = each_of(of, target, lent, stack, there, told, each, count, values, size);
+        check(status == (is == FFI3_OK && there < least ? FFI3_SHORT_STACK : is) && told->stack == least,
+              "each argument");
+        for (size_t i = 0; i < count; i++) {
+            uint64_t from = status == FFI3_OK ? each[i].address - machine.sp : 0;
+            int is_right = status != FFI3_OK ? is_painted((unsigned char *)&each[i], sizeof *each)
+                           : each[i].status == FFI3_OK ? !each[i].address
+                           : each[i].status == FFI3_NOT_IN_STACK && (from > there || there - from < each[i].size);
+            check(is_right && (status != FFI3_OK || (each[i].offset == whole[i].offset && !each[i].reserved)),
+                  "an argument by itself");
+        }
+        check(status == FFI3_OK || is_painted(values, size), "values that are not told");
+    }
+    const unsigned char *stack = lend(&stacks, memory, DEEP, at_end);
+    for (size_t most = all ? 0 : count; most <= count + 1; most++)
+        try_rooms(of, target, lent, stack, most, size, at_end);
+    for (size_t capacity = all ? 0 : size; capacity <= size + 2; capacity = next(capacity, size))
+        try_rooms(of, target, lent, stack, capacity % 2 ? count : 0, capacity, at_end);
+}
+
+static void try_result(const struct function *of, uint32_t target, int all, int at_end)
+{
+    static unsigned char whole[MUCH];
+    static struct ffi3_result found;
+    draw_machine();
+    const struct ffi3_registers *lent = lend(&registers, &machine, sizeof machine, at_end);
+    const unsigned char *stack = lend(&stacks, memory, DEEP, at_end);
+    uint32_t is = result_of(of, target, lent, stack, DEEP, &found, whole, sizeof whole);
+    size_t wanted = is == FFI3_OK ? found.size : 0;
+    add(&is, sizeof is);
+    add(&found, sizeof found);
+    add(whole, wanted);
+    for (size_t capacity = all ? 0 : wanted; capacity <= wanted + 2; capacity = next(capacity, wanted)) {
+        struct ffi3_result *told = place_in(&calls, sizeof *told, at_end);
+        unsigned char *value = place_in(&arrays, capacity, at_end);
+        uint32_t status = result_of(of, target, lent, stack, DEEP, told, value, capacity);
+        check(status == (capacity < wanted ? FFI3_TOO_SMALL : is) && !memcmp(told, &found, sizeof found),
+              "a result with less room");
+        check_array(value, whole, 1, wanted, capacity, "a result");
+    }
+    for (size_t there = 0; there < DEEP; there += all ? 511 : DEEP) {
+        const unsigned char *less = lend(&stacks, memory, there, at_end);
+        struct ffi3_result *told = place_in(&calls, sizeof *told, at_end);
+        unsigned char *value = place_in(&arrays, wanted, at_end);
+        uint32_t status = result_of(of, target, lent, less, there, told, value, wanted);
+        check((status == is || (is == FFI3_OK && status == FFI3_NOT_IN_STACK)) && told->size == found.size,
+              "a result with less stack");
+        check_array(value, whole, 1, status == FFI3_OK ? wanted : wanted + 1, wanted, "a result with less stack");
     }
 }
 
@@ -247,6 +407,9 @@ static void try_text(const char *from, size_t length, int all)
         for (uint32_t target = FFI3_AMD64; target <= FFI3_APPLE + 1; target++) {
             try_place(target, text, length, all, at_end);
             try_arguments(target, text, length, all, at_end);
+            const struct function of = {1, text, NULL, length, 0};
+            try_each(&of, target, all, at_end);
+            try_result(&of, target, all, at_end);
         }
         size_t arguments = try_layout(text, length, FFI3_RESULT, all, at_end);
         for (uint32_t value = 0; value <= arguments; value++)
@@ -384,8 +547,12 @@ static void try_nodes(const struct ffi3_node *from, size_t count, uint32_t fixed
 {
     for (int at_end = 0; at_end < 2; at_end++) {
         const struct ffi3_node *nodes = lend(&texts, from, count * sizeof *from, at_end);
-        for (uint32_t target = FFI3_AMD64; target <= FFI3_APPLE + 1; target++)
+        for (uint32_t target = FFI3_AMD64; target <= FFI3_APPLE + 1; target++) {
             try_place_nodes(target, nodes, count, fixed, all, at_end);
+            const struct function of = {0, NULL, nodes, count, fixed};
+            try_each(&of, target, all, at_end);
+            try_result(&of, target, all, at_end);
+        }
         for (size_t at = 0; at < count; at++)
             try_type(nodes + at, count - at, all, at_end);
         for (uint32_t target = FFI3_AMD64; target <= FFI3_APPLE + 1; target++) {
@@ -456,6 +623,7 @@ int main(int count, char **words)
         return 2;
     texts = make_room(sizeof line);
     calls = make_room(4096);
+    rows = make_room(ALL * sizeof(struct ffi3_argument));
     arrays = make_room(MUCH);
     registers = make_room(4096);
     stacks = make_room(1 << 16);

@@ -34,6 +34,8 @@ struct work {
     struct ffi3_type type;
     size_t offsets[2];
     struct ffi3_arguments found;
+    struct ffi3_argument each[ARGUMENTS];
+    struct ffi3_result back;
     struct ffi3_piece pieces[PIECES];
     struct ffi3_leaf leaves[LEAVES];
     unsigned char values[VALUES];
@@ -75,6 +77,25 @@ static void add(struct work *work, const void *from, size_t size)
         work->answers = (work->answers ^ bytes[i]) * UINT64_C(1099511628211);
 }
 
+// What was told of each argument, and the values.
+static void add_each(struct work *work, uint32_t status)
+{
+    add(work, &status, sizeof status);
+    add(work, &work->found, sizeof work->found);
+    if (status == FFI3_OK) {
+        add(work, work->each, work->found.arguments * sizeof *work->each);
+        add(work, work->values, work->found.size);
+    }
+}
+
+static void add_result(struct work *work, uint32_t status)
+{
+    add(work, &status, sizeof status);
+    add(work, &work->back, sizeof work->back);
+    if (status == FFI3_OK)
+        add(work, work->values, work->back.size);
+}
+
 static void ask(struct work *work, const char *text, size_t length, uint32_t target)
 {
     uint32_t told[] = {
@@ -94,6 +115,12 @@ static void ask(struct work *work, const char *text, size_t length, uint32_t tar
         char words[64];
         add(work, words, ffi3_fault_text(&work->call.fault, words, sizeof words));
     }
+    uint32_t each = ffi3_arguments_each(target, text, length, &work->held, work->bytes, sizeof work->bytes,
+                                        &work->found, work->each, ARGUMENTS, work->values, VALUES);
+    add_each(work, each);
+    uint32_t result = ffi3_result(target, text, length, &work->held, work->bytes, sizeof work->bytes, &work->back,
+                                  work->values, VALUES);
+    add_result(work, result);
 }
 
 static void make_nodes(void)
@@ -124,6 +151,21 @@ static void ask_of_nodes(struct work *work, uint32_t target)
             abort();
     add(work, &work->call, sizeof work->call);
     add(work, work->pieces, work->call.pieces * sizeof *work->pieces);
+    // All addresses are that of the first byte of the stack, but one that points past it.
+    memset(work->frame, 0x10, sizeof work->frame);
+    for (int far = 0; far < 2; far++) {
+        struct ffi3_registers held = work->held;
+        held.general[target == FFI3_RISCV ? 12 : 1] += far ? FRAME : 0;
+        uint32_t each = ffi3_arguments_nodes(target, nodes, all, FFI3_NOT_VARIADIC, &held, work->frame, FRAME,
+                                             &work->found, work->each, ARGUMENTS, work->values, VALUES);
+        uint32_t result = ffi3_result_nodes(target, nodes, all, FFI3_NOT_VARIADIC, &held, work->frame, FRAME,
+                                            &work->back, work->values, VALUES);
+        int is_given_back = target == FFI3_AMD64 || target == FFI3_WIN64;
+        if (each != FFI3_OK || result != (is_given_back ? FFI3_OK : FFI3_NO_ADDRESS))
+            abort();
+        add_each(work, each);
+        add_result(work, result);
+    }
 }
 
 // Values by an interface that is prepared and shared: those that are stored are collected, and a result is loaded.

@@ -33,12 +33,13 @@ which stands at OFFSET of the caller's frame. `buffer` is the address of where t
   python3 -m ffi3 header zlib.h --target riscv --function crc32
   python3 -m ffi3 header SDL.h -I /usr/include/SDL2 -D SDL_DISABLE_IMMINTRIN_H --json
   python3 -m ffi3 header w.h --cc "clang --target=x86_64-pc-windows-msvc"     as Windows' compilers have long, wchar_t
-  python3 -m ffi3 header w.h --cc "clang --target=arm64-apple-macos"          for apple
+  python3 -m ffi3 header w.h --target amd64 --target apple
 
 The compiler of each target preprocesses and is asked for sizes, signs and offsets: gcc, aarch64-linux-gnu-gcc,
-riscv64-linux-gnu-gcc, x86_64-w64-mingw32-gcc; for apple --cc names one. What is not read is listed with its reason, and
-nothing is guessed. Headers are those of C, not of C++. Functions of what a header includes are told where it is a part
-of the header's own folder, as SDL_render.h is of SDL.h; --all tells all.
+riscv64-linux-gnu-gcc, x86_64-w64-mingw32-gcc; for apple clang, which has headers of its own, as stdint.h, and no others
+of a Mac: --cc "clang --target=arm64-apple-macos -isysroot SDK" reads with those. What is not read is listed with its
+reason, and nothing is guessed. Headers are those of C, not of C++. Functions of what a header includes are told where
+it is a part of the header's own folder, as SDL_render.h is of SDL.h; --all tells all.
 
 --json has `version`, 1; `headers`; of each target its compiler; and of each function `name`, `declaration`, `file`,
 `line`, `parameters`, `variadic` and `targets`. Of a target that is either `reason`, or `result` and `arguments` in

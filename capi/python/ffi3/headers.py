@@ -18,10 +18,12 @@ import shlex
 import shutil
 import subprocess
 import tempfile
-from collections.abc import Callable, Iterable, Iterator, Mapping, Sequence
+from collections.abc import Callable, Collection, Iterable, Iterator, Mapping, Sequence
 from dataclasses import dataclass, field
+from functools import lru_cache
 from itertools import chain
 from pathlib import Path
+from typing import NamedTuple
 
 from pycparser import c_ast, c_generator, c_parser
 
@@ -30,6 +32,8 @@ from .library import Call, Node
 
 COMPILERS = {"amd64": "gcc", "aapcs64": "aarch64-linux-gnu-gcc", "riscv": "riscv64-linux-gnu-gcc",
              "win64": "x86_64-w64-mingw32-gcc"}
+# gcc makes no code for Apple's systems; clang does, and has a few headers of its own, as stdint.h.
+APPLE = "clang --target=arm64-apple-macos -nostdlibinc"
 # What a compiler defines on each target.
 TARGET_OF = {("__x86_64__", "_WIN32"): "win64", ("__x86_64__",): "amd64", ("__aarch64__", "__APPLE__"): "apple",
              ("__aarch64__",): "aapcs64", ("__riscv", "__LP64__"): "riscv"}
@@ -144,35 +148,154 @@ def chunks(text: str) -> Iterator[Chunk]:
             chunk = None
 
 
-def parsed(found: Sequence[Chunk]) -> tuple[list[tuple[Chunk, c_ast.Node]], list[Chunk]]:
-    """The declarations that pycparser finds, each with its chunk, and the chunks that it cannot parse."""
-    parser, typedefs, declared, left_out = c_parser.CParser(), set(), [], []
-    for start in range(0, len(found), AT_ONCE):
-        here, unparsed = parsed_at_once(parser, found[start:start + AT_ONCE], typedefs)
-        typedefs |= {node.name for _, node in here if isinstance(node, c_ast.Typedef)}
-        declared += here
-        left_out += unparsed
-    return declared, left_out
+# ---- what pycparser finds
+
+Tell = Callable[[str], None]  # is told what is done, for who waits
 
 
-def parsed_at_once(parser: c_parser.CParser, found: Sequence[Chunk],
-                   typedefs: set[str]) -> tuple[list[tuple[Chunk, c_ast.Node]], list[Chunk]]:
-    """The same of some chunks, in front of which these names are those of types. What it cannot parse is left out, and
-    the others are given to it again."""
-    left_out = set()
+@dataclass
+class Parsed:
+    """The declarations in a text, each with its chunk, the nodes that may define types, and the chunks that pycparser
+    cannot parse."""
+
+    declared: list[tuple[Chunk, c_ast.Node]]
+    defining: list[c_ast.Node]
+    left_out: list[Chunk]
+
+
+def parsed(found: Sequence[Chunk], tell: Tell = lambda _: None) -> Parsed:
+    """What pycparser finds. Plain prototypes are put together from results and parameters, each parsed once, for in a
+    large header most are alike; all else is parsed as it stands."""
+    parser, nodes = c_parser.CParser(), {}
+    typedefs: dict[str, int] = {}  # each with the number of the chunk that defines it
+    plain = {i: plain_of(chunk.words) for i, chunk in enumerate(found) if chunk.is_function()}
+    plain = {i: prototype for i, prototype in plain.items() if prototype}
+    rest = [i for i in range(len(found)) if i not in plain]
+    for start in range(0, len(rest), AT_ONCE):
+        tell(f"{start} of {len(rest)} declarations are parsed")
+        here = rest[start:start + AT_ONCE]
+        for i, made in zip(here, parsed_lines(parser, [found[i].words for i in here], typedefs)):
+            nodes[i] = made
+            for node in made or ():
+                if isinstance(node, c_ast.Typedef):
+                    typedefs.setdefault(node.name, i)
+    defining = [node for i in rest for node in nodes[i] or ()]
+    tell(f"{len(plain)} prototypes are parsed")
+    # What has a name that is a type's further down is parsed by what stands before it.
+    at_once = {i: each for i, each in plain.items() if each.name not in typedefs
+               and all(typedefs.get(word, i) <= i for word in found[i].words)}
+    nodes.update(zip(at_once, parsed_prototypes(parser, list(at_once.values()), typedefs)))
+    for i in plain:
+        if nodes.get(i) is None:
+            before = {name: at for name, at in typedefs.items() if at < i}
+            [nodes[i]] = parsed_lines(parser, [found[i].words], before)
+    numbers = range(len(found))
+    return Parsed([(found[i], node) for i in numbers for node in nodes[i] or ()], defining,
+                  [found[i] for i in numbers if nodes[i] is None])
+
+
+def parsed_lines(parser: c_parser.CParser, lines: Sequence[Sequence[str]],
+                 typedefs: Collection[str]) -> list[list[c_ast.Node] | None]:
+    """What pycparser finds in each of some declarations, in front of which these names are those of types. What it
+    cannot parse is left out, with nothing, and the others are given to it again."""
+    left_out: set[int] = set()
     while True:
-        kept = [[] if i in left_out else chunk.words for i, chunk in enumerate(found)]
-        known = sorted(typedefs.intersection(chain.from_iterable(kept)))
-        lines = [" ".join([BUILT_IN, *(f"typedef int {name};" for name in known)]), *map(" ".join, kept)]
+        kept = [() if i in left_out else words for i, words in enumerate(lines)]
+        known = sorted({word for words in kept for word in words if word in typedefs})
+        text = [" ".join([BUILT_IN, *(f"typedef int {name};" for name in known)]), *map(" ".join, kept)]
         try:
-            tree = parser.parse("\n".join(lines))
-            declared = [(found[node.coord.line - 2], node) for node in tree.ext if node.coord.line > 1]
-            return declared, [found[i] for i in sorted(left_out)]
+            tree = parser.parse("\n".join(text))
         except c_parser.ParseError as error:
             number = int(re.match(r":?(\d+)", str(error))[1]) - 2
             if number in left_out or number < 0:
                 raise Failed(f"pycparser: {error}") from None
             left_out.add(number)
+            continue
+        found = [None if i in left_out else [] for i in range(len(lines))]
+        for node in tree.ext:
+            if node.coord.line > 1:
+                found[node.coord.line - 2].append(node)
+        return found
+
+
+class Plain(NamedTuple):
+    """A prototype that is a result's words, a name, and in brackets each parameter's words."""
+
+    result: tuple[str, ...]
+    name: str
+    parameters: tuple[tuple[str, ...], ...]
+
+
+ONE = "__ffi3_one"  # the name of what is parsed in its place
+DOTS = ("...",)
+TAGGED = {"struct", "union", "enum"}
+NO_NAMES = {"void", "char", "short", "int", "long", "float", "double", "signed", "unsigned", "_Bool", "_Complex"}
+
+
+def plain_of(words: Sequence[str]) -> Plain | None:
+    """A chunk's words as a plain prototype; nothing where they are none."""
+    opened = words.index("(")
+    result, name = words[:opened - 1], words[opened - 1]
+    if not result or name in NO_NAMES or words[-2:] != [")", ";"] or "typedef" in result:
+        return None
+    if result[-1] in TAGGED or not all(word == "*" or word.isidentifier() for word in (*result, name)):
+        return None
+    parameters, depth = [[]], 0
+    for word in words[opened + 1:-2]:
+        depth += (word in OPEN) - (word in CLOSE)
+        if depth < 0:
+            return None
+        if word == "," and depth == 0:
+            parameters.append([])
+        else:
+            parameters[-1].append(word)
+    listed = tuple(map(tuple, parameters))
+    return Plain(tuple(result), name, listed) if all(listed) and DOTS not in (listed[0], *listed[:-1]) else None
+
+
+def parsed_prototypes(parser: c_parser.CParser, plain: Sequence[Plain],
+                      typedefs: Collection[str]) -> list[list[c_ast.Node] | None]:
+    """The declaration that each of these is; nothing where pycparser cannot parse it so."""
+    results = list(dict.fromkeys(each.result for each in plain))
+    parameters = list(dict.fromkeys(one for each in plain for one in each.parameters if one != DOTS))
+    lines = [[*words, ONE, "(", "void", ")", ";"] for words in results]
+    lines += [["void", ONE, "(", *words, ")", ";"] for words in parameters]
+    made = [nodes for start in range(0, len(lines), AT_ONCE)
+            for nodes in parsed_lines(parser, lines[start:start + AT_ONCE], typedefs)]
+    by_result = dict(zip(results, made))
+    by_parameter = {words: parameter_of(nodes) for words, nodes in zip(parameters, made[len(results):])}
+    by_parameter[DOTS] = c_ast.EllipsisParam()
+    found: list[list[c_ast.Node] | None] = []
+    for each in plain:
+        result, listed = by_result[each.result], [by_parameter[words] for words in each.parameters]
+        is_made = result and len(result) == 1 and None not in listed
+        found.append([put_together(result[0], each.name, listed)] if is_made else None)
+    return found
+
+
+def parameter_of(nodes: list[c_ast.Node] | None) -> c_ast.Node | None:
+    """The one parameter of the function that was parsed; nothing where it is a name without a type."""
+    if nodes is None or len(nodes) != 1 or not isinstance(nodes[0].type, c_ast.FuncDecl):
+        return None
+    listed = nodes[0].type.args.params
+    return listed[0] if len(listed) == 1 and isinstance(listed[0], (c_ast.Decl, c_ast.Typename)) else None
+
+
+def put_together(like: c_ast.Decl, name: str, parameters: list[c_ast.Node]) -> c_ast.Decl:
+    """A function's declaration, with the result of another."""
+    found = copy.copy(like)
+    found.name, found.type = name, c_ast.FuncDecl(c_ast.ParamList(parameters), named(like.type.type, name))
+    return found
+
+
+def named(node: c_ast.Node, name: str) -> c_ast.Node:
+    """A declarator, with another name."""
+    found = copy.copy(node)
+    if isinstance(node, c_ast.TypeDecl):
+        found.declname = name
+    else:
+        found.type = named(node.type, name)
+    return found
 
 
 # ---- types: each knows what to ask the compiler, by an expression of this type, and its nodes by the answers
@@ -338,6 +461,7 @@ class Definitions(c_ast.NodeVisitor):
         self.typedefs: dict[str, c_ast.Node] = {}
         self.tags: dict[str, c_ast.Node] = {}
         self.transparent = transparent
+        self.known: dict[tuple[c_ast.Node, bool], Kind | str] = {}
         for node in nodes:
             self.visit(node)
 
@@ -409,8 +533,20 @@ class Definitions(c_ast.NodeVisitor):
         return Integer(value)
 
     def parameter(self, node: c_ast.Node, is_plain: bool) -> Kind:
-        """The type of a parameter: an array and a function are pointers (C11 6.7.6.3), and a union that an attribute
-        makes transparent is passed as its first member."""
+        """The type of a parameter, which many functions may share."""
+        if (node, is_plain) not in self.known:
+            try:
+                self.known[node, is_plain] = self.read_parameter(node, is_plain)
+            except Refused as refused:
+                self.known[node, is_plain] = str(refused)
+        found = self.known[node, is_plain]
+        if isinstance(found, str):
+            raise Refused(found)
+        return found
+
+    def read_parameter(self, node: c_ast.Node, is_plain: bool) -> Kind:
+        """The same: an array and a function are pointers (C11 6.7.6.3), and a union that an attribute makes transparent
+        is passed as its first member."""
         meant = self.behind(node)
         if isinstance(meant, (c_ast.ArrayDecl, c_ast.FuncDecl)):
             return Pointer("")
@@ -443,12 +579,27 @@ def spelled(node: c_ast.Node, is_plain: bool = False) -> str:
         return f"{type(kind).__name__.lower()} {kind.name}"
     if not is_plain:
         raise Refused("a struct or an enum without a tag")
-    return " ".join(c_generator.CGenerator().visit(kind).split())
+    return written(kind)
 
 
 def value_of(node: c_ast.Node, is_plain: bool) -> str:
     """An expression of the type of a parameter or result; none for a pointer, which is asked nothing."""
     return "" if isinstance(node, c_ast.PtrDecl) else f"(*({spelled(node, is_plain)} *)0)"
+
+
+def is_flat(node: c_ast.Node) -> bool:
+    """Whether a declarator is a name, perhaps behind stars."""
+    while isinstance(node, c_ast.PtrDecl):
+        node = node.type
+    return isinstance(node, c_ast.TypeDecl)
+
+
+def written(node: c_ast.Node) -> str:
+    """A node in C, on one line."""
+    return " ".join(c_generator.CGenerator().visit(node).split())
+
+
+written_once = lru_cache(maxsize=1 << 12)(written)  # of parameters, which many functions may share
 
 
 # ---- functions
@@ -480,7 +631,11 @@ class Function:
             return " ".join(self.chunk.words).rstrip(" ;")
         plain = copy.copy(self.node)
         plain.storage, plain.funcspec, plain.init = [], [], None
-        return " ".join(c_generator.CGenerator().visit(plain).split())
+        if not isinstance(plain.type, c_ast.FuncDecl) or not plain.type.args or not is_flat(plain.type.type):
+            return written(plain)
+        listed = ", ".join(map(written_once, plain.type.args.params))
+        plain.type = c_ast.FuncDecl(None, plain.type.type)
+        return f"{written(plain).removesuffix(')')}{listed})"
 
     @property
     def fixed(self) -> int | None:
@@ -517,11 +672,10 @@ class Function:
         except Refused as refused:
             self.reason = str(refused)
 
-    def tell(self, answers: Answers) -> None:
-        """Finds the nodes by the compiler's answers, or the reason; the library is asked whether it places them."""
+    def tell(self, nodes_of: Callable[[Kind], tuple[Node, ...]]) -> None:
+        """Finds the nodes, or the reason; the library is asked whether it places them."""
         try:
-            result = self.result.nodes(answers) if self.result else ("void",)
-            self.nodes = (result, *(kind.nodes(answers) for kind in self.arguments))
+            self.nodes = (nodes_of(self.result) if self.result else ("void",), *map(nodes_of, self.arguments))
             self.place()
         except Refused as refused:
             self.reason = str(refused)
@@ -566,19 +720,16 @@ def compiler_for(target: str | None = None, cc: str | None = None, folders: Iter
     """The compiler of a target, or the one that is named, with folders of headers and macros.
 
     Without a target it is that of the compiler's code. Where a target's compiler is not found gcc is taken, and the
-    note says so. Raises Failed where the compiler does not start, or makes code for no target, and where a target has
-    none here."""
-    if not cc and target and target not in COMPILERS:
-        raise Failed(f"{target} has no compiler here: one is named with --cc")
-    words, note = shlex.split(cc or COMPILERS[target or "amd64"]), ""
-    if not cc and not shutil.which(words[0]):
+    note says so; for apple none is. Raises Failed where the compiler does not start, or makes code for no target."""
+    words, note = shlex.split(cc or {**COMPILERS, "apple": APPLE}[target or "amd64"]), ""
+    if not cc and target != "apple" and not shutil.which(words[0]):
         note = f"{words[0]} is not found: on {target} char, long, wchar_t and va_list are as gcc has them here"
         words = ["gcc"]
     target = target or target_of(words)
     # What a cross compiler has no headers for is taken from the host's, behind its own.
     behind = ["-idirafter", "/usr/include", "-idirafter", "/usr/include/x86_64-linux-gnu"]
     words += [*(f"-I{folder}" for folder in folders), *(f"-D{name}" for name in defined),
-              *behind * (not cc and target != "amd64")]
+              *behind * (not cc and target not in ("amd64", "apple"))]
     return Compiler(target, tuple(words), note)
 
 
@@ -662,44 +813,56 @@ def names_function(chunk: Chunk, name: str) -> bool:
     return any(word == name and behind in ("(", ")") for word, behind in zip(chunk.words, chunk.words[1:]))
 
 
-def functions_of(compiler: Compiler, text: str, is_wanted: Wanted) -> list[Function]:
+def functions_of(compiler: Compiler, text: str, is_wanted: Wanted, tell: Tell = lambda _: None) -> list[Function]:
     """The functions that a preprocessed text declares in the chunks that are wanted."""
     found = [chunk for chunk in chunks(text) if not chunk.is_function() or is_wanted(chunk)]
-    declared, left_out = parsed(found)
+    made = parsed(found, tell)
     transparent = {chunk.words[-2] for chunk in found if TRANSPARENT & set(chunk.raw)}
-    definitions = Definitions([node for _, node in declared], transparent)
+    definitions = Definitions(made.defining, transparent)
     functions: dict[str, Function] = {}
-    for chunk, node in declared:
+    for chunk, node in made.declared:
         is_function = type(node) is c_ast.Decl and isinstance(definitions.behind(node.type), c_ast.FuncDecl)
         if is_function and is_wanted(chunk):
             functions.setdefault(node.name, Function(node.name, compiler.target, chunk, node))
     has_pragma = PRAGMA.search(text) is not None
     for function in functions.values():
         function.understand(definitions, has_pragma)
-    for chunk in left_out:
+    for chunk in made.left_out:
         if chunk.is_function():
             name = chunk.words[chunk.words.index("(") - 1]
             functions.setdefault(name, Function(name, compiler.target, chunk, reason="pycparser does not parse it"))
     understood = [function for function in functions.values() if function.is_read]
-    answers = answers_of(compiler, text, (question for function in understood for kind in function.types()
-                                          for question in kind.questions()))
-    for function in understood:
-        function.tell(answers)
+    kinds = {id(kind): kind for function in understood for kind in function.types()}
+    tell("the compiler is asked for sizes")
+    answers = answers_of(compiler, text, (question for kind in kinds.values() for question in kind.questions()))
+    nodes: dict[int, tuple[Node, ...]] = {}
+
+    def nodes_of(kind: Kind) -> tuple[Node, ...]:
+        if id(kind) not in nodes:
+            nodes[id(kind)] = kind.nodes(answers)
+        return nodes[id(kind)]
+
+    for i, function in enumerate(understood):
+        if i % AT_ONCE == 0:
+            tell(f"{i} of {len(understood)} functions are placed")
+        function.tell(nodes_of)
     return list(functions.values())
 
 
 def read(headers: str | Sequence[str], target: str | None = None, *, compiler: Compiler | None = None,
-         names: Iterable[str] = (), is_wanted: Wanted | None = None) -> list[Function]:
+         names: Iterable[str] = (), is_wanted: Wanted | None = None, tell: Tell = lambda _: None) -> list[Function]:
     """The functions that headers declare, those of these names if any are given, as a target's compiler has them.
 
-    What headers include is left out, unless is_wanted takes it. Raises Failed where the compiler reads nothing."""
+    What headers include is left out, unless is_wanted takes it. tell is told of what is done. Raises Failed where the
+    compiler reads nothing."""
     listed = [headers] if isinstance(headers, str) else list(headers)
     compiler, names = compiler or compiler_for(target), set(names)
+    tell("the compiler preprocesses")
     text = preprocessed(compiler, listed)
     if names:
-        found = functions_of(compiler, text, lambda chunk: not names.isdisjoint(chunk.words))
+        found = functions_of(compiler, text, lambda chunk: not names.isdisjoint(chunk.words), tell)
         return [each for each in found if each.name in names]
-    return functions_of(compiler, text, is_wanted or of_headers(text, listed))
+    return functions_of(compiler, text, is_wanted or of_headers(text, listed), tell)
 
 
 # ---- a header on several targets
@@ -730,11 +893,13 @@ class Entry:
 
 
 def survey(headers: str | Sequence[str], compilers: Iterable[Compiler], names: Iterable[str] = (),
-           is_wanted: Wanted | None = None, tell: Callable[[str], None] = lambda _: None) -> list[Entry]:
-    """The functions of headers as each of these compilers has them; tell is told of each target that is begun."""
+           is_wanted: Wanted | None = None, tell: Tell = lambda _: None) -> list[Entry]:
+    """The functions of headers as each of these compilers has them; tell is told of what is done."""
     found: dict[str, dict[str, Function]] = {}
     for compiler in compilers:
-        tell(f"reads as {compiler.target}'s compiler does")
-        for function in read(headers, compiler=compiler, names=names, is_wanted=is_wanted):
+        def tell_on(words: str, target: str = compiler.target) -> None:
+            tell(f"{target}: {words}")
+
+        for function in read(headers, compiler=compiler, names=names, is_wanted=is_wanted, tell=tell_on):
             found.setdefault(function.name, {})[compiler.target] = function
     return [Entry(name, by_target) for name, by_target in found.items()]

@@ -11,6 +11,7 @@ import ctypes.util
 import os
 import struct
 from collections.abc import Iterable, Mapping, Sequence
+from functools import lru_cache
 from operator import index
 from pathlib import Path
 from typing import NamedTuple, NoReturn, Union
@@ -39,6 +40,7 @@ _KINDS = ("uint8", "sint8", "uint16", "sint16", "uint32", "sint32", "uint64", "s
 _SIZES = dict(zip(_KINDS, (1, 1, 2, 2, 4, 4, 8, 8, 16, 16, 4, 8, 8)))
 _NODE_KINDS = (*_KINDS, "void", "complex float", "complex double", "long double", "complex long double", "vector",
                "struct", "array")
+_NUMBER_OF_KIND = {name: number for number, name in enumerate(_NODE_KINDS)}
 MOVES = ("store", "load", "collect", "give", "hidden")
 _MOVE_KINDS = ("bytes", "zero", "sign", "ones", "number", "address", "behind")
 _NOWHERE = 0xFFFFFFFFFFFFFFFF
@@ -358,6 +360,7 @@ def _filled(item, call):
         capacity = count
 
 
+@lru_cache(maxsize=512)
 def _register(target: int, place: int, number: int) -> str:
     name = ctypes.create_string_buffer(8)
     _library.ffi3_register_name(target, place, number, name, len(name))
@@ -393,17 +396,29 @@ def place(target: str, declaration: str | bytes) -> Call:
     return _placed(target, lambda number, *into: _library.ffi3_place(number, text, len(text), *into))
 
 
-def _nodes_of(nodes: Iterable[Node]):
-    """An array of nodes, and how many they are."""
+_Pairs = tuple[tuple[int, int], ...]  # of nodes their kinds and counts, as C has them
+
+
+def _pairs_of(nodes: Iterable[Node]) -> _Pairs:
     pairs = [(each, 0) if isinstance(each, (str, int)) else each for each in nodes]
-    made = [_Node(_kind(kind), _number(count, _MOST_32)) for kind, count in pairs]
-    return (_Node * len(made))(*made), len(made)
+    return tuple([(_kind(kind), _number(count, _MOST_32)) for kind, count in pairs])
+
+
+def _array_of(pairs: _Pairs):
+    """An array of nodes, and how many they are."""
+    return (_Node * len(pairs))(*pairs), len(pairs)
+
+
+def _nodes_of(nodes: Iterable[Node]):
+    return _array_of(_pairs_of(nodes))
 
 
 def _kind(kind: str | int) -> int:
-    if isinstance(kind, str) and kind not in _NODE_KINDS:
+    if not isinstance(kind, str):
+        return _number(kind, _MOST_32)
+    if kind not in _NUMBER_OF_KIND:
         raise ValueError(f"no kind of node {kind!r}: {', '.join(_NODE_KINDS)}")
-    return _NODE_KINDS.index(kind) if isinstance(kind, str) else _number(kind, _MOST_32)
+    return _NUMBER_OF_KIND[kind]
 
 
 def place_nodes(target: str, nodes: Iterable[Node], fixed: int | None = None) -> Call:
@@ -413,8 +428,14 @@ def place_nodes(target: str, nodes: Iterable[Node], fixed: int | None = None) ->
     variadic function fixed says how many arguments are named. Raises as place does, and ValueError where a kind has no
     such name; the offset of an Error then says behind how many nodes the fault is.
     """
-    array, count = _nodes_of(nodes)
-    return _placed(target, lambda number, *into: _library.ffi3_place_nodes(number, array, count, _named(fixed), *into))
+    return _placed_pairs(target, _pairs_of(nodes), _named(fixed))
+
+
+# A header asks the same of many functions, and what has been asked is kept.
+@lru_cache(maxsize=1 << 12)
+def _placed_pairs(target: str, pairs: _Pairs, fixed: int) -> Call:
+    array, count = _array_of(pairs)
+    return _placed(target, lambda number, *into: _library.ffi3_place_nodes(number, array, count, fixed, *into))
 
 
 def _named(fixed: int | None) -> int:
@@ -424,7 +445,12 @@ def _named(fixed: int | None) -> int:
 
 def layout_nodes(nodes: Iterable[Node]) -> Type:
     """The layout of the one type that these nodes are, as place_nodes has them. Raises Error where they are none."""
-    (array, count), told = _nodes_of(nodes), _Type()
+    return _laid_pairs(_pairs_of(nodes))
+
+
+@lru_cache(maxsize=1 << 12)
+def _laid_pairs(pairs: _Pairs) -> Type:
+    (array, count), told = _array_of(pairs), _Type()
 
     def leaves(into, capacity):
         return _library.ffi3_layout_nodes(array, count, ctypes.byref(told), into, capacity), told.leaves

@@ -14,7 +14,7 @@ use Rattle.ffi3_place_rules.specs.declared.Res.TheVariants.{Nothing, Direct, Hid
 use Rattle.ffi3_place_rules.specs.Image.{Image, register}
 use Rattle.ffi3_place_rules.specs.Isa.{to_list}
 use Rattle.ffi3_place_rules.specs.Standard.{Standard, plan_of}
-use Rattle.ffi3_place_rules.specs.Holds.{HoldsResult, OwnsResult, FillsResult, RegisterHolds}
+use Rattle.ffi3_place_rules.specs.Holds.{OwnResult, OwnsResult, RegisterHolds}
 use Rattle.ffi3_place_rules.specs.Sound.{IsSound, LiesIn, ResultHasAll}
 use Rattle.ffi3_explain_rules.specs.Arguments.{is_in_image}
 use Rattle.ffi3_explain_rules.proofs.Pieces.{stood_is_read}
@@ -32,7 +32,7 @@ use Rattle.ffi3_capi.specs.declared.returned.Unfound.TheVariants.{Call, NotInSta
 use Rattle.ffi3_capi.specs.declared.status.Refusal.TheVariants.{NoSuchTarget, NoSuchValue, Fault, NoMemory}
 use Rattle.ffi3_capi.specs.Filled.{has_room, filled, room_status}
 use Rattle.ffi3_capi.specs.Placed.{targets}
-use Rattle.ffi3_capi.specs.Returned.{are_bytes, is_outside, result_behind, result_by, returned_by_standard, IsFound, IsFoundBy, IsNotFound, IsNotFoundBy, ReadsResult, read, unread, result_of, unfound_status, no_result}
+use Rattle.ffi3_capi.specs.Returned.{AddressStands, are_bytes, is_outside, result_behind, result_by, returned_by_standard, IsFound, IsFoundBy, IsNotFound, IsNotFoundBy, ReadsResult, read, unread, result_of, unfound_status, no_result}
 
 -- the place of the result is that of the plan
 pub by_place : (std : Standard) (s : Signature) (m : Image) (r : Res) → r ≡ (plan_of std s).res → result_by std m s.result_type r ≡ returned_by_standard std s m
@@ -84,17 +84,17 @@ held_in_buffer m t None buffer v bytes points stands e = cc
 held_in_buffer m t (Some at) buffer v bytes points stands e =
     held_behind m t at buffer v bytes points stands e
 
-held_at : (std : Standard) (m : Image) (t : Tree) (r : Res) (v : ValueTree) (bytes : List ℕ) → ResultHasAll t r → fits t v ≡ true → OwnsResult m t r v → FillsResult std m t r v → result_by std m t r ≡ are_bytes bytes → value_in t bytes ≡ v
-held_at std m t Nothing v bytes all fit owns fills e =
+held_at : (std : Standard) (m : Image) (t : Tree) (r : Res) (v : ValueTree) (bytes : List ℕ) → ResultHasAll t r → fits t v ≡ true → OwnsResult m t r v → AddressStands std m r → result_by std m t r ≡ are_bytes bytes → value_in t bytes ≡ v
+held_at std m t Nothing v bytes all fit owns points e =
     subst (λ u. value_in u bytes ≡ v) (sym all) (void_fits v bytes (subst (λ u. fits u v ≡ true) all fit))
-held_at std m t (Direct pieces) v bytes all fit owns fills e =
+held_at std m t (Direct pieces) v bytes all fit owns points e =
     ap (value_in t) (sym (same_bytes (first_bytes m 0 pieces 0 (size_of t)) bytes e)) ∙ stood_is_read m 0 t pieces v all fit owns
-held_at std m t (Hidden at buffer) v bytes all fit owns fills e =
-    held_in_buffer m t std.returned_address buffer v bytes fills owns e
+held_at std m t (Hidden at buffer) v bytes all fit owns points e =
+    held_in_buffer m t std.returned_address buffer v bytes points owns e
 
-pub held_is_found : (std : Standard) (s : Signature) (m : Image) (bytes : List ℕ) → IsSound std s → returned_by_standard std s m ≡ are_bytes bytes → (v : ValueTree) → HoldsResult std s v m → value_in s.result_type bytes ≡ v
-held_is_found std s m bytes sound is v holds =
-    held_at std m s.result_type (plan_of std s).res v bytes sound.result_has_all holds.own.fitting holds.own.stands holds.filled is
+pub held_is_found : (std : Standard) (s : Signature) (m : Image) (bytes : List ℕ) → IsSound std s → returned_by_standard std s m ≡ are_bytes bytes → (v : ValueTree) → OwnResult std s v m → AddressStands std m (plan_of std s).res → value_in s.result_type bytes ≡ v
+held_is_found std s m bytes sound is v owns points =
+    held_at std m s.result_type (plan_of std s).res v bytes sound.result_has_all owns.fitting owns.stands points is
 
 -- what is found by an interface of the signature
 pub found_by : (std : Standard) (cif s : Signature) (m : Image) (f : FoundResult) → cif ≡ s → IsSound std s → returned_by_standard std cif m ≡ are_bytes f.bytes → length f.bytes ≡ size_of cif.result_type → f.told ≡ result_of (length f.bytes) 0 (fault_with NoFault) → IsFoundBy std s m f

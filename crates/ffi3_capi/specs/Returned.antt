@@ -1,5 +1,5 @@
 -- What C is told of the result that registers and memory have where a function has returned. What declares the function declares a signature, or has a fault.
-use Rattle.std.specs.Prelude.{◌≡◌, ℕ, ◌-◌, List, [], length, replicate, Option, Some, None, cond}
+use Rattle.std.specs.Prelude.{◌≡◌, ℕ, ◌+◌, ◌-◌, ⊤, List, [], length, replicate, Option, Some, None, cond}
 use Rattle.ffi3_type_rules.specs.declared.Target.{Target}
 use Rattle.ffi3_type_rules.specs.Tree.{Tree}
 use Rattle.ffi3_type_rules.specs.Layout.{size_of}
@@ -8,7 +8,7 @@ use Rattle.ffi3_type_rules.specs.Value.{ValueTree, part, value_in}
 use Rattle.ffi3_place_rules.specs.declared.Loc.{Loc}
 use Rattle.ffi3_place_rules.specs.declared.Res.{Res}
 use Rattle.ffi3_place_rules.specs.declared.Res.TheVariants.{Nothing, Direct, Hidden}
-use Rattle.ffi3_place_rules.specs.Holds.{HoldsResult}
+use Rattle.ffi3_place_rules.specs.Holds.{OwnResult, RegisterHolds}
 use Rattle.ffi3_place_rules.specs.Image.{Image, register}
 use Rattle.ffi3_place_rules.specs.Standard.{Standard, plan_of}
 use Rattle.ffi3_explain_rules.specs.Arguments.{is_in_image}
@@ -36,7 +36,7 @@ pub data Returned : Type 0 where
   is_outside : ℕ → Returned
   has_no_address : Returned
 
--- the buffer to which the register points that the standard names for that, if any. (System V psABI AMD64 3.2.3, "Returning of Values", step 2, and Microsoft, "Return values": rax. Arm AAPCS64, "Result Return", and RISC-V ELF psABI, "Integer Calling Convention", name none)
+-- the buffer to which the register points that the standard names for that, if any. (System V psABI AMD64 3.2.3, "Returning of Values", step 2, and Microsoft, "Return values": rax. Arm AAPCS64, "Result Return", by which Apple's goes too, and RISC-V ELF psABI, "Integer Calling Convention", name none)
 abbrev pub result_behind : Image → Tree → Option Loc → Returned
 result_behind m t None = has_no_address
 result_behind m t (Some at) =
@@ -53,6 +53,12 @@ result_by std m t (Hidden at buffer) = result_behind m t std.returned_address
 abbrev pub returned_by_standard : Standard → Signature → Image → Returned
 returned_by_standard std s m = result_by std m s.result_type (plan_of std s).res
 
+-- the address of a hidden result's buffer, where a caller of this library has it, stands in that register, if any
+abbrev pub AddressStands : Standard → Image → Res → Type 0
+AddressStands std m Nothing = ⊤
+AddressStands std m (Direct pieces) = ⊤
+AddressStands std m (Hidden at buffer) = RegisterHolds m std.returned_address (m.sp + buffer)
+
 -- ---- what is told
 
 -- a result of so many bytes, and the address of its buffer
@@ -63,8 +69,9 @@ result_of size address fault =
 -- the image has these bytes by the standard alone
 pub record IsFoundBy (std : Standard) (s : Signature) (m : Image) (f : FoundResult) : Type 0 where
   pub is : returned_by_standard std s m ≡ are_bytes f.bytes
-  -- so they are those of the value that the image holds
-  pub value : (v : ValueTree) → HoldsResult std s v m → value_in s.result_type f.bytes ≡ v
+  -- so they are those of the value that the image owns, whatever stands in the rest of its registers
+  pub value : (v : ValueTree) → OwnResult std s v m → AddressStands std m (plan_of std s).res
+      → value_in s.result_type f.bytes ≡ v
   pub sized : length f.bytes ≡ size_of s.result_type
   pub told : f.told ≡ result_of (size_of s.result_type) 0 (fault_with NoFault)
 

@@ -21,8 +21,8 @@ use ffi3_place::{Abi, Place};
 use ffi3_type_rules::round_up;
 use ffi3_types::CheckedType;
 
-// Argument `i`, where its address points outside the stack's bytes.
-fn outside_of(
+/// Argument `i`, where its address points outside the stack's bytes.
+pub fn outside_of(
     registers: &Registers,
     stack: &[u8],
     base: u64,
@@ -48,8 +48,8 @@ fn outside_of(
     }
 }
 
-// The first argument whose address points outside.
-fn first_outside<A: Abi>(cif: &Cif<A>, registers: &Registers, stack: &[u8]) -> Option<Outside>
+/// The first argument whose address points outside the stack's bytes.
+pub fn first_outside<A: Abi>(cif: &Cif<A>, registers: &Registers, stack: &[u8]) -> Option<Outside>
     requires { least_stack A.standard cif.now ≤ length stack.now }
     ensures { result ≡ first_outside (image_in registers.now stack.now) A.standard.link 0 cif.now.arguments (plan_of A.standard cif.now).places }
 {
@@ -65,8 +65,9 @@ fn first_outside<A: Abi>(cif: &Cif<A>, registers: &Registers, stack: &[u8]) -> O
     None
 }
 
-// The bytes of an argument, as they stand at its place.
-fn read_argument(
+/// The bytes of an argument whose address, if it has one, points inside: its own leaves' bytes, and what stands between
+/// them.
+pub fn read_argument(
     registers: &Registers,
     stack: &[u8],
     base: u64,

@@ -10,7 +10,7 @@ mod reading;
 mod storing;
 mod widen;
 
-pub use collecting::collect;
+pub use collecting::{collect, first_outside, outside_of, read_argument};
 pub use giving::{give, offset_in};
 pub use loading::load;
 pub use putting::{fill_piece, put, put_word, set_piece};
