@@ -38,8 +38,8 @@ COMPILERS = {"amd64": ("gcc", "clang", "libffi-unix64"), "aapcs64": ("gcc", "cla
 # What plays a call and an entry, where it is another target's.
 PLAYED_BY = {"apple": "aapcs64"}
 FLAGS = ["-w", "-std=gnu11", "-fno-pie", "-fno-stack-protector"]
-# Defined on a target whose programs run on the host beside those of another: player.h says what it changes.
-DEFINED = {"win64": ["-DWIN64"]}
+# Defined on a target that is played as another is: player.h and tools/try_calls.c say what it changes.
+DEFINED = {"win64": ["-DWIN64"], "apple": ["-DAPPLE"]}
 # A leaf's scalar, by what C knows of it: the kind of player.h, and its bytes.
 SCALARS = {f"{'f' if name == 'double' else name[0]}{size}": name for name, size in SIZES.items()}
 # The files of one batch are optimised in turn: not at all, and much; with an even seed the other way round.
@@ -134,6 +134,18 @@ def link(target, program, files):
                     HERE / f"{PLAYED_BY.get(target, target)}.S", *files], check=True)
 
 
+def compiled(target, compiler, folder, name, optimised):
+    """Makes the object NAME.o of NAME.c in a folder. The words name no folder, so that a cache of compilers (ccache)
+    knows the file again."""
+    words = [*command_of(target, compiler), *flags_of(target), optimised]
+    if target != "apple":
+        subprocess.run([*words, "-c", "-o", f"{name}.o", f"{name}.c"], check=True, cwd=folder)
+        return
+    subprocess.run([*words, "-S", "-o", f"{name}.macho", f"{name}.c"], check=True, cwd=folder)
+    (folder / f"{name}.s").write_text(macho.in_elf((folder / f"{name}.macho").read_text()))
+    subprocess.run([*command_of(target, "gcc"), "-c", "-o", f"{name}.o", f"{name}.s"], check=True, cwd=folder)
+
+
 class Compiled(Played):
     """Signatures as compiled for one target by one compiler, in a folder of their own."""
 
@@ -155,15 +167,7 @@ class Compiled(Played):
         self.command = [*([emulator] if emulator else []), program]
 
     def compile(self, name, optimised):
-        """The words name no folder, so that a cache of compilers (ccache) knows the file again."""
-        words = [*command_of(self.target, self.compiler), *flags_of(self.target), optimised]
-        if self.target != "apple":
-            subprocess.run([*words, "-c", "-o", f"{name}.o", f"{name}.c"], check=True, cwd=self.folder)
-            return
-        subprocess.run([*words, "-S", "-o", f"{name}.macho", f"{name}.c"], check=True, cwd=self.folder)
-        (self.folder / f"{name}.s").write_text(macho.in_elf((self.folder / f"{name}.macho").read_text()))
-        subprocess.run([*command_of(self.target, "gcc"), "-c", "-o", f"{name}.o", f"{name}.s"], check=True,
-                       cwd=self.folder)
+        compiled(self.target, self.compiler, self.folder, name, optimised)
 
 
 class Libffi(Played):

@@ -14,6 +14,8 @@
 enum { TARGET = FFI3_WIN64, STACK_POINTER = 4 };
 #elif defined __x86_64__
 enum { TARGET = FFI3_AMD64, STACK_POINTER = 4 };
+#elif defined APPLE
+enum { TARGET = FFI3_APPLE, STACK_POINTER = 31 };
 #else
 enum { TARGET = FFI3_AAPCS64, STACK_POINTER = 31 };
 #endif
