@@ -70,6 +70,7 @@ class Progress:
             self.is_written = True
 
     def end(self) -> None:
+        """Takes the words away."""
         if self.is_written:
             print("\r\33[K", end="", file=sys.stderr, flush=True)
 

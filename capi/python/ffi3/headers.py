@@ -23,7 +23,7 @@ from dataclasses import dataclass, field
 from functools import lru_cache
 from itertools import chain
 from pathlib import Path
-from typing import NamedTuple
+from typing import NamedTuple, Optional
 
 from pycparser import c_ast, c_generator, c_parser
 
@@ -50,7 +50,7 @@ class Refused(Exception):
 # ---- the text, cut at the top level
 
 TOKEN = re.compile(r"""
-    (?P<directive>^[ \t]*\#[^\n]*$) | (?P<comment>/\*.*?\*/|//[^\n]*) | (?P<blank>\s+) | (?P<word>[A-Za-z_$][\w$]*)
+    (?P<directive>^[ \t]*\#[^\n]*$) | (?P<blank>\s+) | (?P<word>[A-Za-z_$][\w$]*) | (?P<comment>/\*.*?\*/|//[^\n]*)
   | (?P<text>L?"(?:\\.|[^"\\])*"|L?'(?:\\.|[^'\\])*') | (?P<number>\.?\d(?:[eEpP][+-]|[\w.])*)
   | (?P<mark>\.\.\.|<<=?|>>=?|[-+&|<>=!]=|->|&&|\|\||\+\+|--|.)
     """, re.M | re.S | re.X)
@@ -69,6 +69,7 @@ INSTEAD = {"__const": "const", "__const__": "const", "__volatile__": "volatile",
 TRANSPARENT = {"transparent_union", "__transparent_union__"}
 OPEN, CLOSE = "([{", ")]}"
 AT_ONCE = 200  # so many chunks are parsed together
+A_FEW = 20  # so many where one is new among others that have been parsed for another target
 BUILT_IN = ("typedef struct __ffi3_va_list __builtin_va_list; typedef __int128 __int128_t; "
             "typedef unsigned __int128 __uint128_t;")
 
@@ -94,14 +95,16 @@ def tokens(text: str) -> Iterator[tuple[str, str, list[str], int]]:
     """The tokens but blanks: kind, text, the files that are open, from the outermost, and the line."""
     files, line = [""], 1
     for match in TOKEN.finditer(text):
-        if match.lastgroup == "directive":
-            if marker := MARKER.match(match[0]):
+        kind, word = match.lastgroup, match[0]
+        if kind == "directive":
+            if marker := MARKER.match(word):
                 flags, line = marker[3].split(), int(marker[1]) - 1
                 outer = files if "1" in flags else files[:-2] if "2" in flags else files[:-1]
                 files = [*outer, marker[2]]
-        elif match.lastgroup != "blank":
-            yield match.lastgroup, match[0], files, line
-        line += match[0].count("\n")
+        elif kind != "blank":
+            yield kind, word, files, line
+        if kind in ("blank", "comment", "text"):
+            line += word.count("\n")
 
 
 def past_brackets(listed: Sequence[tuple], at: int) -> int:
@@ -163,23 +166,86 @@ class Parsed:
     left_out: list[Chunk]
 
 
-def parsed(found: Sequence[Chunk], tell: Tell = lambda _: None) -> Parsed:
+Found = Optional[list[c_ast.Node]]  # what stands in a declaration; nothing where pycparser cannot parse it
+
+
+class Parser:
+    """pycparser, and what it has found: the same words with the same names of types are parsed once, for a header has
+    most of them on each target."""
+
+    def __init__(self):
+        self.parser = c_parser.CParser()
+        self.known: dict[tuple[tuple[str, ...], frozenset[str]], Found] = {}
+
+    def in_order(self, lines: Sequence[Sequence[str]], tell: Tell) -> tuple[list[Found], dict[str, int]]:
+        """What each of some declarations is, those before it being known; and the names of types, each with the number
+        of the declaration that defines it."""
+        typedefs: dict[str, int] = {}
+        found: list[Found] = []
+        at_once = A_FEW if self.known else AT_ONCE
+        while len(found) < len(lines):
+            start = len(found)
+            key = key_of(lines[start], typedefs)
+            if key in self.known:
+                made = [self.known[key]]
+            else:
+                tell(f"{start} of {len(lines)} declarations are parsed")
+                made = self.parse(lines[start:start + at_once], typedefs)
+            for words, nodes in zip(lines[start:], made):
+                self.known[key_of(words, typedefs)] = nodes
+                for node in nodes or ():
+                    if isinstance(node, c_ast.Typedef):
+                        typedefs.setdefault(node.name, len(found))
+                found.append(nodes)
+        return found, typedefs
+
+    def apart(self, lines: Sequence[Sequence[str]], typedefs: Collection[str]) -> list[Found]:
+        """What each of some declarations is, none of which defines a type."""
+        keys = [key_of(words, typedefs) for words in lines]
+        new = [i for i, key in enumerate(keys) if key not in self.known]
+        for start in range(0, len(new), AT_ONCE):
+            here = new[start:start + AT_ONCE]
+            made = self.parse([lines[i] for i in here], typedefs)
+            self.known.update((keys[i], nodes) for i, nodes in zip(here, made))
+        return [self.known[key] for key in keys]
+
+    def parse(self, lines: Sequence[Sequence[str]], typedefs: Collection[str]) -> list[Found]:
+        """What each of some declarations is, in front of which these names are those of types. What cannot be parsed is
+        left out, and the others are given to pycparser again."""
+        left_out: set[int] = set()
+        while True:
+            kept = [() if i in left_out else words for i, words in enumerate(lines)]
+            names = sorted({word for words in kept for word in words if word in typedefs})
+            text = [" ".join([BUILT_IN, *(f"typedef int {name};" for name in names)]), *map(" ".join, kept)]
+            try:
+                tree = self.parser.parse("\n".join(text))
+            except c_parser.ParseError as error:
+                number = int(re.match(r":?(\d+)", str(error))[1]) - 2
+                if number in left_out or number < 0:
+                    raise Failed(f"pycparser: {error}") from None
+                left_out.add(number)
+                continue
+            found: list[Found] = [None if i in left_out else [] for i in range(len(lines))]
+            for node in tree.ext:
+                if node.coord.line > 1:
+                    found[node.coord.line - 2].append(node)
+            return found
+
+
+def key_of(words: Sequence[str], typedefs: Collection[str]) -> tuple[tuple[str, ...], frozenset[str]]:
+    """All that a declaration's nodes depend on: its words, and which of them are names of types."""
+    return tuple(words), frozenset([word for word in words if word in typedefs])
+
+
+def parsed(found: Sequence[Chunk], parser: Parser, tell: Tell = lambda _: None) -> Parsed:
     """What pycparser finds. Plain prototypes are put together from results and parameters, each parsed once, for in a
     large header most are alike; all else is parsed as it stands."""
-    parser, nodes = c_parser.CParser(), {}
-    typedefs: dict[str, int] = {}  # each with the number of the chunk that defines it
     plain = {i: plain_of(chunk.words) for i, chunk in enumerate(found) if chunk.is_function()}
     plain = {i: prototype for i, prototype in plain.items() if prototype}
     rest = [i for i in range(len(found)) if i not in plain]
-    for start in range(0, len(rest), AT_ONCE):
-        tell(f"{start} of {len(rest)} declarations are parsed")
-        here = rest[start:start + AT_ONCE]
-        for i, made in zip(here, parsed_lines(parser, [found[i].words for i in here], typedefs)):
-            nodes[i] = made
-            for node in made or ():
-                if isinstance(node, c_ast.Typedef):
-                    typedefs.setdefault(node.name, i)
-    defining = [node for i in rest for node in nodes[i] or ()]
+    made, defined = parser.in_order([found[i].words for i in rest], tell)
+    nodes: dict[int, Found] = dict(zip(rest, made))
+    typedefs = {name: rest[number] for name, number in defined.items()}
     tell(f"{len(plain)} prototypes are parsed")
     # What has a name that is a type's further down is parsed by what stands before it.
     at_once = {i: each for i, each in plain.items() if each.name not in typedefs
@@ -187,35 +253,11 @@ def parsed(found: Sequence[Chunk], tell: Tell = lambda _: None) -> Parsed:
     nodes.update(zip(at_once, parsed_prototypes(parser, list(at_once.values()), typedefs)))
     for i in plain:
         if nodes.get(i) is None:
-            before = {name: at for name, at in typedefs.items() if at < i}
-            [nodes[i]] = parsed_lines(parser, [found[i].words], before)
+            before = {name for name, at in typedefs.items() if at < i}
+            [nodes[i]] = parser.apart([found[i].words], before)
     numbers = range(len(found))
-    return Parsed([(found[i], node) for i in numbers for node in nodes[i] or ()], defining,
-                  [found[i] for i in numbers if nodes[i] is None])
-
-
-def parsed_lines(parser: c_parser.CParser, lines: Sequence[Sequence[str]],
-                 typedefs: Collection[str]) -> list[list[c_ast.Node] | None]:
-    """What pycparser finds in each of some declarations, in front of which these names are those of types. What it
-    cannot parse is left out, with nothing, and the others are given to it again."""
-    left_out: set[int] = set()
-    while True:
-        kept = [() if i in left_out else words for i, words in enumerate(lines)]
-        known = sorted({word for words in kept for word in words if word in typedefs})
-        text = [" ".join([BUILT_IN, *(f"typedef int {name};" for name in known)]), *map(" ".join, kept)]
-        try:
-            tree = parser.parse("\n".join(text))
-        except c_parser.ParseError as error:
-            number = int(re.match(r":?(\d+)", str(error))[1]) - 2
-            if number in left_out or number < 0:
-                raise Failed(f"pycparser: {error}") from None
-            left_out.add(number)
-            continue
-        found = [None if i in left_out else [] for i in range(len(lines))]
-        for node in tree.ext:
-            if node.coord.line > 1:
-                found[node.coord.line - 2].append(node)
-        return found
+    return Parsed([(found[i], node) for i in numbers for node in nodes[i] or ()],
+                  [node for i in rest for node in nodes[i] or ()], [found[i] for i in numbers if nodes[i] is None])
 
 
 class Plain(NamedTuple):
@@ -253,19 +295,17 @@ def plain_of(words: Sequence[str]) -> Plain | None:
     return Plain(tuple(result), name, listed) if all(listed) and DOTS not in (listed[0], *listed[:-1]) else None
 
 
-def parsed_prototypes(parser: c_parser.CParser, plain: Sequence[Plain],
-                      typedefs: Collection[str]) -> list[list[c_ast.Node] | None]:
+def parsed_prototypes(parser: Parser, plain: Sequence[Plain], typedefs: Collection[str]) -> list[Found]:
     """The declaration that each of these is; nothing where pycparser cannot parse it so."""
     results = list(dict.fromkeys(each.result for each in plain))
     parameters = list(dict.fromkeys(one for each in plain for one in each.parameters if one != DOTS))
     lines = [[*words, ONE, "(", "void", ")", ";"] for words in results]
     lines += [["void", ONE, "(", *words, ")", ";"] for words in parameters]
-    made = [nodes for start in range(0, len(lines), AT_ONCE)
-            for nodes in parsed_lines(parser, lines[start:start + AT_ONCE], typedefs)]
+    made = parser.apart(lines, typedefs)
     by_result = dict(zip(results, made))
     by_parameter = {words: parameter_of(nodes) for words, nodes in zip(parameters, made[len(results):])}
     by_parameter[DOTS] = c_ast.EllipsisParam()
-    found: list[list[c_ast.Node] | None] = []
+    found: list[Found] = []
     for each in plain:
         result, listed = by_result[each.result], [by_parameter[words] for words in each.parameters]
         is_made = result and len(result) == 1 and None not in listed
@@ -273,7 +313,7 @@ def parsed_prototypes(parser: c_parser.CParser, plain: Sequence[Plain],
     return found
 
 
-def parameter_of(nodes: list[c_ast.Node] | None) -> c_ast.Node | None:
+def parameter_of(nodes: Found) -> c_ast.Node | None:
     """The one parameter of the function that was parsed; nothing where it is a name without a type."""
     if nodes is None or len(nodes) != 1 or not isinstance(nodes[0].type, c_ast.FuncDecl):
         return None
@@ -335,14 +375,18 @@ class Kind:
     value: str
 
     def questions(self) -> list[str]:
+        """What the compiler is asked of it."""
         return [size(self.value)]
 
     def nodes(self, answers: Answers) -> tuple[Node, ...]:
+        """Its nodes. Raises Refused where it has none."""
         raise NotImplementedError
 
 
 @dataclass(frozen=True)
 class Integer(Kind):
+    """An integer, an enum or a _Bool."""
+
     def questions(self) -> list[str]:
         return [size(self.value), sign(self.value)]
 
@@ -352,6 +396,8 @@ class Integer(Kind):
 
 @dataclass(frozen=True)
 class Real(Kind):
+    """A floating type, by its words."""
+
     words: str
 
     def questions(self) -> list[str]:
@@ -365,6 +411,8 @@ class Real(Kind):
 
 @dataclass(frozen=True)
 class Complex(Kind):
+    """A complex type, by the words of its parts."""
+
     words: str
 
     def nodes(self, answers: Answers) -> tuple[Node, ...]:
@@ -375,6 +423,8 @@ class Complex(Kind):
 
 @dataclass(frozen=True)
 class Pointer(Kind):
+    """A pointer, or a parameter that is one in C."""
+
     def questions(self) -> list[str]:
         return []
 
@@ -394,6 +444,8 @@ class VaList(Kind):
 
 @dataclass(frozen=True)
 class Array(Kind):
+    """An array in a struct."""
+
     element: Kind
 
     def questions(self) -> list[str]:
@@ -435,7 +487,8 @@ class Struct(Kind):
             self.check(nodes, answers, offsets, *whole)
         return nodes
 
-    def check(self, nodes: Sequence[Node], answers: Answers, offsets: Mapping[str, int], of_bytes: int, alignment: int):
+    def check(self, nodes: Sequence[Node], answers: Answers, offsets: Mapping[str, int], of_bytes: int,
+              alignment: int) -> None:
         """That it is laid out as its types say, and so is each struct without a name in it."""
         starts = [offsets[name or kind.names()[0]] for name, kind in self.members]
         try:
@@ -813,10 +866,10 @@ def names_function(chunk: Chunk, name: str) -> bool:
     return any(word == name and behind in ("(", ")") for word, behind in zip(chunk.words, chunk.words[1:]))
 
 
-def functions_of(compiler: Compiler, text: str, is_wanted: Wanted, tell: Tell = lambda _: None) -> list[Function]:
+def functions_of(compiler: Compiler, text: str, is_wanted: Wanted, parser: Parser, tell: Tell) -> list[Function]:
     """The functions that a preprocessed text declares in the chunks that are wanted."""
     found = [chunk for chunk in chunks(text) if not chunk.is_function() or is_wanted(chunk)]
-    made = parsed(found, tell)
+    made = parsed(found, parser, tell)
     transparent = {chunk.words[-2] for chunk in found if TRANSPARENT & set(chunk.raw)}
     definitions = Definitions(made.defining, transparent)
     functions: dict[str, Function] = {}
@@ -850,19 +903,20 @@ def functions_of(compiler: Compiler, text: str, is_wanted: Wanted, tell: Tell = 
 
 
 def read(headers: str | Sequence[str], target: str | None = None, *, compiler: Compiler | None = None,
-         names: Iterable[str] = (), is_wanted: Wanted | None = None, tell: Tell = lambda _: None) -> list[Function]:
+         names: Iterable[str] = (), is_wanted: Wanted | None = None, parser: Parser | None = None,
+         tell: Tell = lambda _: None) -> list[Function]:
     """The functions that headers declare, those of these names if any are given, as a target's compiler has them.
 
-    What headers include is left out, unless is_wanted takes it. tell is told of what is done. Raises Failed where the
-    compiler reads nothing."""
+    What headers include is left out, unless is_wanted takes it. A parser that has read them for another target is
+    faster. tell is told of what is done. Raises Failed where the compiler reads nothing."""
     listed = [headers] if isinstance(headers, str) else list(headers)
-    compiler, names = compiler or compiler_for(target), set(names)
+    compiler, names, parser = compiler or compiler_for(target), set(names), parser or Parser()
     tell("the compiler preprocesses")
     text = preprocessed(compiler, listed)
     if names:
-        found = functions_of(compiler, text, lambda chunk: not names.isdisjoint(chunk.words), tell)
+        found = functions_of(compiler, text, lambda chunk: not names.isdisjoint(chunk.words), parser, tell)
         return [each for each in found if each.name in names]
-    return functions_of(compiler, text, is_wanted or of_headers(text, listed), tell)
+    return functions_of(compiler, text, is_wanted or of_headers(text, listed), parser, tell)
 
 
 # ---- a header on several targets
@@ -896,10 +950,11 @@ def survey(headers: str | Sequence[str], compilers: Iterable[Compiler], names: I
            is_wanted: Wanted | None = None, tell: Tell = lambda _: None) -> list[Entry]:
     """The functions of headers as each of these compilers has them; tell is told of what is done."""
     found: dict[str, dict[str, Function]] = {}
+    parser = Parser()
     for compiler in compilers:
         def tell_on(words: str, target: str = compiler.target) -> None:
             tell(f"{target}: {words}")
 
-        for function in read(headers, compiler=compiler, names=names, is_wanted=is_wanted, tell=tell_on):
+        for function in read(headers, compiler=compiler, names=names, is_wanted=is_wanted, parser=parser, tell=tell_on):
             found.setdefault(function.name, {})[compiler.target] = function
     return [Entry(name, by_target) for name, by_target in found.items()]

@@ -399,9 +399,14 @@ def place(target: str, declaration: str | bytes) -> Call:
 _Pairs = tuple[tuple[int, int], ...]  # of nodes their kinds and counts, as C has them
 
 
+def _pair_of(node: Node) -> tuple[int, int]:
+    kind, count = (node, 0) if isinstance(node, (str, int)) else node
+    return _kind(kind), _number(count, _MOST_32)
+
+
 def _pairs_of(nodes: Iterable[Node]) -> _Pairs:
-    pairs = [(each, 0) if isinstance(each, (str, int)) else each for each in nodes]
-    return tuple([(_kind(kind), _number(count, _MOST_32)) for kind, count in pairs])
+    return tuple([(_NUMBER_OF_KIND[node], 0) if isinstance(node, str) and node in _NUMBER_OF_KIND else _pair_of(node)
+                  for node in nodes])
 
 
 def _array_of(pairs: _Pairs):

@@ -34,40 +34,48 @@ def _registers(pieces: Sequence[Piece], rule: Mapping[Part, str]) -> list:
     return list(rows.items())
 
 
-def _stack(call: Call, sizes: Mapping[Part, int], rule: Mapping[Part, str]) -> list:
-    rows = stack_rows(call, sizes)
+def _stack(rows: Mapping[int, Sequence[tuple[int, int, Piece, int]]], rule: Mapping[Part, str]) -> list:
     return [[8 * row, [_box(piece, value, count, at, rule[piece.part]) for at, count, piece, value in rows[row]]]
             for row in sorted(rows)[:MOST_ROWS]]
 
 
-def _on_target(function: Function) -> dict:
-    """What the page's script draws of a function on one target."""
+def _on_target(function: Function, known: dict[tuple, dict]) -> dict:
+    """What the page's script draws of a function on one target; known has what it draws of those with the same types.
+    """
     if not function.is_read:
         return {"reason": function.reason}
+    key = function.target, function.nodes, function.fixed
+    if key not in known:
+        known[key] = _placed(function)
+    return known[key]
+
+
+def _placed(function: Function) -> dict:
     call = function.place()
     kinds = {part: function.layout(part) for part in (RESULT, *range(len(function.arguments)))}
     kinds[HIDDEN] = kinds[RESULT]
     rule = {part: rules.rule_of(function.target, call, part, kinds[part])
             for part in dict.fromkeys(piece.part for piece in call.pieces)}
     sizes = {part: kind.size for part, kind in kinds.items()}
-    rows = _stack(call, sizes, rule)
+    rows = stack_rows(call, sizes) if call.frame else {}
     passed, returned = call.pieces[:call.passed], call.pieces[call.passed:]
-    return {"passed": _registers(passed, rule), "frame": call.frame, "stack": rows,
-            "more": len(stack_rows(call, sizes)) > len(rows), "returned": _registers(returned, rule),
+    return {"passed": _registers(passed, rule), "frame": call.frame, "stack": _stack(rows, rule),
+            "more": len(rows) > MOST_ROWS, "returned": _registers(returned, rule),
             "sizes": [sizes[i] for i in range(len(function.arguments))], "result": sizes[RESULT]}
 
 
-def _told(entry: Entry) -> dict:
+def _told(entry: Entry, known: dict[tuple, dict]) -> dict:
     function = entry.first
     return {"name": entry.name, "declaration": function.declaration, "variadic": function.is_variadic,
             "at": f"{function.chunk.owner}:{function.chunk.first}",
             "names": [label(function.names, i) or f"argument {i}" for i in range(len(function.arguments))],
-            "targets": {target: _on_target(each) for target, each in entry.by_target.items()}}
+            "targets": {target: _on_target(each, known) for target, each in entry.by_target.items()}}
 
 
 def data(title: str, entries: Iterable[Entry], notes: Sequence[str] = (), link: str = "") -> dict:
     """All that the page shows: title, functions, rules by target, notes on compilers; a link to RULES.md, or none."""
-    told = [_told(entry) for entry in sorted(entries, key=lambda entry: entry.name.lower())]
+    known: dict[tuple, dict] = {}
+    told = [_told(entry, known) for entry in sorted(entries, key=lambda entry: entry.name.lower())]
     shown = [target for target in TARGETS if any(target in each["targets"] for each in told)]
     return {"title": title, "functions": told, "notes": list(notes), "link": link,
             "targets": {target: {"section": rules.SECTIONS[target][0], "name": rules.SECTIONS[target][1],
