@@ -76,5 +76,6 @@ fn serves_a_call_with_calls_inside(rt: HostRuntime) -> Result<(), Fail> {
     check_apply::<Amd64>(&rt, alloc)?;
     check_apply::<Aapcs64>(&rt, alloc)?;
     check_apply::<Riscv>(&rt, alloc)?;
-    check_apply::<Win64>(&rt, alloc)
+    check_apply::<Win64>(&rt, alloc)?;
+    check_apply::<Apple>(&rt, alloc)
 }
