@@ -39,6 +39,8 @@ pub struct EntryArguments {
     pub address: u64,
     /// Of which argument it is.
     pub argument: u32,
+    /// Nothing yet.
+    pub reserved: u32,
     pub fault: TextFault,
 }
 
@@ -113,6 +115,7 @@ pub(crate) fn told(arguments: usize, size: usize, stack: usize, fault: TextFault
         stack,
         address: 0,
         argument: 0,
+        reserved: 0,
         fault,
     }
 }
