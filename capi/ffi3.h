@@ -459,7 +459,7 @@ struct ffi3_interface {
  * which are named: see ffi3_place_nodes. What INTERFACE kept before is released.
  *
  * FFI3_OK: INTERFACE keeps it; FAULT is 0.
- * FFI3_NOT_DECLARED: FAULT says why; INTERFACE is as it was.
+ * FFI3_NOT_DECLARED: FAULT says why, and behind how many nodes or of which argument; INTERFACE is as it was.
  * FFI3_UNKNOWN_TARGET, FFI3_OUT_OF_MEMORY: FAULT is 0, and INTERFACE as it was. An unknown target is told before a
  *     fault.
  */
