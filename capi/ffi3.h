@@ -34,6 +34,12 @@
  * of which ffi3_release gives back. Any number of threads may call, each with interfaces of its own. Memory is taken
  * from malloc. No function ends the program: where memory is refused it says so. A call takes less than 28 KiB of
  * stack, what malloc takes among them: a thread with 64 KiB has enough.
+ *
+ * WHAT STAYS. A program that is linked with one version of libffi3.so.0 goes with each later one: functions, numbers,
+ * and the size and fields of each struct stay. What comes later has numbers of its own, stands in what is `reserved`
+ * today, or in functions and structs of its own. So the structs of version 0.1 that have no reserved words never grow
+ * (ffi3_fault, ffi3_piece, ffi3_call, ffi3_leaf, ffi3_layout and ffi3_registers), nor do ffi3_node and ffi3_move: they
+ * stand in arrays, and have kinds.
  */
 #ifndef FFI3_H
 #define FFI3_H
@@ -263,10 +269,12 @@ uint32_t ffi3_place_nodes(uint32_t target, const struct ffi3_node *nodes, size_t
 
 /* One type as a whole. */
 struct ffi3_type {
-    size_t size;    /* in bytes, a multiple of the alignment; of void 0 */
-    size_t align;   /* 1, 2, 4, 8 or 16 */
-    size_t members; /* how many members a struct has, those of structs in it not among them; a complex has 2, else 0 */
-    size_t leaves;  /* how many scalars it has, those of structs and arrays in it among them */
+    size_t size;          /* in bytes, a multiple of the alignment; of void 0 */
+    size_t align;         /* 1, 2, 4, 8 or 16 */
+    size_t members;       /* how many members a struct has, those of structs in it not among them; a complex has 2, else
+                             0 */
+    size_t leaves;        /* how many scalars it has, those of structs and arrays in it among them */
+    uint64_t reserved[2]; /* 0 */
     struct ffi3_fault fault;
 };
 
@@ -323,6 +331,7 @@ struct ffi3_arguments {
     size_t stack;      /* how many bytes of the stack, from the stack pointer on, they reach into */
     uint64_t address;  /* of FFI3_NOT_IN_STACK: the address */
     uint32_t argument; /* and of which argument it is */
+    uint32_t reserved; /* 0 */
     struct ffi3_fault fault;
 };
 
@@ -450,7 +459,7 @@ struct ffi3_interface {
  * which are named: see ffi3_place_nodes. What INTERFACE kept before is released.
  *
  * FFI3_OK: INTERFACE keeps it; FAULT is 0.
- * FFI3_NOT_DECLARED: FAULT says why; INTERFACE is as it was.
+ * FFI3_NOT_DECLARED: FAULT says why, and behind how many nodes or of which argument; INTERFACE is as it was.
  * FFI3_UNKNOWN_TARGET, FFI3_OUT_OF_MEMORY: FAULT is 0, and INTERFACE as it was. An unknown target is told before a
  *     fault.
  */
@@ -535,7 +544,7 @@ struct ffi3_reason {
     size_t wanted;     /* of FFI3_WRONG_SIZE and FFI3_SHORT_STACK: how many bytes are wanted */
     uint64_t address;  /* of FFI3_NOT_IN_STACK: the address */
     uint32_t argument; /* and of which argument it is, or FFI3_HIDDEN */
-    uint32_t reserved;
+    uint32_t reserved; /* 0 */
 };
 
 /* uint32_t ffi3_collect(struct ffi3_interface *INTERFACE, const struct ffi3_registers *REGISTERS,

@@ -10,6 +10,17 @@
 #include <stdlib.h>
 #include <string.h>
 
+// The sizes that programs are linked with: none of them changes.
+_Static_assert(sizeof(struct ffi3_fault) == 24 && sizeof(struct ffi3_piece) == 28, "what version 0.1 has");
+_Static_assert(sizeof(struct ffi3_call) == 80 && sizeof(struct ffi3_leaf) == 16, "what version 0.1 has");
+_Static_assert(sizeof(struct ffi3_layout) == 56 && sizeof(struct ffi3_registers) == 520, "what version 0.1 has");
+_Static_assert(sizeof(struct ffi3_arguments) == 64, "what version 0.1 has");
+_Static_assert(offsetof(struct ffi3_arguments, fault) == 40, "where version 0.1 has it");
+_Static_assert(sizeof(struct ffi3_node) == 8 && sizeof(struct ffi3_type) == 72, "what version 0.2 has");
+_Static_assert(sizeof(struct ffi3_argument) == 32 && sizeof(struct ffi3_result) == 56, "what version 0.2 has");
+_Static_assert(sizeof(struct ffi3_interface) == 8 && sizeof(struct ffi3_sizes) == 64, "what version 0.2 has");
+_Static_assert(sizeof(struct ffi3_reason) == 24 && sizeof(struct ffi3_move) == 32, "what version 0.2 has");
+
 static long due, counted;
 
 void *__real_malloc(size_t size);
@@ -261,6 +272,7 @@ static struct ffi3_arguments read_each(uint32_t target, const struct nodes *from
                                : ffi3_arguments_each(target, text, shown, held, stack, deep, found, each, most, values,
                                                      room);
     told = *found;
+    check(!told.reserved, "reserved words of arguments", text, shown);
     int has_each = told.arguments <= most, has_values = told.size <= room;
     size_t seen = 0, used = 0, at = 0;
     switch (status) {
@@ -448,6 +460,7 @@ static void check_told(const struct nodes *from, const struct ffi3_type *type, c
     struct ffi3_fault *fault = block(sizeof *fault);
     size_t *exact = block(members * sizeof *exact);
     memcpy(exact, offsets, members * sizeof *exact);
+    check(!type->reserved[0] && !type->reserved[1], "reserved words of a type", from->line, from->length);
     for (size_t more = 0; more < 2; more++) {
         uint32_t status =
             ffi3_check_layout(from->at, from->count, type->size + more, type->align, exact, members, fault);

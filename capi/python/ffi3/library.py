@@ -212,7 +212,8 @@ class _Node(ctypes.Structure):
 
 
 class _Type(ctypes.Structure):
-    _fields_ = [*((name, ctypes.c_size_t) for name in ("size", "align", "members", "leaves")), ("fault", _Fault)]
+    _fields_ = [*((name, ctypes.c_size_t) for name in ("size", "align", "members", "leaves")),
+                ("reserved", ctypes.c_uint64 * 2), ("fault", _Fault)]
 
 
 class _Registers(ctypes.Structure):
@@ -240,7 +241,7 @@ class _Move(ctypes.Structure):
 
 class _Arguments(ctypes.Structure):
     _fields_ = [*((name, ctypes.c_size_t) for name in ("arguments", "size", "stack")), ("address", ctypes.c_uint64),
-                ("argument", ctypes.c_uint32), ("fault", _Fault)]
+                ("argument", ctypes.c_uint32), ("reserved", ctypes.c_uint32), ("fault", _Fault)]
 
 
 class _Argument(ctypes.Structure):

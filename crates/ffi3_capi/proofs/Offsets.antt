@@ -1,4 +1,5 @@
 -- Where the members of a struct start, one after another; and a type as a whole.
+use Rattle.std.specs.Prelude.{replicate}
 use Rattle.std.proofs.Common.{◌≡◌, ℕ, ◌+◌, List, [], ◌∷◌, ◌++◌, length, map, ap, sym, ◌∙◌, arith}
 use Rattle.std.specs.List.{range_with_len}
 use Rattle.std.proofs.lemmas.List.FromFn.{map-range_with_len_more}
@@ -26,10 +27,10 @@ starts_all ts i whole starts before =
 
 abbrev whole_of : ℕ → ℕ → ℕ → ℕ → TextFault → WholeType
 whole_of size align members leaves fault =
-    record { size = size; align = align; members = members; leaves = leaves; fault = fault }
+    record { size = size; align = align; members = members; leaves = leaves; reserved = replicate 2 0; fault = fault }
 
 -- a type as a whole, by its parts
 pub whole_is : (t : Tree) (size align members leaves : ℕ) (fault : TextFault) → size ≡ size_of t → align ≡ align_of t → members ≡ length (members_of t) → leaves ≡ length (leaves_of t) → fault ≡ fault_with NoFault → whole_of size align members leaves fault ≡ whole_type t
 whole_is t size align members leaves fault s a m l f =
     let all : leaves ≡ length (laid_leaves t) = l ∙ sym (length-map (leaves_of t) laid_leaf) in
-    λ i. record { size = s i; align = a i; members = m i; leaves = all i; fault = f i }
+    λ i. record { size = s i; align = a i; members = m i; leaves = all i; reserved = replicate 2 0; fault = f i }

@@ -37,13 +37,16 @@ node_fault count (unknown_kind at) = fault_at UnknownKind at
 node_fault count (bad_count at) = fault_at BadCount at
 node_fault count (too_deep at) = fault_at NodesTooDeep at
 
--- WHY NODES DECLARE NO FUNCTION: they are too many, none of a signature, or of one that has a fault, whose first is told
+-- WHY NODES DECLARE NO FUNCTION: they are too many, or have a fault as nodes, and then no signature without fault has them; or each signature that has them, and one does, has a fault, whose first is told
 pub data IsFaultOfNodes (ns : List Node) (fixed : ℕ) : TextFault → Type 0 where
   too_long : 2 ^ 32 ≤ length ns → IsFaultOfNodes ns fixed (fault_of_value 0 TooManyNodes (length ns))
   no_nodes : (f : NodeFault) → length ns < 2 ^ 32 → first_node_fault ns ≡ Some f
+      → ((s : Signature) → IsSignatureOf ns (fixed_of fixed) s → SignatureHasNoFault s → ⊥)
       → IsFaultOfNodes ns fixed (node_fault (length ns) f)
   not_called : AreNodesOfTypes ns → (s : Signature) (f : SignatureFault) → IsSignatureOf ns (fixed_of fixed) s
-      → IsFirstSignatureFault s f → IsFaultOfNodes ns fixed (signature_fault f)
+      → IsFirstSignatureFault s f
+      → ((other : Signature) → IsSignatureOf ns (fixed_of fixed) other → IsFirstSignatureFault other f)
+      → IsFaultOfNodes ns fixed (signature_fault f)
 
 -- WHY NODES ARE NO TYPE: they are too many, none of types, those of several, or of one that has a fault as a result's
 pub data IsFaultOfType (ns : List Node) : TextFault → Type 0 where

@@ -48,6 +48,7 @@ arguments_of count size stack fault = record {
   stack = stack;
   address = 0;
   argument = 0;
+  reserved = 0;
   fault = fault;
 }
 
@@ -120,6 +121,7 @@ no_arguments (NotInStack count stack argument address) = record {
   stack = stack;
   address = address;
   argument = argument;
+  reserved = 0;
   fault = fault_with NoFault;
 }
 

@@ -1,5 +1,5 @@
 -- What `ffi3_layout_nodes` and `ffi3_offsets_nodes` answer, and what they write.
-use Rattle.std.specs.Prelude.{ℕ, List, [], map, length}
+use Rattle.std.specs.Prelude.{ℕ, List, [], map, length, replicate}
 use Rattle.std.specs.List.{range_with_len}
 use Rattle.ffi3_type_rules.specs.Tree.{Tree, void, scalar, left_out, structure, array, list_of}
 use Rattle.ffi3_type_rules.specs.Layout.{size_of, align_of, offset_of}
@@ -34,13 +34,14 @@ whole_type t = record {
   align = align_of t;
   members = length (members_of t);
   leaves = length (laid_leaves t);
+  reserved = replicate 2 0;
   fault = fault_with NoFault;
 }
 
 -- no type, and why
 abbrev pub no_whole_type : TextFault → WholeType
 no_whole_type fault =
-    record { size = 0; align = 0; members = 0; leaves = 0; fault = fault }
+    record { size = 0; align = 0; members = 0; leaves = 0; reserved = replicate 2 0; fault = fault }
 
 -- WHY THERE IS NONE. Memory alone is free.
 abbrev pub IsTypeRefusal : List Node → Refusal → Type 0

@@ -1,8 +1,6 @@
 // The arguments of a function, from registers and stack where it begins.
-ghost use Rattle.std.specs.Prelude.{◌≡◌, ◌≤◌, IfOk, IfErr, length};
+ghost use Rattle.std.specs.Prelude.{◌≡◌, IfOk, IfErr};
 ghost use Rattle.ffi3_type_rules.specs.Signature.{SignatureHasNoFault};
-ghost use Rattle.ffi3_place_rules.specs.Standard.{plan_of};
-ghost use Rattle.ffi3_explain_rules.specs.Arguments.{first_outside, least_stack};
 ghost use Rattle.ffi3_explain_rules.specs.Standards.{standard_of};
 ghost use Rattle.ffi3_transfer.specs.Stored.{image_in};
 ghost use Rattle.ffi3_capi.specs.DeclaredBy.{IsDeclaredBy, IsFaultBy};
@@ -13,17 +11,16 @@ use crate::declaration::{Declaration, declared};
 use crate::each::see_arguments;
 use crate::fault::{FaultKind, TextFault, fault_with};
 use crate::fill::{fill_bytes, room_status};
-use crate::held::outside_of;
 use crate::placing::target_numbered;
 use crate::status::Refusal;
 use ffi3_aapcs64::Aapcs64;
 use ffi3_amd64::Amd64;
 use ffi3_apple::Apple;
 use ffi3_cif::Cif;
-use ffi3_explain::{Outside, least_stack};
+use ffi3_explain::least_stack;
 use ffi3_place::Abi;
 use ffi3_riscv::Riscv;
-use ffi3_transfer::Registers;
+use ffi3_transfer::{Registers, first_outside};
 use ffi3_types::{Bytes, CheckedSig, Sig, Target};
 use ffi3_win64::Win64;
 use std::alloc::Global;
@@ -42,6 +39,8 @@ pub struct EntryArguments {
     pub address: u64,
     /// Of which argument it is.
     pub argument: u32,
+    /// Nothing yet.
+    pub reserved: u32,
     pub fault: TextFault,
 }
 
@@ -116,25 +115,9 @@ pub(crate) fn told(arguments: usize, size: usize, stack: usize, fault: TextFault
         stack,
         address: 0,
         argument: 0,
+        reserved: 0,
         fault,
     }
-}
-
-/// The first argument whose address points outside.
-fn first_outside<A: Abi>(cif: &Cif<A>, registers: &Registers, stack: &[u8]) -> Option<Outside>
-    requires { least_stack A.standard cif.now ≤ length stack.now }
-    ensures { result ≡ first_outside (image_in registers.now stack.now) A.standard.link 0 cif.now.arguments (plan_of A.standard cif.now).places }
-{
-    let sig = cif.checked_sig();
-    let base = A::LINK;
-    let count = sig.count();
-    for i in 0..count {
-        match outside_of(registers, stack, base, i, &sig.arg(i), cif.place(i)) {
-            Some(outside) => return Some(outside),
-            None => {}
-        }
-    }
-    None
 }
 
 /// The arguments by a calling standard.

@@ -9,7 +9,6 @@ mod each;
 mod entry;
 mod fault;
 pub mod fill;
-mod held;
 mod layouts;
 mod natural;
 mod nodes;

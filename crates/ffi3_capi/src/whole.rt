@@ -28,6 +28,8 @@ pub struct WholeType {
     pub members: usize,
     /// How many scalars it has.
     pub leaves: usize,
+    /// Nothing yet.
+    pub reserved: [u64; 2],
     pub fault: TextFault,
 }
 
@@ -40,6 +42,7 @@ fn no_whole_type(fault: TextFault) -> WholeType
         align: 0,
         members: 0,
         leaves: 0,
+        reserved: [0; 2],
         fault,
     }
 }
@@ -67,6 +70,7 @@ fn whole_type(ty: &CheckedType<'_>) -> WholeType
         align: ty.align() as usize,
         members: member_count(ty.as_type()),
         leaves: ty.leaf_count() as usize,
+        reserved: [0; 2],
         fault: fault_with(FaultKind::NoFault),
     }
 }

@@ -8,4 +8,4 @@ returns-in-Ok-clause-ok c =
 
 pub returns-in-Err-clause-err : goal.returns-in-Err-clause-err
 returns-in-Err-clause-err c =
-    λ f is. is_nodes_fault c.args.nodes.now c.args.fixed c.fixed_of.result c.in-Err.refused f c.fixed_of.ensures c.in-Err.ensures.err (sym c.nodes_told.ensures ∙ is)
+    λ f is. is_nodes_fault c.args.nodes.now c.args.fixed c.fixed_of.result c.in-Err.refused f c.fixed_of.ensures c.in-Err.ensures.err c.in-Err.ensures.uncallable (sym c.nodes_told.ensures ∙ is)

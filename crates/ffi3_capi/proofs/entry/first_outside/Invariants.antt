@@ -1,7 +1,0 @@
-use Rattle.ffi3_place_rules.specs.Standard.{plan_of}
-use Rattle.ffi3_transfer.specs.Stored.{image_in}
-use Rattle.ffi3_transfer.proofs.Turns.{AreInside}
-use Rattle.ffi3_capi.proofs.entry.first_outside.Given as goal
-
-abbrev pub invariant-loop-i : goal.invariant-loop-i
-invariant-loop-i g l = AreInside (image_in l.registers l.stack) l.base l.cif.arguments (plan_of g.A.Abi.standard l.cif).places l.i
