@@ -8,7 +8,7 @@ use Rattle.ffi3_place_rules.specs.Standard.{Standard, frame_of}
 use Rattle.ffi3_explain_rules.specs.Standards.{standard_of}
 use Rattle.ffi3_nodes.specs.declared.Node.{Node}
 use Rattle.ffi3_nodes.specs.Nodes.{IsSignatureOf}
-use Rattle.ffi3_nodes.specs.Read.{IsOfNone, IsRefused}
+use Rattle.ffi3_nodes.specs.Read.{IsOfNone, IsRefused, IsUncallable}
 use Rattle.ffi3_transfer.specs.Packed.{packed_size}
 use Rattle.ffi3_prepared.specs.declared.CallSizes.{CallSizes}
 use Rattle.ffi3_prepared.specs.declared.Prepared.{Prepared}
@@ -49,6 +49,11 @@ IsUnprepared ns fixed NoMemory = ⊤
 abbrev pub IsUnpreparedOfNone : List Node → Unprepared → Type 0
 IsUnpreparedOfNone ns (Nodes r) = IsOfNone ns r
 IsUnpreparedOfNone ns NoMemory = ⊤
+
+-- Nodes that are refused are those of no signature that can be called.
+abbrev pub IsUnpreparedUncallable : List Node → Option ℕ → Unprepared → Type 0
+IsUnpreparedUncallable ns fixed (Nodes r) = IsUncallable ns fixed r
+IsUnpreparedUncallable ns fixed NoMemory = ⊤
 
 -- THE SIZES of a call, in bytes: of its values as they are packed, of its result, of the return address on the stack, of the frame
 abbrev pub sizes_of : Standard → Signature → CallSizes

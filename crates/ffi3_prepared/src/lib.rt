@@ -6,7 +6,7 @@ ghost use Rattle.ffi3_type_rules.specs.Signature.{SignatureHasNoFault};
 ghost use Rattle.ffi3_transfer.specs.Stored.{image_in};
 ghost use Rattle.ffi3_transfer.specs.Calls.{IsCallStored, IsNotStored, IsLoaded, IsNotLoaded, IsGiven, IsNotGiven};
 ghost use Rattle.ffi3_transfer.specs.Collected.{IsCollected, IsNotCollected};
-ghost use Rattle.ffi3_prepared.specs.Prepared.{IsPrepared, IsUnprepared, IsUnpreparedOfNone, signature_in, sizes_of, standard_in, target_in};
+ghost use Rattle.ffi3_prepared.specs.Prepared.{IsPrepared, IsUnprepared, IsUnpreparedOfNone, IsUnpreparedUncallable, signature_in, sizes_of, standard_in, target_in};
 
 use ffi3_aapcs64::Aapcs64;
 use ffi3_amd64::Amd64;
@@ -79,6 +79,7 @@ pub fn prepare(
     ensures ok { IfOk result (λ p. IsPrepared target nodes.now fixed p) }
     ensures err { IfErr result (λ f. IsUnprepared nodes.now fixed f) }
     ensures none { IfErr result (λ f. IsUnpreparedOfNone nodes.now f) }
+    ensures uncallable { IfErr result (λ f. IsUnpreparedUncallable nodes.now fixed f) }
 {
     let sig = match read_signature(alloc, nodes, fixed) {
         Ok(sig) => sig,
