@@ -156,28 +156,26 @@ static struct source source_of(struct served *served, struct reader *it)
     return source;
 }
 
-/* Goes to the next argument that is not void, and answers whether it has moves, or there is none. */
-static inline bool has_next(struct reader *it, const ffi_cif *cif)
+/* Goes on to an argument that is not void, and answers whether there is one. */
+static inline bool has_argument(struct reader *it, const ffi_cif *cif)
 {
     while (it->number < cif->nargs && cif->arg_types[it->number]->type == FFI_TYPE_VOID)
         it->number++;
     if (it->number == cif->nargs)
-        return true;
+        return false;
     it->type = cif->arg_types[it->number];
-    return has_more(it);
+    return true;
 }
 
 /* Answers whether each argument has its moves. */
 static bool has_filled_moves(struct plan *plan, const struct told *told, const ffi_cif *cif)
 {
     struct reader it = reader_of(&told->lists[FFI3_MOVES_TO_STORE]);
-    for (; has_next(&it, cif); it.number++, it.part++) {
-        if (it.number == cif->nargs)
-            break;
+    for (; has_argument(&it, cif); it.number++, it.part++) {
+        if (!has_more(&it))
+            return false;
         fill_moves(plan, &it);
     }
-    if (it.number < cif->nargs)
-        return false;
     if (it.next < it.end) {
         plan->number_at = (uint32_t)it.next->to;
         plan->number = it.next->from;
@@ -198,15 +196,14 @@ static uint64_t start_of(const struct reader *it)
 static bool has_filled_sources(struct served *served, const struct told *told, const ffi_cif *cif)
 {
     struct reader it = reader_of(&told->lists[FFI3_MOVES_TO_COLLECT]);
-    for (uint32_t number = 0; number < cif->nargs; number++)
-        served->sources[number] = (struct source){AT_PLACE, 0, 0, 0};
-    for (; has_next(&it, cif); it.number++, it.part++) {
-        if (it.number == cif->nargs)
-            return true;
+    memset(served->sources, 0, cif->nargs * sizeof *served->sources); /* of what is void: AT_PLACE 0 */
+    for (; has_argument(&it, cif); it.number++, it.part++) {
+        if (!has_more(&it))
+            return false;
         it.start = start_of(&it);
         served->sources[it.number] = source_of(served, &it);
     }
-    return false;
+    return true;
 }
 
 /* ---- Results */

@@ -30,6 +30,11 @@ static uint64_t hash_of(const struct key *key)
     return finished(hash);
 }
 
+static inline bool has_nodes(const struct plan *plan, const struct key *key)
+{
+    return plan->nodes_count == key->length && memcmp(plan->nodes, key->nodes, key->length * sizeof *key->nodes) == 0;
+}
+
 /* The plan of a word, or, where that is 0, of a key. */
 static inline const struct plan *found(const struct table *table, uint64_t hash, uint64_t word, const struct key *key)
 {
@@ -39,8 +44,7 @@ static inline const struct plan *found(const struct table *table, uint64_t hash,
             return NULL;
         if (plan->hash != hash || plan->word != word)
             continue;
-        if (word || (plan->nodes_count == key->length &&
-                     memcmp(plan->nodes, key->nodes, key->length * sizeof *key->nodes) == 0))
+        if (word || has_nodes(plan, key))
             return plan;
     }
     return NULL;
@@ -158,6 +162,12 @@ static const struct served *serve(struct plan *plan, const struct key *key, cons
     return kept;
 }
 
+/* Whether the interface's types are still those of its plan, which others share. */
+static bool is_of(const struct plan *plan, const struct key *key, const ffi_cif *cif)
+{
+    return plan->word ? plan->word == word_of(cif->abi, cif->nargs, cif->rtype, cif->arg_types) : has_nodes(plan, key);
+}
+
 const struct served *served_by(const struct plan *plan, const ffi_cif *cif)
 {
     const struct served *served = atomic_load_explicit(&plan->served, memory_order_acquire);
@@ -166,7 +176,7 @@ const struct served *served_by(const struct plan *plan, const ffi_cif *cif)
         return served;
     /* The plan's own nodes have how many arguments are fixed. */
     key_tell(&key, cif, plan->word ? FFI3_NOT_VARIADIC : plan->nodes[1].count);
-    if (key.status == FFI_OK)
+    if (key.status == FFI_OK && is_of(plan, &key, cif))
         served = serve((struct plan *)(uintptr_t)plan, &key, cif);
     key_end(&key);
     return served;
