@@ -210,8 +210,8 @@ static void change_types(void)
     EXPECT(got == 2.5);
 }
 
-/* What a closure needs is found when its signature's first one is prepared, or entered, if its interface came later; and
- * by types that are not the interface's it is not found. */
+/* What a closure needs is found when its signature's first one is prepared, or is entered, if its interface came later;
+ * and by types that are not the interface's it is not found. */
 static void write_sum(ffi_cif *cif, void *result, void **values, void *data)
 {
     (void)cif, (void)data;
