@@ -2,6 +2,8 @@
 #include "closure.h"
 #include "plan.h"
 #include <alloca.h>
+#include <stdio.h>
+#include <stdlib.h>
 #include <string.h>
 
 #define ALWAYS_INLINE __attribute__((always_inline)) static inline
@@ -118,11 +120,13 @@ static inline char *place(char *exchange, char *frame, uint32_t at)
     return at < FRAME_AT ? exchange + at : frame + (at - FRAME_AT);
 }
 
-#define ENTERED const struct plan *plan, char *exchange, char *frame, ffi_cif *cif, function *fun, void *user_data
+#define ENTERED                                                                                              \
+    const struct plan *plan, const struct served *served, char *exchange, char *frame, ffi_cif *cif, function *fun, \
+        void *user_data
 
-static void gather(const struct plan *plan, const struct source *source, char *exchange, char *frame, char *to)
+static void gather(const struct served *served, const struct source *source, char *exchange, char *frame, char *to)
 {
-    const struct move *move = &plan->gathers[source->first];
+    const struct move *move = &served->gathers[source->first];
     for (uint32_t k = 0; k < source->count; k++, move++)
         play(move, to + move->to, place(exchange, frame, move->from));
 }
@@ -132,14 +136,14 @@ ALWAYS_INLINE void serve(ENTERED, void **values, char *scratch)
     _Alignas(16) uint64_t own_result[8]; /* as much as registers give back */
     void *result = own_result;
     own_result[0] = own_result[1] = 0;
-    const struct source *source = plan->sources;
+    const struct source *source = served->sources;
     for (void **value = values, **end = values + plan->nargs; value < end; value++, source++) {
         char *at = place(exchange, frame, source->at);
         if (source->kind == AT_ADDRESS) {
             at = address_at(at);
         } else if (scratch && source->kind == GATHERED) {
             at = scratch + source->at;
-            gather(plan, source, exchange, frame, at);
+            gather(served, source, exchange, frame, at);
         }
         *value = at;
     }
@@ -148,39 +152,40 @@ ALWAYS_INLINE void serve(ENTERED, void **values, char *scratch)
     fun(cif, result, values, user_data);
     if (plan->back != NO_PLACE)
         put_address(exchange + plan->back, result);
-    for (const struct move *move = plan->gives, *end = move + plan->gives_count; move < end; move++)
+    for (const struct move *move = served->gives, *end = move + served->gives_count; move < end; move++)
         play(move, exchange + move->to, (char *)result + move->from);
 }
 
 __attribute__((noinline)) static void serve_many(ENTERED)
 {
     void **values = alloca(plan->nargs * sizeof *values);
-    serve(plan, exchange, frame, cif, fun, user_data, values, __builtin_alloca_with_align(plan->scratch, 128));
+    serve(plan, served, exchange, frame, cif, fun, user_data, values,
+          __builtin_alloca_with_align(served->scratch, 128));
 }
 
 __attribute__((noinline)) static void serve_few(ENTERED)
 {
     void *values[FEW_ARGUMENTS];
     _Alignas(16) char scratch[SMALL_SCRATCH];
-    serve(plan, exchange, frame, cif, fun, user_data, values, scratch);
+    serve(plan, served, exchange, frame, cif, fun, user_data, values, scratch);
 }
 
 __attribute__((noinline)) static void serve_at_places(ENTERED)
 {
     void *values[FEW_ARGUMENTS];
-    serve(plan, exchange, frame, cif, fun, user_data, values, NULL);
+    serve(plan, served, exchange, frame, cif, fun, user_data, values, NULL);
 }
 
 /* What is called last needs no memory of this function's. */
 ALWAYS_INLINE void receive(ENTERED)
 {
     ((struct exchange *)(void *)exchange)->beside = plan->beside;
-    if (plan->nargs > FEW_ARGUMENTS || plan->scratch > SMALL_SCRATCH)
-        serve_many(plan, exchange, frame, cif, fun, user_data);
-    else if (plan->scratch)
-        serve_few(plan, exchange, frame, cif, fun, user_data);
-    else if (plan->nargs || plan->gives_count || plan->hidden != NO_PLACE)
-        serve_at_places(plan, exchange, frame, cif, fun, user_data);
+    if (plan->nargs > FEW_ARGUMENTS || served->scratch > SMALL_SCRATCH)
+        serve_many(plan, served, exchange, frame, cif, fun, user_data);
+    else if (served->scratch)
+        serve_few(plan, served, exchange, frame, cif, fun, user_data);
+    else if (plan->nargs || served->gives_count || plan->hidden != NO_PLACE)
+        serve_at_places(plan, served, exchange, frame, cif, fun, user_data);
     else
         fun(cif, exchange + RESULT_AT, (void **)(void *)(exchange + RESULT_AT), user_data);
 }
@@ -188,14 +193,21 @@ ALWAYS_INLINE void receive(ENTERED)
 __attribute__((noinline)) static void receive_anew(char *exchange, char *frame, ffi_cif *cif, function *fun,
                                                    void *user_data)
 {
-    receive(planned_again(cif), exchange, frame, cif, fun, user_data);
+    const struct plan *plan = plan_of(cif);
+    const struct served *served = served_by(plan, cif);
+    if (!served) {
+        fputs("libffi: no memory where a closure was entered\n", stderr);
+        abort();
+    }
+    receive(plan, served, exchange, frame, cif, fun, user_data);
 }
 
 ALWAYS_INLINE void receive_by(char *exchange, char *frame, ffi_cif *cif, function *fun, void *user_data)
 {
     const struct plan *plan = plan_if_prepared(cif);
-    if (__builtin_expect(plan != NULL, 1))
-        receive(plan, exchange, frame, cif, fun, user_data);
+    const struct served *served = plan ? atomic_load_explicit(&plan->served, memory_order_acquire) : NULL;
+    if (__builtin_expect(served != NULL, 1))
+        receive(plan, served, exchange, frame, cif, fun, user_data);
     else
         receive_anew(exchange, frame, cif, fun, user_data);
 }

@@ -14,6 +14,9 @@ ffi_status ffi_prep_closure_loc(ffi_closure *closure, ffi_cif *cif, void (*fun)(
 {
     if (!host_has_abi(cif->abi, false))
         return FFI_BAD_ABI;
+    const struct plan *plan = plan_if_prepared(cif);
+    if (plan && !served_by(plan, cif))
+        return FFI_BAD_TYPEDEF;
     entry *entry = host_entry(cif->abi);
     if (!has_code_of_block(closure, codeloc)) {
         /* In memory of the client's own: the slot's code, to the byte, in front of its data. */
@@ -38,6 +41,9 @@ ffi_status ffi_prep_go_closure(ffi_go_closure *closure, ffi_cif *cif, void (*fun
 {
     if (!host_has_abi(cif->abi, false))
         return FFI_BAD_ABI;
+    const struct plan *plan = plan_if_prepared(cif);
+    if (plan && !served_by(plan, cif))
+        return FFI_BAD_TYPEDEF;
     entry *entry = host_go_entry(cif->abi);
     memcpy(&closure->tramp, &entry, sizeof entry);
     closure->cif = cif;

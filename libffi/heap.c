@@ -14,15 +14,28 @@
 static _Alignas(16) char bytes[16384];
 static size_t used;
 static bool is_full; /* malloc has served */
+static uint64_t count, left; /* how often the library was entered anew; the number that it was left with */
 
-void library_enter(void)
+bool library_enter_again(uint64_t number)
 {
     pthread_mutex_lock(&library_lock);
-    used = 0;
-    is_full = false;
+    bool is_last = number && number == left;
+    if (!is_last) {
+        used = 0;
+        is_full = false;
+        count++;
+    }
+    return is_last;
 }
 
-void library_leave(void) { pthread_mutex_unlock(&library_lock); }
+void library_enter(void) { (void)library_enter_again(0); }
+
+uint64_t library_leave(void)
+{
+    uint64_t number = left = is_full ? 0 : count;
+    pthread_mutex_unlock(&library_lock);
+    return number;
+}
 
 bool library_has_malloced(void) { return is_full; }
 

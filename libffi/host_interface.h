@@ -30,8 +30,9 @@ bool host_put_long_double(struct key *key, const ffi_type *type, ffi_abi abi, bo
 /* The nodes, at most three, that the library is told for `count` of them; answers how many nodes. */
 size_t host_tell_long_doubles(uint32_t count, bool is_result, struct ffi3_node *told);
 
-/* What follows for the moves that the library told, and for the plan. */
+/* What follows for the moves that the library told, for the plan and for its callee's part. */
 void host_correct(const struct key *key, struct told *told);
 void host_complete(const struct key *key, struct plan *plan);
+void host_complete_served(const struct key *key, struct served *served);
 
 #endif

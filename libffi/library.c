@@ -36,6 +36,10 @@ void told_end(struct told *told)
         free(told->lists[list].malloced);
 }
 
+/* What the library keeps of its last answer, in memory that is free when it is asked of something else. Under
+ * library_lock. */
+static struct ffi3_interface last = FFI3_NO_INTERFACE;
+
 /* One list: where there is room for it, or where malloc gives it. */
 static bool has_told(struct ffi3_interface *interface, uint32_t list, struct told *told)
 {
@@ -70,26 +74,30 @@ static bool has_told_all(struct ffi3_interface *interface, struct told *told)
 {
     bool has = ffi3_sizes(interface, &told->sizes) == FFI3_OK && told->sizes.frame <= INT32_MAX;
     for (uint32_t list = 0; list < LISTS && has; list++)
-        has = has_told(interface, list, told);
+        if (told->asked >> list & 1)
+            has = has_told(interface, list, told);
     return has;
 }
 
 static bool has_asked(const struct key *key, const struct ffi3_node *nodes, size_t length, uint32_t fixed,
-                      struct told *told)
+                      uint32_t lists, uint64_t answer, struct told *told)
 {
-    struct ffi3_interface interface = FFI3_NO_INTERFACE;
     struct ffi3_fault fault;
     uint32_t target = host_target((ffi_abi)key->nodes[0].count);
     /* The library wants one that is fixed, and libffi none; all of these standards place it as if it were not. */
     if (fixed == 0)
         fixed = length > type_end(nodes, 0) ? 1 : FFI3_NOT_VARIADIC;
     memset(told, 0, offsetof(struct told, own_moves));
-    library_enter();
-    bool has = ffi3_prepare(target, nodes, length, fixed, &interface, &fault) == FFI3_OK &&
-               has_told_all(&interface, told);
+    told->asked = lists;
+    bool has = library_enter_again(answer);
+    if (!has) {
+        last = (struct ffi3_interface)FFI3_NO_INTERFACE;
+        has = ffi3_prepare(target, nodes, length, fixed, &last, &fault) == FFI3_OK;
+    }
+    has = has && has_told_all(&last, told);
     if (library_has_malloced())
-        ffi3_release(&interface);
-    library_leave();
+        ffi3_release(&last);
+    told->answer = library_leave();
     if (has)
         told->stack = stack_of(told);
     else
@@ -97,16 +105,17 @@ static bool has_asked(const struct key *key, const struct ffi3_node *nodes, size
     return has;
 }
 
-bool has_asked_moves(const struct key *key, struct told *told)
+bool has_asked_moves(const struct key *key, uint32_t lists, uint64_t answer, struct told *told)
 {
     uint32_t fixed = key->fixed;
     struct ffi3_node own_nodes[96], *nodes = own_nodes;
     if (!(key->kinds & NODES_OF_OWN))
-        return has_asked(key, key->nodes + NODES_BEFORE_TYPES, key->length - NODES_BEFORE_TYPES, fixed, told);
+        return has_asked(key, key->nodes + NODES_BEFORE_TYPES, key->length - NODES_BEFORE_TYPES, fixed, lists, answer,
+                         told);
     if (3 * key->length > sizeof own_nodes / sizeof *own_nodes)
         nodes = malloc(3 * key->length * sizeof *nodes);
     size_t length = nodes ? told_nodes(key, nodes, &fixed) : 0;
-    bool has = length && has_asked(key, nodes, length, fixed, told);
+    bool has = length && has_asked(key, nodes, length, fixed, LISTS_OF_CALLS | LISTS_OF_CLOSURES, 0, told);
     if (has)
         host_correct(key, told);
     if (nodes != own_nodes)

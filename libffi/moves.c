@@ -134,9 +134,9 @@ static void fill_moves(struct plan *plan, struct reader *it)
 
 /* Where a closure finds an argument: where it stands, if that is one place. In registers nothing is aligned to 16. What
  * stands in more is gathered by the callee's moves. */
-static struct source source_of(struct plan *plan, struct reader *it)
+static struct source source_of(struct served *served, struct reader *it)
 {
-    struct move *moves = &plan->gathers[plan->gathers_count];
+    struct move *moves = &served->gathers[served->gathers_count];
     uint32_t count = 0, first = (uint32_t)it->next->from;
     if (it->next->kind == FFI3_MOVE_BEHIND) {
         it->next++;
@@ -150,34 +150,58 @@ static struct source source_of(struct plan *plan, struct reader *it)
     }
     if (count == 1 && (moves->from >= FRAME_AT || it->type->alignment <= 8))
         return (struct source){AT_PLACE, moves->from, 0, 0};
-    struct source source = {GATHERED, plan->scratch, plan->gathers_count, count};
-    plan->gathers_count += count;
-    plan->scratch += (uint32_t)(it->type->size + 15) / 16 * 16;
+    struct source source = {GATHERED, served->scratch, served->gathers_count, count};
+    served->gathers_count += count;
+    served->scratch += (uint32_t)(it->type->size + 15) / 16 * 16;
     return source;
 }
 
-/* Answers whether each argument has its moves. */
-static bool has_filled_arguments(struct plan *plan, const struct told *told, const ffi_cif *cif)
+/* Goes on to an argument that is not void, and answers whether there is one. */
+static inline bool has_argument(struct reader *it, const ffi_cif *cif)
 {
-    struct reader in = reader_of(&told->lists[FFI3_MOVES_TO_STORE]);
-    struct reader out = reader_of(&told->lists[FFI3_MOVES_TO_COLLECT]);
-    for (uint16_t number = 0; number < cif->nargs; number++) {
-        plan->sources[number] = (struct source){AT_PLACE, 0, 0, 0};
-        if (cif->arg_types[number]->type == FFI_TYPE_VOID)
-            continue;
-        if (!has_more(&in) || !has_more(&out))
+    while (it->number < cif->nargs && cif->arg_types[it->number]->type == FFI_TYPE_VOID)
+        it->number++;
+    if (it->number == cif->nargs)
+        return false;
+    it->type = cif->arg_types[it->number];
+    return true;
+}
+
+/* Answers whether each argument has its moves. */
+static bool has_filled_moves(struct plan *plan, const struct told *told, const ffi_cif *cif)
+{
+    struct reader it = reader_of(&told->lists[FFI3_MOVES_TO_STORE]);
+    for (; has_argument(&it, cif); it.number++, it.part++) {
+        if (!has_more(&it))
             return false;
-        in.number = number;
-        in.type = out.type = cif->arg_types[number];
-        fill_moves(plan, &in);
-        out.start = in.start;
-        plan->sources[number] = source_of(plan, &out);
-        in.part++;
-        out.part++;
+        fill_moves(plan, &it);
     }
-    if (in.next < in.end) {
-        plan->number_at = (uint32_t)in.next->to;
-        plan->number = in.next->from;
+    if (it.next < it.end) {
+        plan->number_at = (uint32_t)it.next->to;
+        plan->number = it.next->from;
+    }
+    return true;
+}
+
+/* Where the value of the argument that is next begins, whose first byte is written by one of its moves. */
+static uint64_t start_of(const struct reader *it)
+{
+    uint64_t start = it->next->to;
+    for (const struct ffi3_move *next = it->next; next < it->end && next->part == it->part; next++)
+        start = next->to < start ? next->to : start;
+    return start;
+}
+
+/* The same of a callee's. */
+static bool has_filled_sources(struct served *served, const struct told *told, const ffi_cif *cif)
+{
+    struct reader it = reader_of(&told->lists[FFI3_MOVES_TO_COLLECT]);
+    memset(served->sources, 0, cif->nargs * sizeof *served->sources); /* of what is void: AT_PLACE 0 */
+    for (; has_argument(&it, cif); it.number++, it.part++) {
+        if (!has_more(&it))
+            return false;
+        it.start = start_of(&it);
+        served->sources[it.number] = source_of(served, &it);
     }
     return true;
 }
@@ -202,10 +226,9 @@ static struct move give_of(const struct ffi3_move *told, const ffi_type *type)
 }
 
 /* A hidden result is in the client's own buffer: there is no move for it. */
-static void fill_result(struct plan *plan, const struct told *told, const ffi_type *type)
+static void fill_loads(struct plan *plan, const struct told *told, const ffi_type *type)
 {
-    const struct moves *loads = &told->lists[FFI3_MOVES_TO_LOAD], *gives = &told->lists[FFI3_MOVES_TO_GIVE],
-                       *hidden = &told->lists[FFI3_MOVES_OF_HIDDEN];
+    const struct moves *loads = &told->lists[FFI3_MOVES_TO_LOAD], *hidden = &told->lists[FFI3_MOVES_OF_HIDDEN];
     plan->hidden = plan->back = NO_PLACE;
     if (hidden->count) {
         plan->hidden = (uint32_t)hidden->first->to;
@@ -218,9 +241,14 @@ static void fill_result(struct plan *plan, const struct told *told, const ffi_ty
         struct move move = load_of(&loads->first[k], type);
         plan->loads_count = add(plan->loads, plan->loads_count, &move);
     }
+}
+
+static void fill_gives(struct served *served, const struct told *told, const ffi_type *type)
+{
+    const struct moves *gives = &told->lists[FFI3_MOVES_TO_GIVE];
     for (size_t k = 0; k < gives->count; k++) {
         struct move move = give_of(&gives->first[k], type);
-        plan->gives_count = add(plan->gives, plan->gives_count, &move);
+        served->gives_count = add(served->gives, served->gives_count, &move);
     }
 }
 
@@ -246,57 +274,61 @@ void told_mirror(struct told *told)
     }
 }
 
-/* The plan, whose moves and sources stand in `room`, in memory of its own that has no more than it wants. */
+/* The plan, whose moves stand elsewhere, in memory of its own that has no more than it wants. */
 static struct plan *kept(const struct plan *made, const struct key *key)
 {
-    size_t moves = made->moves_count, loads = made->loads_count, gives = made->gives_count;
-    size_t gathers = made->gathers_count, nargs = made->nargs, nodes = made->word ? 0 : key->length;
-    struct plan *plan = malloc(sizeof *plan + (moves + loads + gives + gathers) * sizeof(struct move) +
-                               nargs * sizeof(struct source) + nodes * sizeof *plan->nodes);
+    size_t moves = made->moves_count, loads = made->loads_count, nodes = made->word ? 0 : key->length;
+    struct plan *plan = malloc(sizeof *plan + (moves + loads) * sizeof(struct move) + nodes * sizeof *plan->nodes);
     if (!plan)
         return NULL;
     *plan = *made;
     plan->moves = (struct move *)(plan + 1);
     plan->loads = plan->moves + moves;
-    plan->gives = plan->loads + loads;
-    plan->gathers = plan->gives + gives;
-    plan->sources = (struct source *)(plan->gathers + gathers);
     memcpy(plan->moves, made->moves, moves * sizeof(struct move));
     memcpy(plan->loads, made->loads, loads * sizeof(struct move));
-    memcpy(plan->gives, made->gives, gives * sizeof(struct move));
-    memcpy(plan->gathers, made->gathers, gathers * sizeof(struct move));
-    memcpy(plan->sources, made->sources, nargs * sizeof(struct source));
-    plan->nodes = memcpy(plan->sources + nargs, key->nodes, nodes * sizeof *plan->nodes);
+    plan->nodes = memcpy(plan->loads + loads, key->nodes, nodes * sizeof *plan->nodes);
     plan->nodes_count = nodes;
     return plan;
 }
 
 struct plan *plan_from(const struct key *key, uint64_t word, const struct told *told, const ffi_cif *cif)
 {
-    size_t stores = told->lists[FFI3_MOVES_TO_STORE].count, collects = told->lists[FFI3_MOVES_TO_COLLECT].count;
-    size_t loads = told->lists[FFI3_MOVES_TO_LOAD].count + MOST_BESIDE;
-    size_t gives = told->lists[FFI3_MOVES_TO_GIVE].count + MOST_BESIDE;
-    size_t room = stores + loads + gives + collects;
+    size_t stores = told->lists[FFI3_MOVES_TO_STORE].count;
+    size_t room = stores + told->lists[FFI3_MOVES_TO_LOAD].count + MOST_BESIDE;
     struct move own_moves[64], *moves = own_moves;
-    struct source own_sources[16], *sources = own_sources;
     if (room > sizeof own_moves / sizeof *own_moves)
         moves = malloc(room * sizeof *moves);
-    if (cif->nargs > sizeof own_sources / sizeof *own_sources)
-        sources = malloc(cif->nargs * sizeof *sources);
     struct plan *plan = NULL, made = {
         .word = word, .abi = cif->abi, .nargs = cif->nargs,
         .stack = (uint32_t)told->stack, .frame = (uint32_t)told->sizes.frame,
-        .number_at = offsetof(struct exchange, unused),
-        .moves = moves, .loads = moves + stores, .gives = moves + stores + loads,
-        .gathers = moves + stores + loads + gives, .sources = sources};
-    if (moves && sources && has_filled_arguments(&made, told, cif)) {
-        fill_result(&made, told, cif->rtype);
+        .number_at = offsetof(struct exchange, unused), .answer = told->answer,
+        .moves = moves, .loads = moves + stores};
+    if (moves && has_filled_moves(&made, told, cif)) {
+        fill_loads(&made, told, cif->rtype);
         host_complete(key, &made);
         plan = kept(&made, key);
     }
     if (moves != own_moves)
         free(moves);
-    if (sources != own_sources)
-        free(sources);
     return plan;
+}
+
+struct served *served_from(const struct key *key, const struct told *told, const ffi_cif *cif)
+{
+    size_t gives = told->lists[FFI3_MOVES_TO_GIVE].count + MOST_BESIDE;
+    size_t collects = told->lists[FFI3_MOVES_TO_COLLECT].count;
+    struct served *served = malloc(sizeof *served + (gives + collects) * sizeof(struct move) +
+                                   cif->nargs * sizeof(struct source));
+    if (!served)
+        return NULL;
+    *served = (struct served){.gives = (struct move *)(served + 1)};
+    served->gathers = served->gives + gives;
+    served->sources = (struct source *)(served->gathers + collects);
+    if (!has_filled_sources(served, told, cif)) {
+        free(served);
+        return NULL;
+    }
+    fill_gives(served, told, cif->rtype);
+    host_complete_served(key, served);
+    return served;
 }

@@ -67,15 +67,21 @@ struct plan {
     uint32_t hidden;  /* the place of the address of the result's buffer, or NO_PLACE */
     uint32_t back;    /* the place in which the callee gives it back, or NO_PLACE */
     uint32_t buffer;  /* the place of that buffer, where the client has none */
-    uint32_t scratch; /* bytes for a closure's gathered arguments */
     uint32_t moves_count;
     uint32_t loads_count;
+    struct move *moves; /* the caller's, of the arguments */
+    struct move *loads; /* the caller's, of the result */
+    uint64_t answer;    /* the library's, by which it is asked for the rest */
+    _Atomic(const struct served *) served;
+};
+
+/* The callee's part of a plan, which is made for the first closure of its signature. */
+struct served {
+    uint32_t scratch; /* bytes for gathered arguments */
     uint32_t gives_count;
     uint32_t gathers_count;
-    struct move *moves;   /* the caller's, of the arguments */
-    struct move *loads;   /* the caller's, of the result */
-    struct move *gives;   /* the callee's, of the result */
-    struct move *gathers; /* the callee's, of arguments that stand in pieces */
+    struct move *gives;   /* of the result */
+    struct move *gathers; /* of arguments that stand in pieces */
     struct source *sources;
 };
 
@@ -91,7 +97,12 @@ struct moves {
 
 #define LISTS 5 /* FFI3_MOVES_TO_STORE and so on */
 
+#define LISTS_OF_CALLS (1u << FFI3_MOVES_TO_STORE | 1u << FFI3_MOVES_TO_LOAD | 1u << FFI3_MOVES_OF_HIDDEN)
+#define LISTS_OF_CLOSURES (1u << FFI3_MOVES_TO_COLLECT | 1u << FFI3_MOVES_TO_GIVE)
+
 struct told {
+    uint32_t asked;  /* which lists, by bits */
+    uint64_t answer; /* the number of the library's answer */
     struct ffi3_sizes sizes;
     uint64_t stack; /* bytes of the frame that are passed on the stack: it begins with them */
     struct moves lists[LISTS];
@@ -99,20 +110,25 @@ struct told {
     struct ffi3_move own_moves[64];
 };
 
-/* Asks the library for the moves of a key; answers false where it has none, or memory was refused. told_end gives
- * memory back. */
-bool has_asked_moves(const struct key *key, struct told *told);
+/* Asks the library for lists of moves of a key, for all of them where a host has a part in it; answers false where it
+ * has none, or memory was refused. `answer` is the number of what it answered of this key, or 0. told_end gives memory
+ * back. */
+bool has_asked_moves(const struct key *key, uint32_t lists, uint64_t answer, struct told *told);
 void told_end(struct told *told);
 
 /* Makes the callee's moves of the arguments anew, from the caller's, where a host has placed a long double. */
 void told_mirror(struct told *told);
 
-/* Makes a plan of what was told: malloc's, or NULL. */
+/* Make a plan, and its callee's part, of what was told: malloc's, or NULL. */
 struct plan *plan_from(const struct key *key, uint64_t word, const struct told *told, const ffi_cif *cif);
+struct served *served_from(const struct key *key, const struct told *told, const ffi_cif *cif);
 
 /* The plan of an interface whose types are laid out, from the table or a new one; or NULL, where there is none or
  * memory was refused. `fixed` as in key.h. */
 const struct plan *plan_for(const ffi_cif *cif, unsigned fixed);
+
+/* The callee's part of the interface's plan, from there or a new one; or NULL, where memory was refused. */
+const struct served *served_by(const struct plan *plan, const ffi_cif *cif);
 
 /* ---- From a prepared interface to its plan: `flags` has the index and a mark, `bytes` the plan's stack. */
 

@@ -30,6 +30,11 @@ static uint64_t hash_of(const struct key *key)
     return finished(hash);
 }
 
+static inline bool has_nodes(const struct plan *plan, const struct key *key)
+{
+    return plan->nodes_count == key->length && memcmp(plan->nodes, key->nodes, key->length * sizeof *key->nodes) == 0;
+}
+
 /* The plan of a word, or, where that is 0, of a key. */
 static inline const struct plan *found(const struct table *table, uint64_t hash, uint64_t word, const struct key *key)
 {
@@ -39,8 +44,7 @@ static inline const struct plan *found(const struct table *table, uint64_t hash,
             return NULL;
         if (plan->hash != hash || plan->word != word)
             continue;
-        if (word || (plan->nodes_count == key->length &&
-                     memcmp(plan->nodes, key->nodes, key->length * sizeof *key->nodes) == 0))
+        if (word || has_nodes(plan, key))
             return plan;
     }
     return NULL;
@@ -96,13 +100,33 @@ static bool has_entered(struct plan *plan)
     return true;
 }
 
+static void plan_end(struct plan *plan)
+{
+    free((void *)(uintptr_t)atomic_load(&plan->served));
+    free(plan);
+}
+
+/* A plan of what was told, with the callee's part, where all of that was told too. */
+static struct plan *plan_of_told(const struct key *key, uint64_t word, const struct told *told, const ffi_cif *cif)
+{
+    struct plan *plan = plan_from(key, word, told, cif);
+    if (!plan || !(told->asked & LISTS_OF_CLOSURES))
+        return plan;
+    struct served *served = served_from(key, told, cif);
+    atomic_store(&plan->served, served);
+    if (served)
+        return plan;
+    plan_end(plan);
+    return NULL;
+}
+
 /* A new plan of a key that has nodes, or the one that another thread has made of it. */
 static const struct plan *make(const struct key *key, uint64_t hash, uint64_t word, const ffi_cif *cif)
 {
     struct told told;
-    if (!has_asked_moves(key, &told))
+    if (!has_asked_moves(key, LISTS_OF_CALLS, 0, &told))
         return NULL;
-    struct plan *plan = plan_from(key, word, &told, cif);
+    struct plan *plan = plan_of_told(key, word, &told, cif);
     const struct plan *kept = NULL;
     told_end(&told);
     if (!plan)
@@ -114,8 +138,48 @@ static const struct plan *make(const struct key *key, uint64_t hash, uint64_t wo
         kept = plan;
     pthread_mutex_unlock(&plans_lock);
     if (kept != plan)
-        free(plan);
+        plan_end(plan);
     return kept;
+}
+
+/* The callee's part of a plan, or the one that another thread has made of it. */
+static const struct served *serve(struct plan *plan, const struct key *key, const ffi_cif *cif)
+{
+    struct told told;
+    if (!has_asked_moves(key, LISTS_OF_CLOSURES, plan->answer, &told))
+        return NULL;
+    struct served *served = served_from(key, &told, cif);
+    told_end(&told);
+    pthread_mutex_lock(&plans_lock);
+    const struct served *kept = atomic_load(&plan->served);
+    if (!kept) {
+        atomic_store_explicit(&plan->served, served, memory_order_release);
+        kept = served;
+    }
+    pthread_mutex_unlock(&plans_lock);
+    if (kept != served)
+        free(served);
+    return kept;
+}
+
+/* Whether the interface's types are still those of its plan, which others share. */
+static bool is_of(const struct plan *plan, const struct key *key, const ffi_cif *cif)
+{
+    return plan->word ? plan->word == word_of(cif->abi, cif->nargs, cif->rtype, cif->arg_types) : has_nodes(plan, key);
+}
+
+const struct served *served_by(const struct plan *plan, const ffi_cif *cif)
+{
+    const struct served *served = atomic_load_explicit(&plan->served, memory_order_acquire);
+    struct key key;
+    if (served)
+        return served;
+    /* The plan's own nodes have how many arguments are fixed. */
+    key_tell(&key, cif, plan->word ? FFI3_NOT_VARIADIC : plan->nodes[1].count);
+    if (key.status == FFI_OK && is_of(plan, &key, cif))
+        served = serve((struct plan *)(uintptr_t)plan, &key, cif);
+    key_end(&key);
+    return served;
 }
 
 static const struct plan *plan_by_nodes(const ffi_cif *cif, unsigned fixed, uint64_t word)

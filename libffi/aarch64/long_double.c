@@ -120,3 +120,5 @@ void host_correct(const struct key *key, struct told *told)
 }
 
 void host_complete(const struct key *key, struct plan *plan) { plan->beside = has_long_doubles(key); }
+
+void host_complete_served(const struct key *key, struct served *served) { (void)key, (void)served; }

@@ -74,6 +74,15 @@ void host_complete(const struct key *key, struct plan *plan)
     for (uint32_t k = 0; k < plan->beside; k++) {
         uint32_t place = X87_AT + 16 * k, at = 16 * k;
         plan->loads[plan->loads_count++] = (struct move){.kind = MOVE_BYTES, .from = place, .to = at, .length = 10};
-        plan->gives[plan->gives_count++] = (struct move){.kind = MOVE_BYTES, .from = at, .to = place, .length = 10};
+    }
+}
+
+void host_complete_served(const struct key *key, struct served *served)
+{
+    const struct ffi3_node *result = &key->nodes[NODES_BEFORE_TYPES];
+    uint32_t count = result->kind == NODE_LONG_DOUBLES ? result->count : 0;
+    for (uint32_t k = 0; k < count; k++) {
+        uint32_t place = X87_AT + 16 * k, at = 16 * k;
+        served->gives[served->gives_count++] = (struct move){.kind = MOVE_BYTES, .from = at, .to = place, .length = 10};
     }
 }

@@ -210,6 +210,33 @@ static void change_types(void)
     EXPECT(got == 2.5);
 }
 
+/* What a closure needs is found when its signature's first one is prepared, or is entered, if its interface came later;
+ * and by types that are not the interface's it is not found. */
+static void write_sum(ffi_cif *cif, void *result, void **values, void *data)
+{
+    (void)cif, (void)data;
+    *(ffi_sarg *)result = *(short *)values[0] + *(long *)values[1];
+}
+
+static void serve_late(void)
+{
+    ffi_type *types[] = {&ffi_type_sint16, &ffi_type_sint64, &ffi_type_float};
+    ffi_cif cif = {.abi = FFI_DEFAULT_ABI};
+    void *code;
+    ffi_closure *closure = ffi_closure_alloc(sizeof *closure, &code);
+    EXPECT(ffi_prep_closure_loc(closure, &cif, write_sum, NULL, code) == FFI_OK);
+    EXPECT(ffi_prep_cif(&cif, FFI_DEFAULT_ABI, 3, &ffi_type_sint32, types) == FFI_OK);
+    EXPECT(((int (*)(short, long, float))code)(-3, 45, 0.5f) == 42);
+    types[2] = &ffi_type_uint8;
+    EXPECT(ffi_prep_cif(&cif, FFI_DEFAULT_ABI, 3, &ffi_type_sint32, types) == FFI_OK);
+    types[2] = types[0] = &ffi_type_double;
+    EXPECT(ffi_prep_closure_loc(closure, &cif, write_sum, NULL, code) == FFI_BAD_TYPEDEF);
+    types[2] = &ffi_type_uint8, types[0] = &ffi_type_sint16;
+    EXPECT(ffi_prep_closure_loc(closure, &cif, write_sum, NULL, code) == FFI_OK);
+    EXPECT(((int (*)(short, long, unsigned char))code)(-3, 45, 7) == 42);
+    ffi_closure_free(closure);
+}
+
 /* ---- A frame that is larger than the thread's stack meets the guard page: nothing beyond it is written. */
 
 #define BEYOND (1 << 20)
@@ -314,6 +341,7 @@ int main(int count, char **words)
     tell_offsets();
     give_nothing();
     change_types();
+    serve_late();
     meet_guard();
     prepare_many();
     return ended();

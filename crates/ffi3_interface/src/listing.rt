@@ -2,17 +2,17 @@
 ghost use Rattle.std.specs.Prelude.{◌≡◌, IfOk, map, slice_get};
 ghost use Rattle.ffi3_moves.specs.Moves.{moves_of};
 ghost use Rattle.ffi3_prepared.specs.Prepared.{signature_in, standard_in};
-ghost use Rattle.ffi3_interface.specs.Listing.{TellsMoves, kind_number, lists, moves_by, told_move, told_moves};
+ghost use Rattle.ffi3_capi.specs.Filled.{filled, has_room};
+ghost use Rattle.ffi3_interface.specs.Listing.{TellsMoves, kind_number, lists, moves_by, told_move};
 
 use ffi3_capi::codes::{NOT_PREPARED, OUT_OF_MEMORY, UNKNOWN_VALUE};
-use ffi3_capi::fill::{fill, room_status};
+use ffi3_capi::fill::room_status;
 use ffi3_cif::Cif;
 use ffi3_handle::{Handle, Kept};
 use ffi3_moves::{
     Kind, Move, Moves, hidden_move, moves_to_collect, moves_to_give, moves_to_load, moves_to_store,
 };
 use ffi3_place::Abi;
-use ffi3_place_rules::Listed;
 use ffi3_prepared::Prepared;
 use ffi3_types::NoMemory;
 use std::alloc::Global;
@@ -125,23 +125,18 @@ fn moves_on(alloc: Global, p: &Prepared, list: MoveList) -> Result<Moves, NoMemo
     }
 }
 
-/// Moves, as C has them.
-fn as_told(alloc: Global, moves: &Moves) -> Result<Listed<ToldMove>, NoMemory>
-    ensures { IfOk result (λ told. told ≡ map told_move moves.now) }
+/// Writes moves, as C has them, to the front of the array, if all of them have room there. Answers whether they have.
+fn fill_told(moves: &Moves, array: &mut [ToldMove]) -> bool
+    ensures fits { result ≡ has_room (map told_move moves.now) array.old }
+    ensures written { array.new ≡ filled (map told_move moves.now) array.old }
 {
-    let mut told = Listed::new(alloc);
-    for i in 0..moves.len() {
-        told.push(told_move(moves.get(i)))?;
+    if array.len() < moves.len() {
+        return false;
     }
-    Ok(told)
-}
-
-/// A list, as C has moves.
-fn told_moves(alloc: Global, p: &Prepared, list: MoveList) -> Result<Listed<ToldMove>, NoMemory>
-    ensures { IfOk result (λ told. told ≡ told_moves p.now list) }
-{
-    let moves = moves_on(alloc, p, list)?;
-    as_told(alloc, &moves)
+    for i in 0..moves.len() {
+        array[i] = told_move(moves.get(i));
+    }
+    true
 }
 
 /// A list of the interface that is kept, by its number, for a caller's array. The number that is answered tells whether
@@ -164,10 +159,10 @@ pub fn tell_moves(
         return NOT_PREPARED;
     }
     let kept: &Kept = it.value_mut();
-    match told_moves(alloc, &kept.prepared, which) {
+    match moves_on(alloc, &kept.prepared, which) {
         Ok(found) => {
             *count = found.len();
-            room_status(fill(&found, array))
+            room_status(fill_told(&found, array))
         }
         Err(_) => OUT_OF_MEMORY,
     }

@@ -13,7 +13,7 @@ returns-then-not-is_kept-clause-told c =
 
 pub returns-in-Ok-clause-told : goal.returns-in-Ok-clause-told
 returns-in-Ok-clause-told c =
-    moves_told c.value_mut-kept.result.now c.in-Some.which c.deref.result.now c.in-Ok.found c.fill.new.array c.fill.result c.room_status.result c.len.result (search rules) (sym c.list_numbered.ensures ∙ c.in-Some.is) c.deref.ensures c.in-Ok.ensures c.len.ensures c.fill.ensures.fits c.room_status.ensures c.fill.ensures.written
+    moves_told c.value_mut-kept.result.now c.in-Some.which c.deref.result.now c.in-Ok.found c.fill_told.new.array c.fill_told.result c.room_status.result c.len.result (search rules) (sym c.list_numbered.ensures ∙ c.in-Some.is) c.deref.ensures c.in-Ok.ensures c.len.ensures c.fill_told.ensures.fits c.room_status.ensures c.fill_told.ensures.written
 
 pub returns-in-Err-clause-told : goal.returns-in-Err-clause-told
 returns-in-Err-clause-told c =
