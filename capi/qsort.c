@@ -1,13 +1,14 @@
-/* Calls the C library's qsort by a prepared interface, with a comparison that is called back by another. On AMD64:
- *     cc -std=c11 qsort.c qsort_amd64.s $(pkg-config --cflags --libs ffi3) && ./a.out
+/* Calls the C library's qsort by a prepared interface, with a comparison that is called back by another. On AMD64, and
+ * with qsort_aarch64.s on AArch64: cc -std=c11 qsort.c qsort_amd64.s $(pkg-config --cflags --libs ffi3) && ./a.out
  */
 #include <stdio.h>
 #include <stdlib.h>
 
 #include "ffi3.h"
 
-/* In qsort_amd64.s: a call with these registers, which then has those of the return; and a comparison for qsort, which
- * calls compare_entered and returns with the registers that this leaves. */
+/* In qsort_amd64.s: the machine's standard; a call with these registers, which then has those of the return; and a
+ * comparison for qsort, which calls compare_entered and returns with the registers that this leaves. */
+extern const uint32_t host_target;
 void call_with(void (*function)(void), struct ffi3_registers *registers);
 void compare_by_stub(void);
 void compare_entered(struct ffi3_registers *registers, const unsigned char *stack);
@@ -28,7 +29,7 @@ static void must(uint32_t status)
 
 void compare_entered(struct ffi3_registers *registers, const unsigned char *stack)
 {
-    unsigned char entry[8]; /* the return address: neither the arguments nor the result stand on the stack */
+    unsigned char entry[8]; /* AMD64's return address: neither the arguments nor the result stand on the stack */
     struct ffi3_reason reason;
     const int *values[2];
     must(ffi3_collect(&compare, registers, stack, sizeof entry, (unsigned char *)values, sizeof values, &reason));
@@ -47,8 +48,8 @@ int main(void)
     struct ffi3_registers registers = {{0}, {0}, 0};
     struct ffi3_fault fault;
     unsigned char entry[8];
-    must(ffi3_prepare(FFI3_AMD64, of_sort, 5, FFI3_NOT_VARIADIC, &sort, &fault));
-    must(ffi3_prepare(FFI3_AMD64, of_compare, 3, FFI3_NOT_VARIADIC, &compare, &fault));
+    must(ffi3_prepare(host_target, of_sort, 5, FFI3_NOT_VARIADIC, &sort, &fault));
+    must(ffi3_prepare(host_target, of_compare, 3, FFI3_NOT_VARIADIC, &compare, &fault));
     must(ffi3_store(&sort, (unsigned char *)&values, sizeof values, &registers, entry, sizeof entry));
     call_with((void (*)(void))qsort, &registers);
     for (size_t i = 0; i < values.count; i++)

@@ -42,4 +42,9 @@ compare_by_stub:
     .cfi_adjust_cfa_offset -520
     ret
     .cfi_endproc
+    .section .rodata
+    .globl host_target
+    .balign 4
+host_target:
+    .long 0                     # FFI3_AMD64
     .section .note.GNU-stack, "", @progbits

@@ -5,3 +5,4 @@ pub mod Opening
 pub mod Taking
 pub mod OneType
 pub mod Shallow
+pub mod Few

@@ -1,8 +1,13 @@
 -- The nodes of one type.
 use Rattle.std.proofs.Common.{◌≡◌, ℕ, List, [], ◌∷◌, ◌++◌, length, ap, sym, ◌∙◌, refl, subst, arith, append-nil}
+use Rattle.ffi3_type_rules.specs.declared.Role.TheVariants.{AsResult}
 use Rattle.ffi3_type_rules.specs.Tree.{Tree}
+use Rattle.ffi3_type_rules.specs.Fault.{IsFault, IsFirstFault}
+use Rattle.ffi3_types.specs.declared.fault.TypeFault.{TypeFault}
+use Rattle.ffi3_types.specs.FaultOf.{path_of, fault_of}
 use Rattle.ffi3_nodes.specs.declared.Node.{Node}
 use Rattle.ffi3_nodes.specs.Nodes.{IsWritten, AreWritten, none, one_more}
+use Rattle.ffi3_nodes.specs.Read.{AreOfOthers, HasNoResultType}
 use Rattle.ffi3_nodes.proofs.Unique.{only_types}
 
 none_behind : (ts : List Tree) (ns : List Node) → AreWritten ts ns → length ts ≡ 0 → ns ≡ []
@@ -20,11 +25,21 @@ first_alone t types left ns count w counted one is =
     let longer = ap length is in
     alone t left ns (subst (λ ts. AreWritten ts ns) is w) (omega (arith, counted, one, longer))
 
+listed : (t : Tree) (ns : List Node) → IsWritten t ns → AreWritten (t ∷ []) ns
+listed t ns is = one_more t [] ns [] ns is none (sym (append-nil ns))
+
 -- there is no other
 pub one_type_alone : (t u : Tree) (ns : List Node) → IsWritten t ns → IsWritten u ns → u ≡ t
 one_type_alone t u ns w v =
-    let same : u ∷ [] ≡ t ∷ [] = only_types (u ∷ []) (t ∷ []) ns ns (listed u v) (listed t w) refl in
+    let same : u ∷ [] ≡ t ∷ [] = only_types (u ∷ []) (t ∷ []) ns ns (listed u ns v) (listed t ns w) refl in
     cc same
-  where
-    listed : (x : Tree) → IsWritten x ns → AreWritten (x ∷ []) ns
-    listed x is = one_more x [] ns [] ns is none (sym (append-nil ns))
+
+-- so those of several are none that can be a result's
+pub others_alone : (ns : List Node) (count : ℕ) → AreOfOthers ns count → HasNoResultType ns
+others_alone ns count are =
+    λ t w right. are.others (are.counted ∙ ap length (only_types are.types (t ∷ []) ns ns are.written (listed t ns w) refl))
+
+-- nor are those of a type that has a fault
+pub faulty_alone : (ns : List Node) (t : Tree) (e : TypeFault) → IsWritten t ns → IsFirstFault 0 AsResult t (path_of e) (fault_of e) → HasNoResultType ns
+faulty_alone ns t e w first =
+    λ u v right. right (path_of e) (fault_of e) (subst (λ x. IsFault 0 AsResult x (path_of e) (fault_of e)) (sym (one_type_alone t u ns w v)) first.is_there)

@@ -4,17 +4,18 @@ use Rattle.std.specs.Prelude.{Option, Some, None, cond}
 use Rattle.std.proofs.Common.{◌≡◌, ℕ, suc, ◌+◌, ◌<◌, inl, inr, true, List, [], ◌∷◌, ◌++◌, length, ap, sym, ◌∙◌, refl, arith, subst, append_assoc, append-nil}
 use Rattle.std.proofs.lemmas.Bool.{cases_lt, lt-leb}
 use Rattle.ffi3_type_rules.specs.declared.limits.TheConstants.{DEEPEST_NESTING}
+use Rattle.ffi3_type_rules.specs.declared.Role.TheVariants.{AsResult}
 use Rattle.ffi3_type_rules.specs.Tree.{Tree, struct_of, array_of, list_of, trees_of, list_of-trees_of, tree_at, parts_of}
-use Rattle.ffi3_type_rules.specs.Fault.{IsLaidOut, has_parts, nested_deep, node_at, too_deep}
+use Rattle.ffi3_type_rules.specs.Fault.{IsLaidOut, IsResultType, has_parts, nested_deep, node_at, too_deep}
 use Rattle.ffi3_type_rules.specs.Signature.{Signature, SignatureHasNoFault, IsFirstSignatureFault}
-use Rattle.ffi3_type_rules.proofs.Faults.{node_outside}
+use Rattle.ffi3_type_rules.proofs.Faults.{node_outside, right_anywhere}
 use Rattle.ffi3_type_rules.proofs.Right.{argument_is_laid_out, result_is_laid_out}
 use Rattle.ffi3_nodes.specs.declared.Node.{Node}
 use Rattle.ffi3_nodes.specs.declared.TheConstants.{STRUCT, ARRAY, DEEPEST}
 use Rattle.ffi3_nodes.specs.Nodes.{node, IsWritten, leaf, structure, array, AreWritten, none, one_more, IsSignatureOf}
 use Rattle.ffi3_nodes.specs.Faults.{NodeFault, begun, closed, fault_from, first_node_fault, or_else}
 use Rattle.ffi3_nodes.specs.Faults as faults
-use Rattle.ffi3_nodes.specs.Read.{IsUncallable, node_fault_of}
+use Rattle.ffi3_nodes.specs.Read.{HasNoResultType, IsUncallable, node_fault_of}
 use Rattle.ffi3_nodes.specs.declared.scan.NodeFault as code
 use Rattle.ffi3_nodes.specs.declared.signature.Refused.TheVariants.{Nodes, Sig}
 use Rattle.ffi3_types.specs.declared.sig.SigFault.{SigFault}
@@ -122,3 +123,15 @@ uncallable_nodes ns fixed f e =
 pub uncallable_signature : (ns : List Node) (fixed : Option ℕ) (t : Signature) (f : SigFault) → IsSignatureOf ns fixed t → IsFirstSignatureFault t (signature_fault_of f) → IsUncallable ns fixed (Sig f)
 uncallable_signature ns fixed t f is first =
     λ s other. subst (λ x. IsFirstSignatureFault x (signature_fault_of f)) (sym (one_signature ns fixed t s is other)) first
+
+-- ---- one type's
+
+pub typeless_nodes : (ns : List Node) (f : code.NodeFault) → first_node_fault ns ≡ Some (node_fault_of f) → HasNoResultType ns
+typeless_nodes ns f e =
+    λ t w right. let both : None ≡ Some (node_fault_of f) = sym (faultless_type t ns w right) ∙ e in cc
+  where
+    faultless_type : (t : Tree) (ns : List Node) → IsWritten t ns → IsResultType t → first_node_fault ns ≡ None
+    faultless_type t ns w right =
+        let shallow = laid_out_not_deep t (right_anywhere 0 AsResult t right) in
+        let all = type_goes [] 0 t ns [] w shallow in
+        from_first ns (ap (fault_from [] 0) (sym (append-nil ns)) ∙ all.1) (λ e. no_types t [] (one_more t [] [] [] [] (subst (IsWritten t) e w) none refl))

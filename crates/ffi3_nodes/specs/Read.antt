@@ -2,7 +2,7 @@
 use Rattle.std.specs.Prelude.{◌≡◌, ℕ, ◌^◌, ◌<◌, ◌≤◌, ⊤, List, Option, Some, None, length}
 use Rattle.ffi3_type_rules.specs.Signature.{Signature, SignatureHasNoFault, IsFirstSignatureFault}
 use Rattle.ffi3_type_rules.specs.declared.Role.TheVariants.{AsResult}
-use Rattle.ffi3_type_rules.specs.Fault.{IsFirstFault}
+use Rattle.ffi3_type_rules.specs.Fault.{IsFirstFault, IsResultType}
 use Rattle.ffi3_types.specs.FaultOf.{path_of, fault_of}
 use Rattle.ffi3_types.specs.SignatureFaultOf.{signature_fault_of}
 use Rattle.ffi3_type_rules.specs.Tree.{Tree}
@@ -45,9 +45,9 @@ IsOfNone ns (Nodes (TooDeep at)) = ⊤
 IsOfNone ns (Sig f) = ⊤
 IsOfNone ns NoMemory = ⊤
 
--- Refused nodes are those of no signature that can be called: each that has them has this first fault, or none has them, or each has some fault. Of too many nodes, and of want of memory, nothing is said.
+-- Refused nodes are those of no signature that can be called: each that has them has this first fault, or none has them, or each has some fault. Of want of memory nothing is said.
 abbrev pub IsUncallable : List Node → Option ℕ → Refused → Type 0
-IsUncallable ns fixed TooLong = ⊤
+IsUncallable ns fixed TooLong = (s : Signature) → IsSignatureOf ns fixed s → SignatureHasNoFault s → ⊥
 IsUncallable ns fixed (Nodes f) = (s : Signature) → IsSignatureOf ns fixed s → SignatureHasNoFault s → ⊥
 IsUncallable ns fixed (Sig f) =
     (s : Signature) → IsSignatureOf ns fixed s → IsFirstSignatureFault s (signature_fault_of f)
@@ -68,6 +68,18 @@ IsRefusedType ns (of_type.NotOne count) = AreNodesOfTypes ns × AreOfOthers ns c
 IsRefusedType ns (of_type.Fault e) =
     AreNodesOfTypes ns × ((t : Tree) × IsWritten t ns × IsFirstFault 0 AsResult t (path_of e) (fault_of e))
 IsRefusedType ns of_type.NoMemory = ⊤
+
+-- no type that can be a result has these nodes
+abbrev pub HasNoResultType : List Node → Type 0
+HasNoResultType ns = (t : Tree) → IsWritten t ns → IsResultType t → ⊥
+
+-- Such nodes are those of no type that can be a result: none has them, or each that has them has a fault. Of want of memory nothing is said.
+abbrev pub IsOfNoResult : List Node → RefusedType → Type 0
+IsOfNoResult ns of_type.TooLong = HasNoResultType ns
+IsOfNoResult ns (of_type.Nodes f) = HasNoResultType ns
+IsOfNoResult ns (of_type.NotOne count) = HasNoResultType ns
+IsOfNoResult ns (of_type.Fault e) = HasNoResultType ns
+IsOfNoResult ns of_type.NoMemory = ⊤
 
 -- what the reader's own steps know, and no refusal speaks of: a node before these types, in nodes without a fault
 pub record Fits (n : Node) (ts : List Tree) : Type 0 where

@@ -32,13 +32,13 @@ impl Model for Behind {
 }
 
 impl Behind {
-    /// Behind the last node there are none.
-    fn new(alloc: Global) -> Behind
-        ensures { result ≡ [] }
+    /// Behind the last node there are none. There is room for so many.
+    fn with_capacity(alloc: Global, capacity: usize) -> Result<Behind, NoMemory>
+        ensures { IfOk result (λ b. b ≡ []) }
     {
-        Behind {
-            types: Vec::new(alloc),
-        }
+        Ok(Behind {
+            types: Vec::with_capacity(alloc, capacity)?,
+        })
     }
 
     /// One stands before them.
@@ -70,7 +70,7 @@ impl Behind {
         ensures taken { IfOk result (λ ts. ts ≡ take count self.old) }
         ensures rest { OnOk result (self.new ≡ drop count self.old) }
     {
-        let mut types = Fields::new(alloc);
+        let mut types = Fields::with_capacity(alloc, count as usize)?;
         for _i in 0..count {
             if let Some(ty) = self.types.pop() {
                 types.push(ty)?;
@@ -93,7 +93,7 @@ impl Behind {
 fn pair(alloc: Global, first: FfiType, second: FfiType) -> Result<FfiType, NoMemory>
     ensures { IfOk result (λ t. tree_of t ≡ struct_of (tree_of first ∷ tree_of second ∷ [])) }
 {
-    let mut parts = Fields::new(alloc);
+    let mut parts = Fields::with_capacity(alloc, 2)?;
     parts.push(first)?;
     parts.push(second)?;
     Ok(FfiType::Struct(parts))
@@ -147,7 +147,7 @@ pub fn build(alloc: Global, nodes: &[Node]) -> Result<Behind, NoMemory>
     requires few { length nodes.now < 2 ^ 32 }
     ensures { IfOk result (λ ts. AreWritten ts nodes.now) }
 {
-    let mut behind = Behind::new(alloc);
+    let mut behind = Behind::with_capacity(alloc, nodes.len())?;
     for i in 0..nodes.len() {
         let ty = first_type(alloc, nodes[nodes.len() - 1 - i], &mut behind)?;
         behind.put(ty)?;

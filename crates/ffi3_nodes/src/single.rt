@@ -5,7 +5,7 @@ ghost use Rattle.ffi3_type_rules.specs.Fault.{IsResultType};
 ghost use Rattle.ffi3_types.specs.TreeOf.{tree_of};
 ghost use Rattle.ffi3_nodes.specs.Faults.{first_node_fault};
 ghost use Rattle.ffi3_nodes.specs.Nodes.{IsWritten};
-ghost use Rattle.ffi3_nodes.specs.Read.{IsRefusedType};
+ghost use Rattle.ffi3_nodes.specs.Read.{IsOfNoResult, IsRefusedType};
 
 use crate::Node;
 use crate::build::build;
@@ -34,6 +34,7 @@ fn single(alloc: Global, nodes: &[Node]) -> Result<FfiType, RefusedType>
     requires few { length nodes.now < 2 ^ 32 }
     ensures ok { IfOk result (λ t. IsWritten (tree_of t) nodes.now) }
     ensures err { IfErr result (λ r. IsRefusedType nodes.now r) }
+    ensures none { IfErr result (λ r. IsOfNoResult nodes.now r) }
 {
     let Ok(mut types) = build(alloc, nodes) else {
         return Err(RefusedType::NoMemory);
@@ -54,6 +55,7 @@ pub fn read_type(alloc: Global, nodes: &[Node]) -> Result<FfiType, RefusedType>
     ensures faultless { IfOk result (λ t. IsResultType (tree_of t)) }
     ensures only { IfOk result (λ t. (other : Tree) → IsWritten other nodes.now → other ≡ tree_of t) }
     ensures err { IfErr result (λ r. IsRefusedType nodes.now r) }
+    ensures none { IfErr result (λ r. IsOfNoResult nodes.now r) }
 {
     if nodes.len() > 0xFFFF_FFFF {
         return Err(RefusedType::TooLong);

@@ -4,7 +4,7 @@ use Rattle.ffi3_nodes.proofs.Building.{written_at_end, node_fits}
 use Rattle.ffi3_nodes.proofs.build.build.Goals as goal
 
 pub loop-i-init : goal.loop-i-init
-loop-i-init c = written_at_end c.args.nodes.now c.new-behind.result c.new-behind.ensures
+loop-i-init c = written_at_end c.args.nodes.now c.in_ok-behind.behind c.in_ok-behind.ensures
 
 pub first_type-requires : goal.first_type-requires
 first_type-requires c =

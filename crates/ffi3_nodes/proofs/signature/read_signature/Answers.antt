@@ -1,4 +1,6 @@
+use Rattle.std.proofs.Common.{◌≤◌, ◌^◌, length, arith}
 use Rattle.ffi3_nodes.proofs.Building.{one_signature, of_none}
+use Rattle.ffi3_nodes.proofs.Few.{too_long}
 use Rattle.ffi3_nodes.proofs.Shallow.{uncallable_nodes, uncallable_signature}
 use Rattle.ffi3_nodes.proofs.signature.read_signature.Goals as goal
 
@@ -14,3 +16,8 @@ returns-in-Err-clause-uncallable c = uncallable_nodes c.args.nodes.now c.args.fi
 pub returns-in-Err-check_sig-clause-uncallable : goal.returns-in-Err-check_sig-clause-uncallable
 returns-in-Err-check_sig-clause-uncallable c =
     uncallable_signature c.args.nodes.now c.args.fixed c.in-Ok.sig c.in-Err-check_sig.fault c.in-Ok.ensures c.in-Err-check_sig.ensures.err
+
+pub returns-then-nodes-gt4294967295-clause-uncallable : goal.returns-then-nodes-gt4294967295-clause-uncallable
+returns-then-nodes-gt4294967295-clause-uncallable c =
+    let long : 2 ^ 32 ≤ length c.args.nodes.now = omega (arith, c.if-nodes-gt4294967295.true) in
+    too_long c.args.nodes.now c.args.fixed long
