@@ -6,3 +6,4 @@ pub mod Taking
 pub mod OneType
 pub mod Shallow
 pub mod Few
+pub mod ScalarsAlone

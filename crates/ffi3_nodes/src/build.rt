@@ -8,6 +8,7 @@ ghost use Rattle.ffi3_nodes.specs.Faults.{first_node_fault};
 ghost use Rattle.ffi3_nodes.specs.Read.{Fits};
 ghost use Rattle.ffi3_nodes.specs.declared.Node.{Node};
 
+use crate::scalars::scalar;
 use crate::{ARRAY, Node, STRUCT};
 use ffi3_types::{FfiType, Fields, NoMemory};
 use std::alloc::Global;
@@ -104,20 +105,10 @@ fn leaf(alloc: Global, kind: u32) -> Result<FfiType, NoMemory>
     requires { kind < STRUCT }
     ensures { IfOk result (λ t. slice_get leaves kind ≡ Some (tree_of t)) }
 {
+    if let Some(ty) = scalar(kind) {
+        return Ok(ty);
+    }
     Ok(match kind {
-        0 => FfiType::U8,
-        1 => FfiType::S8,
-        2 => FfiType::U16,
-        3 => FfiType::S16,
-        4 => FfiType::U32,
-        5 => FfiType::S32,
-        6 => FfiType::U64,
-        7 => FfiType::S64,
-        8 => FfiType::U128,
-        9 => FfiType::S128,
-        10 => FfiType::Float,
-        11 => FfiType::Double,
-        12 => FfiType::Pointer,
         13 => FfiType::Void,
         14 => pair(alloc, FfiType::Float, FfiType::Float)?,
         15 => pair(alloc, FfiType::Double, FfiType::Double)?,

@@ -3,6 +3,7 @@
 
 mod build;
 mod open;
+mod scalars;
 mod scan;
 mod signature;
 mod single;

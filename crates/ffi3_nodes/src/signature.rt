@@ -7,6 +7,7 @@ ghost use Rattle.ffi3_nodes.specs.Read.{IsOfNone, IsRefused, IsUncallable};
 
 use crate::Node;
 use crate::build::build;
+use crate::scalars::signature_of_scalars;
 use crate::scan::{NodeFault, scan};
 use ffi3_types::{NoMemory, Sig, SigFault, check_sig};
 use std::alloc::Global;
@@ -48,6 +49,11 @@ pub fn read_signature(alloc: Global, nodes: &[Node], fixed: Option<u32>) -> Resu
     ensures none { IfErr result (λ r. IsOfNone nodes.now r) }
     ensures uncallable { IfErr result (λ r. IsUncallable nodes.now fixed r) }
 {
+    match signature_of_scalars(alloc, nodes, fixed) {
+        Ok(Some(sig)) => return Ok(sig),
+        Ok(None) => {}
+        Err(_) => return Err(Refused::NoMemory),
+    }
     if nodes.len() > 0xFFFF_FFFF {
         return Err(Refused::TooLong);
     }
