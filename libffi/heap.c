@@ -1,10 +1,8 @@
 /* The memory of the proved library while it answers: libffi/build has it call these in place of malloc, realloc and
  * free. All that it takes for an answer is of no use after it. So one piece of memory is given out from its front, and
- * is free again when the library is entered next; malloc serves where it is full. */
+ * is free again when the library is asked next; malloc serves where it is full. */
 #include "heap.h"
 #include "lock.h"
-#include <stdbool.h>
-#include <stdint.h>
 #include <stdlib.h>
 #include <string.h>
 
@@ -13,31 +11,23 @@
 /* All under library_lock. */
 static _Alignas(16) char bytes[16384];
 static size_t used;
-static bool is_full; /* malloc has served */
-static uint64_t count, left; /* how often the library was entered anew; the number that it was left with */
+static bool is_full;    /* malloc has served */
+static uint64_t answer; /* the number of the last answer */
 
-bool library_enter_again(uint64_t number)
+void library_enter(void) { pthread_mutex_lock(&library_lock); }
+void library_leave(void) { pthread_mutex_unlock(&library_lock); }
+
+bool library_goes_on(uint64_t number)
 {
-    pthread_mutex_lock(&library_lock);
-    bool is_last = number && number == left;
-    if (!is_last) {
-        used = 0;
-        is_full = false;
-        count++;
-    }
-    return is_last;
+    if (number && number == library_answer())
+        return true;
+    used = 0;
+    is_full = false;
+    answer++;
+    return false;
 }
 
-void library_enter(void) { (void)library_enter_again(0); }
-
-uint64_t library_leave(void)
-{
-    uint64_t number = left = is_full ? 0 : count;
-    pthread_mutex_unlock(&library_lock);
-    return number;
-}
-
-bool library_has_malloced(void) { return is_full; }
+uint64_t library_answer(void) { return is_full ? 0 : answer; }
 
 void *answer_malloc(size_t size);
 void *answer_realloc(void *at, size_t size);
@@ -91,4 +81,37 @@ void answer_free(void *at)
 {
     if (!is_own(at))
         free(at);
+}
+
+/* ---- What is kept. The first piece of a chunk stands at its start: whoever looks for lost memory finds each chunk. */
+
+#ifdef __SANITIZE_ADDRESS__
+#define CHUNK_BYTES 0 /* each piece has memory of its own, behind which nothing may be written */
+#else
+#define CHUNK_BYTES 16384
+#endif
+
+static char *chunk, *kept, *chunk_end; /* the last one, of which all is free from `kept` on */
+
+static inline size_t in_words(size_t size) { return (size + 7) & ~(size_t)7; }
+
+void *kept_room(size_t most)
+{
+    if (__builtin_expect(most <= (size_t)(chunk_end - kept), 1))
+        return kept;
+    size_t size = most > CHUNK_BYTES ? in_words(most) : CHUNK_BYTES;
+    char *next = malloc(size);
+    if (!next)
+        return NULL;
+    chunk = kept = next;
+    chunk_end = next + size;
+    return kept;
+}
+
+void kept_take(size_t size) { kept += in_words(size); }
+
+void kept_back(void *piece)
+{
+    if ((uintptr_t)piece - (uintptr_t)chunk < (uintptr_t)kept - (uintptr_t)chunk)
+        kept = piece;
 }

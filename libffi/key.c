@@ -1,6 +1,7 @@
 /* From libffi's types to nodes. */
 #include "key.h"
 #include "host.h"
+#include "layout.h"
 #include <stdlib.h>
 #include <string.h>
 
@@ -137,12 +138,10 @@ static bool put_type(struct key *key, const ffi_type *type, int depth)
     return put_elements(key, type, depth);
 }
 
-/* Adds the type of an argument or of the result. */
-static void put_value(struct key *key, const ffi_type *type, ffi_abi abi, bool is_result)
+/* Adds an aggregate, or a long double. */
+static void put_other(struct key *key, const ffi_type *type, ffi_abi abi, bool is_result)
 {
     size_t before = key->length;
-    if (!is_result && type->type == FFI_TYPE_VOID)
-        key->kinds |= NODES_OF_OWN;
     if (put_type(key, type, 0) || key->status != FFI_OK)
         return;
     key->length = before;
@@ -150,6 +149,20 @@ static void put_value(struct key *key, const ffi_type *type, ffi_abi abi, bool i
         return;
     if (!is_aggregate(type) || !host_put_stand_in(key, type, abi))
         key->status = FFI_BAD_TYPEDEF;
+}
+
+/* Adds the type of an argument or of the result. */
+static inline void put_value(struct key *key, ffi_type *type, ffi_abi abi, bool is_result)
+{
+    uint32_t kind = scalar_kind(type->type);
+    if (__builtin_expect(!is_laid_out(type), 0))
+        key->status = FFI_BAD_TYPEDEF;
+    else if (kind != FFI3_STRUCT)
+        key_put(key, kind, 0);
+    else
+        put_other(key, type, abi, is_result);
+    if (kind == FFI3_VOID && !is_result)
+        key->kinds |= NODES_OF_OWN;
 }
 
 /* ---- Signatures */

@@ -25,21 +25,21 @@ struct key {
     struct ffi3_node own_nodes[40];
 };
 
-/* Makes the key of an interface whose types are laid out. `fixed` is how many arguments are, or FFI3_NOT_VARIADIC.
- * key_end gives memory back. */
+/* Makes the key of an interface, whose types it lays out where they have no size. `fixed` is how many arguments are, or
+ * FFI3_NOT_VARIADIC. key_end gives memory back. */
 void key_tell(struct key *key, const ffi_cif *cif, unsigned fixed);
 void key_end(struct key *key);
 
-/* A signature of at most 14 arguments, none of them variadic, and all scalars, is known by one word too: a nibble
- * for the convention, which is not 0, and one for each type. Answers 0 for another signature. */
+/* A signature of at most 14 arguments, none of them variadic, and all scalars that have a size, is known by one word
+ * too: a nibble for the convention, which is not 0, and one for each type. Answers 0 for another signature. */
 static inline uint64_t word_of(ffi_abi abi, unsigned nargs, const ffi_type *rtype, ffi_type **atypes)
 {
     uint64_t word = (uint64_t)abi << 4 | rtype->type;
-    if (nargs > 14 || rtype->type >= FFI_TYPE_COMPLEX || rtype->type == FFI_TYPE_STRUCT)
+    if (nargs > 14 || rtype->type >= FFI_TYPE_COMPLEX || rtype->type == FFI_TYPE_STRUCT || rtype->size == 0)
         return 0;
     for (unsigned i = 0; i < nargs; i++) {
         unsigned short type = atypes[i]->type;
-        if (type == FFI_TYPE_VOID || type == FFI_TYPE_STRUCT || type >= FFI_TYPE_COMPLEX)
+        if (type == FFI_TYPE_VOID || type == FFI_TYPE_STRUCT || type >= FFI_TYPE_COMPLEX || atypes[i]->size == 0)
             return 0;
         word = word << 4 | type;
     }

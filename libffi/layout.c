@@ -1,7 +1,6 @@
 #include "layout.h"
 #include "heap.h"
 #include "key.h"
-#include "lock.h"
 #include <stdatomic.h>
 #include <stdlib.h>
 #include <string.h>
@@ -43,20 +42,21 @@ static inline const struct layout *found(uint32_t bucket, const uint64_t *member
     return it;
 }
 
-/* Keeps what was told. Where memory is refused the library is asked again next time. */
+/* Keeps what was told, under library_lock, unless another thread has. Where memory is refused the library is asked
+ * again next time. */
 static void keep(uint32_t bucket, const uint64_t *members, size_t count, const struct ffi3_type *told,
                  const size_t *offsets)
 {
-    struct layout *it = malloc(sizeof *it + 2 * count * sizeof *it->words);
+    size_t bytes = sizeof(struct layout) + 2 * count * sizeof(uint64_t);
+    struct layout *it = found(bucket, members, count) ? NULL : kept_room(bytes);
     if (!it)
         return;
+    kept_take(bytes);
     *it = (struct layout){.size = told->size, .alignment = (uint32_t)told->align, .count = (uint32_t)count};
     memcpy(it->words, members, count * sizeof *it->words);
     memcpy(it->words + count, offsets, count * sizeof *it->words);
-    pthread_mutex_lock(&plans_lock);
     it->next = atomic_load(&buckets[bucket]);
     atomic_store_explicit(&buckets[bucket], it, memory_order_release);
-    pthread_mutex_unlock(&plans_lock);
 }
 
 /* ---- What the library is asked */
@@ -96,7 +96,8 @@ static bool has_put(struct ffi3_node *nodes, uint64_t member)
     return true;
 }
 
-static bool has_asked(const uint64_t *members, size_t count, struct ffi3_type *told, size_t *offsets)
+/* Asks for a layout that nobody has asked for, and keeps it. */
+static bool has_asked(uint32_t bucket, const uint64_t *members, size_t count, struct ffi3_type *told, size_t *offsets)
 {
     struct ffi3_node own_nodes[64], *nodes = own_nodes;
     if (2 * count + 1 > sizeof own_nodes / sizeof *own_nodes)
@@ -107,9 +108,14 @@ static bool has_asked(const uint64_t *members, size_t count, struct ffi3_type *t
     bool is_right = true;
     for (size_t k = 0; k < count && is_right; k++)
         is_right = has_put(nodes + 1 + 2 * k, members[k]);
-    library_enter();
-    is_right = is_right && ffi3_offsets_nodes(nodes, 2 * count + 1, told, offsets, count) == FFI3_OK;
-    library_leave();
+    if (is_right) {
+        library_enter();
+        (void)library_goes_on(0);
+        is_right = ffi3_offsets_nodes(nodes, 2 * count + 1, told, offsets, count) == FFI3_OK;
+        if (is_right)
+            keep(bucket, members, count, told, offsets);
+        library_leave();
+    }
     if (nodes != own_nodes)
         free(nodes);
     return is_right;
@@ -134,9 +140,8 @@ __attribute__((noinline)) static ffi_status lay_out_anew(ffi_type *type, const u
     size_t own_offsets[32], *found_offsets = own_offsets;
     if (count > sizeof own_offsets / sizeof *own_offsets)
         found_offsets = malloc(count * sizeof *found_offsets);
-    bool is_right = found_offsets && has_asked(members, count, &told, found_offsets);
+    bool is_right = found_offsets && has_asked(bucket, members, count, &told, found_offsets);
     if (is_right) {
-        keep(bucket, members, count, &told, found_offsets);
         set(type, told.size, (uint32_t)told.align);
         if (offsets)
             memcpy(offsets, found_offsets, wanted * sizeof *offsets);

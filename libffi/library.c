@@ -32,12 +32,12 @@ static size_t told_nodes(const struct key *key, struct ffi3_node *told, uint32_t
 
 void told_end(struct told *told)
 {
-    for (uint32_t list = 0; list < LISTS; list++)
-        free(told->lists[list].malloced);
+    for (uint32_t list = 0; told->malloced >> list; list++)
+        if (told->malloced >> list & 1)
+            free(told->lists[list].first);
 }
 
-/* What the library keeps of its last answer, in memory that is free when it is asked of something else. Under
- * library_lock. */
+/* What the library keeps of its last answer, in memory that is free when it is asked of something else. */
 static struct ffi3_interface last = FFI3_NO_INTERFACE;
 
 /* One list: where there is room for it, or where malloc gives it. */
@@ -48,9 +48,9 @@ static bool has_told(struct ffi3_interface *interface, uint32_t list, struct tol
     uint32_t status = ffi3_moves(interface, list, &moves->count, room, OWN_MOVES - told->used);
     if (status == FFI3_OK) {
         moves->first = room;
-        told->used += moves->count;
-    } else if (status == FFI3_TOO_SMALL && (moves->malloced = malloc(moves->count * sizeof *room))) {
-        moves->first = moves->malloced;
+        told->used += (uint32_t)moves->count;
+    } else if (status == FFI3_TOO_SMALL && (moves->first = malloc(moves->count * sizeof *room))) {
+        told->malloced |= 1u << list;
         status = ffi3_moves(interface, list, &moves->count, moves->first, moves->count);
     }
     return status == FFI3_OK;
@@ -61,7 +61,7 @@ static uint64_t stack_of(const struct told *told)
 {
     static const uint32_t LISTS_OF_ADDRESSES[] = {FFI3_MOVES_TO_STORE, FFI3_MOVES_OF_HIDDEN};
     uint64_t stack = told->sizes.frame;
-    for (size_t k = 0; k < 2; k++) {
+    for (size_t k = 0; k < 2 && stack; k++) {
         const struct moves *moves = &told->lists[LISTS_OF_ADDRESSES[k]];
         for (size_t i = 0; i < moves->count; i++)
             if (moves->first[i].kind == FFI3_MOVE_ADDRESS && moves->first[i].from < stack)
@@ -87,17 +87,18 @@ static bool has_asked(const struct key *key, const struct ffi3_node *nodes, size
     /* The library wants one that is fixed, and libffi none; all of these standards place it as if it were not. */
     if (fixed == 0)
         fixed = length > type_end(nodes, 0) ? 1 : FFI3_NOT_VARIADIC;
-    memset(told, 0, offsetof(struct told, own_moves));
+    memset(told->lists, 0, sizeof told->lists);
+    told->malloced = told->used = 0;
     told->asked = lists;
-    bool has = library_enter_again(answer);
+    bool has = library_goes_on(answer);
     if (!has) {
         last = (struct ffi3_interface)FFI3_NO_INTERFACE;
         has = ffi3_prepare(target, nodes, length, fixed, &last, &fault) == FFI3_OK;
     }
     has = has && has_told_all(&last, told);
-    if (library_has_malloced())
+    told->answer = library_answer();
+    if (!told->answer)
         ffi3_release(&last);
-    told->answer = library_leave();
     if (has)
         told->stack = stack_of(told);
     else

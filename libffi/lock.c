@@ -1,20 +1,17 @@
 #include "lock.h"
 
 pthread_mutex_t library_lock = PTHREAD_MUTEX_INITIALIZER;
-pthread_mutex_t plans_lock = PTHREAD_MUTEX_INITIALIZER;
 pthread_mutex_t slots_lock = PTHREAD_MUTEX_INITIALIZER;
 
 static void take_all(void)
 {
     pthread_mutex_lock(&library_lock);
-    pthread_mutex_lock(&plans_lock);
     pthread_mutex_lock(&slots_lock);
 }
 
 static void give_all(void)
 {
     pthread_mutex_unlock(&slots_lock);
-    pthread_mutex_unlock(&plans_lock);
     pthread_mutex_unlock(&library_lock);
 }
 

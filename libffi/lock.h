@@ -4,8 +4,7 @@
 
 #include <pthread.h>
 
-extern pthread_mutex_t library_lock; /* of the proved library, while it answers */
-extern pthread_mutex_t plans_lock;   /* of the tables of plans and of layouts */
+extern pthread_mutex_t library_lock; /* of the proved library while it answers, and of what is kept of its answers */
 extern pthread_mutex_t slots_lock;   /* of the memory of closures */
 
 #endif

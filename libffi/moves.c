@@ -1,11 +1,14 @@
 /* From the library's lists of moves to a plan. Nothing here decides where a value stands: each move is told again in
  * fewer bytes, and reads from its own argument, while the library has the values of all of them one behind another. */
 #include "plan.h"
+#include "heap.h"
 #include "host.h"
-#include <stdlib.h>
 #include <string.h>
 
-static bool is_scalar(const ffi_type *type) { return !is_aggregate(type) && type->type != FFI_TYPE_LONGDOUBLE; }
+static inline bool is_scalar(const ffi_type *type)
+{
+    return !is_aggregate(type) && type->type != FFI_TYPE_LONGDOUBLE;
+}
 
 static bool is_integer(const ffi_type *type)
 {
@@ -19,7 +22,7 @@ static bool is_signed(const ffi_type *type)
 }
 
 /* Bytes as they are. */
-static uint16_t as_they_are(uint32_t length)
+static inline uint16_t as_they_are(uint32_t length)
 {
     switch (length) {
     case 4: return MOVE_4;
@@ -29,23 +32,22 @@ static uint16_t as_they_are(uint32_t length)
     }
 }
 
-/* Bytes that fill eight. */
-static uint16_t filling(uint32_t length, bool is_signed)
+/* Bytes that fill eight: by how many they are, with zeros or with the sign. */
+static const uint8_t fillings[2][9] = {
+    {MOVE_SHORT, MOVE_U8, MOVE_U16, MOVE_SHORT, MOVE_U32, MOVE_SHORT, MOVE_SHORT, MOVE_SHORT, MOVE_8},
+    {MOVE_SHORT, MOVE_S8, MOVE_S16, MOVE_SHORT, MOVE_S32, MOVE_SHORT, MOVE_SHORT, MOVE_SHORT, MOVE_8},
+};
+
+static inline uint16_t filling(uint32_t length, bool is_signed)
 {
-    switch (length) {
-    case 1: return is_signed ? MOVE_S8 : MOVE_U8;
-    case 2: return is_signed ? MOVE_S16 : MOVE_U16;
-    case 4: return is_signed ? MOVE_S32 : MOVE_U32;
-    case 8: return MOVE_8;
-    default: return MOVE_SHORT;
-    }
+    return length <= 8 ? fillings[is_signed][length] : MOVE_SHORT;
 }
 
 /* To a place. A register, or eight bytes of the frame, is one move's: where the library leaves the rest of it free it
  * gets zeros. No standard of these hosts asks for ones. */
-static uint16_t kind_in(const struct ffi3_move *told, uint32_t length)
+static inline uint16_t kind_in(const struct ffi3_move *told, uint32_t length)
 {
-    return length <= 8 ? filling(length, told->kind == FFI3_MOVE_SIGN) : as_they_are(length);
+    return length <= 8 ? fillings[told->kind == FFI3_MOVE_SIGN][length] : as_they_are(length);
 }
 
 /* How many bytes of the value a move has: a stand-in may be longer than the type that it stands in for. What a client
@@ -89,105 +91,95 @@ static inline uint32_t add(struct move *moves, uint32_t count, const struct move
 /* ---- Arguments
  *
  * The library numbers those that it was told of, which are all that are not void. Both lists have each one's moves side
- * by side, by these numbers. */
+ * by side, by these numbers, and the list that is stored has a number behind them. */
 
-/* A reader of a list, and the argument that it is at. */
-struct reader {
-    const struct ffi3_move *next, *end;
-    uint32_t part;       /* the library's number */
-    uint16_t number;     /* the client's */
-    const ffi_type *type;
-    uint64_t start;      /* of the value, among those of all arguments */
-};
-
-static struct reader reader_of(const struct moves *moves)
+/* Where in a list the moves end of the argument `part`, the first of which is the next. */
+static inline const struct ffi3_move *end_of(const struct ffi3_move *next, const struct ffi3_move *end, uint32_t part)
 {
-    return (struct reader){.next = moves->first, .end = moves->first + moves->count};
+    while (next < end && next->part == part && next->kind != FFI3_MOVE_NUMBER)
+        next++;
+    return next;
 }
 
-static bool has_more(const struct reader *it)
+/* A caller's move of an argument whose value begins at `start`. */
+static inline struct move move_of(const struct ffi3_move *told, uint64_t start, uint32_t number, const ffi_type *type)
 {
-    return it->next < it->end && it->next->part == it->part && it->next->kind != FFI3_MOVE_NUMBER;
+    uint32_t from = (uint32_t)(told->from - start), length = length_of(told, from, type);
+    return (struct move){kind_in(told, length), (uint16_t)number, from, (uint32_t)told->to, length};
 }
 
-/* Adds the caller's moves of an argument. The first of them reads its first byte. */
-static void fill_moves(struct plan *plan, struct reader *it)
+/* Adds the caller's moves of an argument, from `next` on, and answers how many they are. The first of them reads its
+ * first byte. */
+static uint32_t fill_moves(struct move *moves, const struct ffi3_move *next, const struct ffi3_move *end,
+                           uint32_t number, const ffi_type *type)
 {
-    struct move *moves = plan->moves + plan->moves_count;
+    uint64_t start = next->from;
     uint32_t count = 0;
-    it->start = it->next->from;
-    for (; has_more(it); it->next++) {
-        struct move move = {.argument = it->number, .to = (uint32_t)it->next->to};
-        if (it->next->kind == FFI3_MOVE_ADDRESS) {
-            move.kind = MOVE_ADDRESS;
-            move.from = FRAME_AT + (uint32_t)it->next->from;
-            moves[count++] = move;
-            continue;
-        }
-        move.from = (uint32_t)(it->next->from - it->start);
-        move.length = length_of(it->next, move.from, it->type);
-        move.kind = kind_in(it->next, move.length);
-        count = add(moves, count, &move);
+    for (; next < end; next++) {
+        struct move move = move_of(next, start, number, type);
+        if (next->kind != FFI3_MOVE_ADDRESS)
+            count = add(moves, count, &move);
+        else
+            moves[count++] = (struct move){MOVE_ADDRESS, (uint16_t)number, FRAME_AT + (uint32_t)next->from, move.to, 0};
     }
-    plan->moves_count += count;
-}
-
-/* Where a closure finds an argument: where it stands, if that is one place. In registers nothing is aligned to 16. What
- * stands in more is gathered by the callee's moves. */
-static struct source source_of(struct served *served, struct reader *it)
-{
-    struct move *moves = &served->gathers[served->gathers_count];
-    uint32_t count = 0, first = (uint32_t)it->next->from;
-    if (it->next->kind == FFI3_MOVE_BEHIND) {
-        it->next++;
-        return (struct source){AT_ADDRESS, first, 0, 0};
-    }
-    for (; has_more(it); it->next++) {
-        struct move move = {.from = (uint32_t)it->next->from, .to = (uint32_t)(it->next->to - it->start)};
-        move.length = length_of(it->next, move.to, it->type);
-        move.kind = as_they_are(move.length);
-        count = add(moves, count, &move);
-    }
-    if (count == 1 && (moves->from >= FRAME_AT || it->type->alignment <= 8))
-        return (struct source){AT_PLACE, moves->from, 0, 0};
-    struct source source = {GATHERED, served->scratch, served->gathers_count, count};
-    served->gathers_count += count;
-    served->scratch += (uint32_t)(it->type->size + 15) / 16 * 16;
-    return source;
-}
-
-/* Goes on to an argument that is not void, and answers whether there is one. */
-static inline bool has_argument(struct reader *it, const ffi_cif *cif)
-{
-    while (it->number < cif->nargs && cif->arg_types[it->number]->type == FFI_TYPE_VOID)
-        it->number++;
-    if (it->number == cif->nargs)
-        return false;
-    it->type = cif->arg_types[it->number];
-    return true;
+    return count;
 }
 
 /* Answers whether each argument has its moves. */
 static bool has_filled_moves(struct plan *plan, const struct told *told, const ffi_cif *cif)
 {
-    struct reader it = reader_of(&told->lists[FFI3_MOVES_TO_STORE]);
-    for (; has_argument(&it, cif); it.number++, it.part++) {
-        if (!has_more(&it))
+    const struct moves *stores = &told->lists[FFI3_MOVES_TO_STORE];
+    const struct ffi3_move *next = stores->first, *end = next + stores->count;
+    uint32_t count = 0, part = 0;
+    for (uint32_t i = 0; i < cif->nargs; i++) {
+        const ffi_type *type = cif->arg_types[i];
+        if (type->type == FFI_TYPE_VOID)
+            continue;
+        const struct ffi3_move *first = next;
+        next = end_of(first, end, part++);
+        if (next == first)
             return false;
-        fill_moves(plan, &it);
+        if (next == first + 1 && is_scalar(type))
+            plan->moves[count++] = move_of(first, first->from, i, type);
+        else
+            count += fill_moves(plan->moves + count, first, next, i, type);
     }
-    if (it.next < it.end) {
-        plan->number_at = (uint32_t)it.next->to;
-        plan->number = it.next->from;
+    if (next < end) {
+        plan->number_at = (uint32_t)next->to;
+        plan->number = next->from;
     }
+    plan->moves_count = count;
     return true;
 }
 
-/* Where the value of the argument that is next begins, whose first byte is written by one of its moves. */
-static uint64_t start_of(const struct reader *it)
+/* Where a closure finds an argument: where it stands, if that is one place. In registers nothing is aligned to 16. What
+ * stands in more is gathered by the callee's moves; the value of the argument begins at `start`, among those of all. */
+static struct source source_of(struct served *served, const struct ffi3_move *next, const struct ffi3_move *end,
+                               uint64_t start, const ffi_type *type)
 {
-    uint64_t start = it->next->to;
-    for (const struct ffi3_move *next = it->next; next < it->end && next->part == it->part; next++)
+    struct move *moves = &served->gathers[served->gathers_count];
+    uint32_t count = 0;
+    if (next->kind == FFI3_MOVE_BEHIND)
+        return (struct source){AT_ADDRESS, (uint32_t)next->from, 0, 0};
+    for (; next < end; next++) {
+        struct move move = {.from = (uint32_t)next->from, .to = (uint32_t)(next->to - start)};
+        move.length = length_of(next, move.to, type);
+        move.kind = as_they_are(move.length);
+        count = add(moves, count, &move);
+    }
+    if (count == 1 && (moves->from >= FRAME_AT || type->alignment <= 8))
+        return (struct source){AT_PLACE, moves->from, 0, 0};
+    struct source source = {GATHERED, served->scratch, served->gathers_count, count};
+    served->gathers_count += count;
+    served->scratch += (uint32_t)(type->size + 15) / 16 * 16;
+    return source;
+}
+
+/* The lowest byte that is written by these moves. */
+static uint64_t start_of(const struct ffi3_move *next, const struct ffi3_move *end)
+{
+    uint64_t start = next->to;
+    for (; next < end; next++)
         start = next->to < start ? next->to : start;
     return start;
 }
@@ -195,13 +187,19 @@ static uint64_t start_of(const struct reader *it)
 /* The same of a callee's. */
 static bool has_filled_sources(struct served *served, const struct told *told, const ffi_cif *cif)
 {
-    struct reader it = reader_of(&told->lists[FFI3_MOVES_TO_COLLECT]);
-    memset(served->sources, 0, cif->nargs * sizeof *served->sources); /* of what is void: AT_PLACE 0 */
-    for (; has_argument(&it, cif); it.number++, it.part++) {
-        if (!has_more(&it))
+    const struct moves *collects = &told->lists[FFI3_MOVES_TO_COLLECT];
+    const struct ffi3_move *next = collects->first, *end = next + collects->count;
+    uint32_t part = 0;
+    for (uint32_t i = 0; i < cif->nargs; i++) {
+        const ffi_type *type = cif->arg_types[i];
+        served->sources[i] = (struct source){AT_PLACE, 0, 0, 0}; /* of what is void */
+        if (type->type == FFI_TYPE_VOID)
+            continue;
+        const struct ffi3_move *first = next;
+        next = end_of(first, end, part++);
+        if (next == first)
             return false;
-        it.start = start_of(&it);
-        served->sources[it.number] = source_of(served, &it);
+        served->sources[i] = source_of(served, first, next, start_of(first, next), type);
     }
     return true;
 }
@@ -274,61 +272,47 @@ void told_mirror(struct told *told)
     }
 }
 
-/* The plan, whose moves stand elsewhere, in memory of its own that has no more than it wants. */
-static struct plan *kept(const struct plan *made, const struct key *key)
-{
-    size_t moves = made->moves_count, loads = made->loads_count, nodes = made->word ? 0 : key->length;
-    struct plan *plan = malloc(sizeof *plan + (moves + loads) * sizeof(struct move) + nodes * sizeof *plan->nodes);
-    if (!plan)
-        return NULL;
-    *plan = *made;
-    plan->moves = (struct move *)(plan + 1);
-    plan->loads = plan->moves + moves;
-    memcpy(plan->moves, made->moves, moves * sizeof(struct move));
-    memcpy(plan->loads, made->loads, loads * sizeof(struct move));
-    plan->nodes = memcpy(plan->loads + loads, key->nodes, nodes * sizeof *plan->nodes);
-    plan->nodes_count = nodes;
-    return plan;
-}
-
 struct plan *plan_from(const struct key *key, uint64_t word, const struct told *told, const ffi_cif *cif)
 {
-    size_t stores = told->lists[FFI3_MOVES_TO_STORE].count;
-    size_t room = stores + told->lists[FFI3_MOVES_TO_LOAD].count + MOST_BESIDE;
-    struct move own_moves[64], *moves = own_moves;
-    if (room > sizeof own_moves / sizeof *own_moves)
-        moves = malloc(room * sizeof *moves);
-    struct plan *plan = NULL, made = {
-        .word = word, .abi = cif->abi, .nargs = cif->nargs,
-        .stack = (uint32_t)told->stack, .frame = (uint32_t)told->sizes.frame,
-        .number_at = offsetof(struct exchange, unused), .answer = told->answer,
-        .moves = moves, .loads = moves + stores};
-    if (moves && has_filled_moves(&made, told, cif)) {
-        fill_loads(&made, told, cif->rtype);
-        host_complete(key, &made);
-        plan = kept(&made, key);
-    }
-    if (moves != own_moves)
-        free(moves);
+    size_t stores = told->lists[FFI3_MOVES_TO_STORE].count, loads = told->lists[FFI3_MOVES_TO_LOAD].count;
+    size_t nodes = word ? 0 : key->length;
+    struct plan *plan = kept_room(sizeof *plan + (stores + loads + MOST_BESIDE) * sizeof(struct move) +
+                                  nodes * sizeof *plan->nodes);
+    if (!plan)
+        return NULL;
+    *plan = (struct plan){.word = word,
+                          .nodes_count = nodes,
+                          .abi = cif->abi,
+                          .nargs = cif->nargs,
+                          .stack = (uint32_t)told->stack,
+                          .frame = (uint32_t)told->sizes.frame,
+                          .number_at = offsetof(struct exchange, unused),
+                          .moves = (struct move *)(plan + 1),
+                          .answer = told->answer};
+    if (!has_filled_moves(plan, told, cif))
+        return NULL;
+    plan->loads = plan->moves + plan->moves_count;
+    fill_loads(plan, told, cif->rtype);
+    host_complete(key, plan);
+    plan->nodes = memcpy(plan->loads + plan->loads_count, key->nodes, nodes * sizeof *plan->nodes);
+    kept_take((size_t)((const char *)(plan->nodes + nodes) - (const char *)plan));
     return plan;
 }
 
 struct served *served_from(const struct key *key, const struct told *told, const ffi_cif *cif)
 {
-    size_t gives = told->lists[FFI3_MOVES_TO_GIVE].count + MOST_BESIDE;
-    size_t collects = told->lists[FFI3_MOVES_TO_COLLECT].count;
-    struct served *served = malloc(sizeof *served + (gives + collects) * sizeof(struct move) +
-                                   cif->nargs * sizeof(struct source));
+    size_t moves = told->lists[FFI3_MOVES_TO_COLLECT].count + told->lists[FFI3_MOVES_TO_GIVE].count + MOST_BESIDE;
+    size_t sources = cif->nargs * sizeof(struct source);
+    struct served *served = kept_room(sizeof *served + sources + moves * sizeof(struct move));
     if (!served)
         return NULL;
-    *served = (struct served){.gives = (struct move *)(served + 1)};
-    served->gathers = served->gives + gives;
-    served->sources = (struct source *)(served->gathers + collects);
-    if (!has_filled_sources(served, told, cif)) {
-        free(served);
+    *served = (struct served){.sources = (struct source *)(served + 1)};
+    served->gathers = (struct move *)(served->sources + cif->nargs);
+    if (!has_filled_sources(served, told, cif))
         return NULL;
-    }
+    served->gives = served->gathers + served->gathers_count;
     fill_gives(served, told, cif->rtype);
     host_complete_served(key, served);
+    kept_take((size_t)((char *)(served->gives + served->gives_count) - (char *)served));
     return served;
 }

@@ -92,7 +92,6 @@ struct served {
 struct moves {
     struct ffi3_move *first;
     size_t count;
-    struct ffi3_move *malloced; /* where they are not in own_moves */
 };
 
 #define LISTS 5 /* FFI3_MOVES_TO_STORE and so on */
@@ -106,25 +105,27 @@ struct told {
     struct ffi3_sizes sizes;
     uint64_t stack; /* bytes of the frame that are passed on the stack: it begins with them */
     struct moves lists[LISTS];
-    size_t used; /* of own_moves */
+    uint32_t malloced; /* which lists are not in own_moves, by bits */
+    uint32_t used;     /* of own_moves */
     struct ffi3_move own_moves[64];
 };
 
 /* Asks the library for lists of moves of a key, for all of them where a host has a part in it; answers false where it
  * has none, or memory was refused. `answer` is the number of what it answered of this key, or 0. told_end gives memory
- * back. */
+ * back. Under library_lock. */
 bool has_asked_moves(const struct key *key, uint32_t lists, uint64_t answer, struct told *told);
 void told_end(struct told *told);
 
 /* Makes the callee's moves of the arguments anew, from the caller's, where a host has placed a long double. */
 void told_mirror(struct told *told);
 
-/* Make a plan, and its callee's part, of what was told: malloc's, or NULL. */
+/* Make a plan, and its callee's part, of what was told, in memory that is kept; or NULL, where malloc gives none. Under
+ * library_lock. */
 struct plan *plan_from(const struct key *key, uint64_t word, const struct told *told, const ffi_cif *cif);
 struct served *served_from(const struct key *key, const struct told *told, const ffi_cif *cif);
 
-/* The plan of an interface whose types are laid out, from the table or a new one; or NULL, where there is none or
- * memory was refused. `fixed` as in key.h. */
+/* The plan of an interface, from the table or a new one; or NULL, where there is none or memory was refused. Its types
+ * are laid out. `fixed` as in key.h. */
 const struct plan *plan_for(const ffi_cif *cif, unsigned fixed);
 
 /* The callee's part of the interface's plan, from there or a new one; or NULL, where memory was refused. */

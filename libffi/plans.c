@@ -1,7 +1,7 @@
 /* The table of plans: readers take no lock. */
 #include "plan.h"
+#include "heap.h"
 #include "host.h"
-#include "lock.h"
 #include <stdio.h>
 #include <stdlib.h>
 #include <string.h>
@@ -16,7 +16,7 @@ struct table {
 };
 
 static _Atomic(struct table *) current;
-static uint32_t plans_count; /* under the lock */
+static uint32_t plans_count; /* under library_lock, as all that is written here */
 
 static inline uint64_t mixed(uint64_t hash, uint64_t word) { return (hash + word) * 0x9E3779B97F4A7C15u; }
 
@@ -35,19 +35,22 @@ static inline bool has_nodes(const struct plan *plan, const struct key *key)
     return plan->nodes_count == key->length && memcmp(plan->nodes, key->nodes, key->length * sizeof *key->nodes) == 0;
 }
 
-/* The plan of a word, or, where that is 0, of a key. */
-static inline const struct plan *found(const struct table *table, uint64_t hash, uint64_t word, const struct key *key)
+/* A place of a table, and the plan of a word, or, if that is 0, of a key, which stands there; or the place in which it
+ * would stand. */
+struct place {
+    struct table *table;
+    size_t at;
+    const struct plan *plan;
+};
+
+static inline struct place found(struct table *table, uint64_t hash, uint64_t word, const struct key *key)
 {
     for (size_t k = hash; table; k++) {
         const struct plan *plan = atomic_load_explicit(&table->slots[k & table->mask], memory_order_acquire);
-        if (!plan)
-            return NULL;
-        if (plan->hash != hash || plan->word != word)
-            continue;
-        if (word || has_nodes(plan, key))
-            return plan;
+        if (!plan || (plan->hash == hash && plan->word == word && (word || has_nodes(plan, key))))
+            return (struct place){table, k & table->mask, plan};
     }
-    return NULL;
+    return (struct place){NULL, 0, NULL};
 }
 
 static void enter(struct table *table, const struct plan *plan)
@@ -87,23 +90,20 @@ static bool has_leaf(uint32_t index)
     return leaf;
 }
 
-/* Puts a new plan into the table, under the lock. The table by indices has it first. */
-static bool has_entered(struct plan *plan)
+/* Whether there is room for one more. */
+static bool has_room(void)
 {
     uint32_t index = plans_count + 1; /* 0 is none's */
-    if (index >= PLANS_OF_LEAF * LEAVES || !has_leaf(index) || !has_slot())
-        return false;
-    plan->index = plans_count = index;
-    struct leaf *leaf = atomic_load(&plan_leaves[index / PLANS_OF_LEAF]);
-    atomic_store_explicit(&leaf->plans[index % PLANS_OF_LEAF], plan, memory_order_release);
-    enter(atomic_load(&current), plan);
-    return true;
+    return index < PLANS_OF_LEAF * LEAVES && has_leaf(index) && has_slot();
 }
 
-static void plan_end(struct plan *plan)
+/* Puts a new plan into its place, for which there is room. The table by indices has it first. */
+static void put(struct place place, struct plan *plan)
 {
-    free((void *)(uintptr_t)atomic_load(&plan->served));
-    free(plan);
+    uint32_t index = plan->index = ++plans_count;
+    struct leaf *leaf = atomic_load_explicit(&plan_leaves[index / PLANS_OF_LEAF], memory_order_relaxed);
+    atomic_store_explicit(&leaf->plans[index % PLANS_OF_LEAF], plan, memory_order_release);
+    atomic_store_explicit(&place.table->slots[place.at], plan, memory_order_release);
 }
 
 /* A plan of what was told, with the callee's part, where all of that was told too. */
@@ -116,50 +116,53 @@ static struct plan *plan_of_told(const struct key *key, uint64_t word, const str
     atomic_store(&plan->served, served);
     if (served)
         return plan;
-    plan_end(plan);
+    kept_back(plan);
     return NULL;
 }
 
-/* A new plan of a key that has nodes, or the one that another thread has made of it. */
-static const struct plan *make(const struct key *key, uint64_t hash, uint64_t word, const ffi_cif *cif)
+static struct plan *asked_plan(const struct key *key, uint64_t word, const ffi_cif *cif)
 {
     struct told told;
     if (!has_asked_moves(key, LISTS_OF_CALLS, 0, &told))
         return NULL;
     struct plan *plan = plan_of_told(key, word, &told, cif);
-    const struct plan *kept = NULL;
     told_end(&told);
-    if (!plan)
-        return NULL;
-    plan->hash = hash;
-    pthread_mutex_lock(&plans_lock);
-    kept = found(atomic_load(&current), hash, word, key);
-    if (!kept && has_entered(plan))
-        kept = plan;
-    pthread_mutex_unlock(&plans_lock);
-    if (kept != plan)
-        plan_end(plan);
-    return kept;
+    return plan;
+}
+
+/* A new plan of a key that has nodes, or the one that another thread has made of it. `place` is where it would stand
+ * in the table as it was found. */
+static const struct plan *make(const struct key *key, uint64_t hash, uint64_t word, const ffi_cif *cif,
+                               struct place place)
+{
+    struct plan *plan = NULL;
+    library_enter();
+    if (has_room()) {
+        struct table *table = atomic_load_explicit(&current, memory_order_relaxed);
+        if (place.table != table || atomic_load(&table->slots[place.at]))
+            place = found(table, hash, word, key);
+        if (!place.plan && (plan = asked_plan(key, word, cif))) {
+            plan->hash = hash;
+            put(place, plan);
+        }
+    }
+    library_leave();
+    return plan ? plan : place.plan;
 }
 
 /* The callee's part of a plan, or the one that another thread has made of it. */
 static const struct served *serve(struct plan *plan, const struct key *key, const ffi_cif *cif)
 {
     struct told told;
-    if (!has_asked_moves(key, LISTS_OF_CLOSURES, plan->answer, &told))
-        return NULL;
-    struct served *served = served_from(key, &told, cif);
-    told_end(&told);
-    pthread_mutex_lock(&plans_lock);
-    const struct served *kept = atomic_load(&plan->served);
-    if (!kept) {
+    library_enter();
+    const struct served *served = atomic_load(&plan->served);
+    if (!served && has_asked_moves(key, LISTS_OF_CLOSURES, plan->answer, &told)) {
+        served = served_from(key, &told, cif);
+        told_end(&told);
         atomic_store_explicit(&plan->served, served, memory_order_release);
-        kept = served;
     }
-    pthread_mutex_unlock(&plans_lock);
-    if (kept != served)
-        free(served);
-    return kept;
+    library_leave();
+    return served;
 }
 
 /* Whether the interface's types are still those of its plan, which others share. */
@@ -182,16 +185,28 @@ const struct served *served_by(const struct plan *plan, const ffi_cif *cif)
     return served;
 }
 
-static const struct plan *plan_by_nodes(const ffi_cif *cif, unsigned fixed, uint64_t word)
+static const struct plan *plan_by_nodes(const ffi_cif *cif, unsigned fixed)
 {
     struct key key;
     const struct plan *plan = NULL;
     key_tell(&key, cif, fixed);
     if (key.status == FFI_OK) {
-        uint64_t hash = word ? finished(mixed(0, word)) : hash_of(&key);
-        plan = word ? NULL : found(atomic_load_explicit(&current, memory_order_acquire), hash, word, &key);
-        plan = plan ? plan : make(&key, hash, word, cif);
+        uint64_t hash = hash_of(&key);
+        struct place place = found(atomic_load_explicit(&current, memory_order_acquire), hash, 0, &key);
+        plan = place.plan ? place.plan : make(&key, hash, 0, cif, place);
     }
+    key_end(&key);
+    return plan;
+}
+
+__attribute__((noinline)) static const struct plan *make_by_word(const ffi_cif *cif, uint64_t hash, uint64_t word,
+                                                                 struct place place)
+{
+    struct key key;
+    const struct plan *plan = NULL;
+    key_tell(&key, cif, FFI3_NOT_VARIADIC);
+    if (key.status == FFI_OK)
+        plan = make(&key, hash, word, cif, place);
     key_end(&key);
     return plan;
 }
@@ -199,13 +214,11 @@ static const struct plan *plan_by_nodes(const ffi_cif *cif, unsigned fixed, uint
 const struct plan *plan_for(const ffi_cif *cif, unsigned fixed)
 {
     uint64_t word = fixed == FFI3_NOT_VARIADIC ? word_of(cif->abi, cif->nargs, cif->rtype, cif->arg_types) : 0;
-    if (word) {
-        struct table *table = atomic_load_explicit(&current, memory_order_acquire);
-        const struct plan *plan = found(table, finished(mixed(0, word)), word, NULL);
-        if (plan)
-            return plan;
-    }
-    return plan_by_nodes(cif, fixed, word);
+    if (!word)
+        return plan_by_nodes(cif, fixed);
+    uint64_t hash = finished(mixed(0, word));
+    struct place place = found(atomic_load_explicit(&current, memory_order_acquire), hash, word, NULL);
+    return __builtin_expect(place.plan != NULL, 1) ? place.plan : make_by_word(cif, hash, word, place);
 }
 
 /* Such an interface is not written to: it may be another library's, or another thread's. */

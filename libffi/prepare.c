@@ -12,10 +12,7 @@ static inline ffi_status prepare(ffi_cif *cif, ffi_abi abi, unsigned fixed, unsi
         return FFI_BAD_ABI;
     if (nargs > MOST_ARGUMENTS)
         return FFI_BAD_TYPEDEF;
-    bool are_laid_out = is_laid_out(rtype);
-    for (unsigned i = 0; i < nargs && are_laid_out; i++)
-        are_laid_out = is_laid_out(atypes[i]);
-    const struct plan *plan = are_laid_out ? plan_for(&made, fixed) : NULL;
+    const struct plan *plan = plan_for(&made, fixed);
     cif->abi = abi;
     cif->nargs = nargs;
     cif->arg_types = atypes;

@@ -28,7 +28,7 @@ size_t host_tell_long_doubles(uint32_t count, bool is_result, struct ffi3_node *
 
 static bool has_long_doubles(const struct key *key)
 {
-    for (size_t at = NODES_BEFORE_TYPES; at < key->length; at++)
+    for (size_t at = NODES_BEFORE_TYPES; key->kinds & NODES_OF_OWN && at < key->length; at++)
         if (key->nodes[at].kind == NODE_LONG_DOUBLES)
             return true;
     return false;
