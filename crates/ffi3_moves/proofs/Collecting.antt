@@ -18,8 +18,8 @@ use Rattle.ffi3_place_rules.specs.Holds.{Carries, LeavesStand, OwnsArgument, Own
 use Rattle.ffi3_place_rules.specs.Sound.{place_size, CoversLeaf, HaveAll, IsPieceOf, piece_locs}
 use Rattle.ffi3_place_rules.proofs.Covered.{EndsIn, leaves_end}
 use Rattle.ffi3_place_rules.proofs.Reading.{LeavesRead, reads}
-use Rattle.ffi3_pieces.specs.Stored.{IsPlace}
-use Rattle.ffi3_pieces.specs.Standing.{IsReady, AreReady}
+use Rattle.ffi3_marshal.specs.Standing.{AreReady, IsReady}
+use Rattle.ffi3_marshal.specs.Stored.{IsPlace}
 use Rattle.ffi3_transfer.specs.Packed.{packed_size, values_packed, behind}
 use Rattle.ffi3_transfer.proofs.Packing.{behind_drop, in_room}
 use Rattle.ffi3_moves.specs.Play.{bytes_behind, frame_at, play, word_from, written_over}

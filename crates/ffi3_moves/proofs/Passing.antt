@@ -17,15 +17,14 @@ use Rattle.ffi3_place_rules.specs.declared.Place.TheVariants.{Direct, ByRef}
 use Rattle.ffi3_place_rules.specs.Image.{Image}
 use Rattle.ffi3_place_rules.specs.Standard.{round8}
 use Rattle.ffi3_place_rules.specs.Sound.{place_size, IsWhole, AreApart, IsNoneOf}
-use Rattle.ffi3_pieces.specs.Stored.{IsPlace}
-use Rattle.ffi3_pieces.specs.Standing.{place_uses, all_uses, IsReady, AreReady}
-use Rattle.ffi3_pieces.proofs.Lawful.{across_none, apart_first, apart_rest, apart_across, each_first, each_rest}
-use Rattle.ffi3_transfer.specs.Stored.{Stays, IsWordPut}
+use Rattle.ffi3_marshal.specs.Standing.{AreReady, IsReady, PlaceKeeps, PlaceStands, PlacesKeep, all_uses, place_uses}
+use Rattle.ffi3_marshal.specs.Stored.{IsPlace, IsWordPut, Stays, stored}
+use Rattle.ffi3_marshal.proofs.Composing.{stays_none}
+use Rattle.ffi3_marshal.proofs.Copying.{copied, keeps_since, place_keeps, place_stays}
+use Rattle.ffi3_marshal.proofs.Puts.{stored_inside, stored_outside, stored_size, word_put}
+use Rattle.ffi3_marshal.proofs.Lawful.{across_none, apart_first, apart_rest, apart_across, each_first, each_rest}
 use Rattle.ffi3_transfer.specs.Packed.{packed_size}
-use Rattle.ffi3_transfer.specs.Standing.{AllStand, PlaceKeeps, PlaceStands, PlacesKeep}
-use Rattle.ffi3_transfer.proofs.Puts.{stored, stored_inside, stored_outside, stored_size, word_put}
-use Rattle.ffi3_transfer.proofs.Composing.{stays_none}
-use Rattle.ffi3_transfer.proofs.Copying.{copied, keeps_since, place_keeps, place_stays}
+use Rattle.ffi3_transfer.specs.Standing.{AllStand}
 use Rattle.ffi3_transfer.proofs.Packing.{behind_drop, in_room}
 use Rattle.ffi3_moves.specs.declared.Move.{Move}
 use Rattle.ffi3_moves.specs.Play.{frame_at, play, play_one, written_over}

@@ -10,9 +10,8 @@ use Rattle.ffi3_place_rules.specs.declared.Loc.{Loc}
 use Rattle.ffi3_place_rules.specs.declared.Loc.TheVariants.{G, F, S}
 use Rattle.ffi3_place_rules.specs.Image.{byte_at, word_at}
 use Rattle.ffi3_place_rules.specs.Sound.{place_size, IsWhole, Apart, IsNoneOf}
-use Rattle.ffi3_pieces.specs.Stored.{IsPlace}
-use Rattle.ffi3_transfer.specs.Stored.{SameAt, Stays, IsPut}
-use Rattle.ffi3_transfer.proofs.Puts.{word_there}
+use Rattle.ffi3_marshal.specs.Stored.{IsPlace, IsPut, SameAt, Stays}
+use Rattle.ffi3_marshal.proofs.Puts.{word_there}
 use Rattle.ffi3_moves.specs.Play.{frame_at, word_from, written_over}
 use Rattle.ffi3_moves.specs.Moves.{exchange_at}
 use Rattle.ffi3_moves.specs.Exchange.{AreBytes, image_at, words_from}

@@ -20,16 +20,15 @@ use Rattle.ffi3_place_rules.specs.Agrees.{AgreesWithMachine}
 use Rattle.ffi3_place_rules.specs.Isa.{to_list}
 use Rattle.ffi3_place_rules.specs.Holds.{Own, OwnResult, OwnsResult, FillsResult, RegisterHolds}
 use Rattle.ffi3_place_rules.specs.Sound.{AreApart, IsSound, LiesIn, ResultHasAll, piece_locs, result_locs}
-use Rattle.ffi3_pieces.specs.Stored.{IsPlace}
-use Rattle.ffi3_pieces.proofs.Lawful.{machine_places}
+use Rattle.ffi3_marshal.specs.Standing.{PiecesStand}
+use Rattle.ffi3_marshal.specs.Stored.{IsPlace, Stays}
+use Rattle.ffi3_marshal.proofs.Arguments.{ready_all}
+use Rattle.ffi3_marshal.proofs.Composing.{stays_none}
+use Rattle.ffi3_marshal.proofs.Owning.{pieces_filled, pieces_stand}
+use Rattle.ffi3_marshal.proofs.Lawful.{machine_places}
 use Rattle.ffi3_transfer.specs.Calls.{ResultKeeps}
-use Rattle.ffi3_transfer.specs.Stored.{Stays}
 use Rattle.ffi3_transfer.specs.Packed.{packed_size, values_packed}
-use Rattle.ffi3_transfer.specs.Standing.{PiecesStand}
-use Rattle.ffi3_transfer.proofs.Arguments.{ready_all}
-use Rattle.ffi3_transfer.proofs.Composing.{stays_none}
 use Rattle.ffi3_transfer.proofs.Given.{stack_same}
-use Rattle.ffi3_transfer.proofs.Owning.{pieces_filled, pieces_stand}
 use Rattle.ffi3_transfer.proofs.Results.{buffer_within}
 use Rattle.ffi3_moves.specs.Play.{frame_at, play, written_over}
 use Rattle.ffi3_moves.specs.Moves.{collect_moves, exchange_at, give_moves, given_back_at, load_moves, result_in, result_out, returned_at}

@@ -15,14 +15,12 @@ use Rattle.ffi3_place_rules.specs.declared.Ext.TheVariants.{Free, Widen, Riscv, 
 use Rattle.ffi3_place_rules.specs.declared.Piece.{Piece}
 use Rattle.ffi3_place_rules.specs.Image.{Image}
 use Rattle.ffi3_place_rules.specs.Sound.{place_size, IsWhole, Apart, AreApart, IsNoneOf, IsExtended, IsPieceOf, is_floating_place, is_narrow_integer, piece_locs}
-use Rattle.ffi3_pieces.specs.Stored.{IsPlace}
-use Rattle.ffi3_pieces.proofs.Composing.{apart_sym, none_append}
-use Rattle.ffi3_transfer.specs.Stored.{KeepsAbove, Stays, IsPut, IsStored}
-use Rattle.ffi3_transfer.specs.Standing.{PiecesStand}
-use Rattle.ffi3_transfer.proofs.Puts.{word_put, piece_set}
-use Rattle.ffi3_transfer.proofs.Filling.{free_stored, boxed_stored, widened_stored, from_32_stored}
-use Rattle.ffi3_transfer.proofs.Composing.{same_then, stays_none}
-use Rattle.ffi3_transfer.proofs.Stepping.{all_keep, all_since, all_stand_stays}
+use Rattle.ffi3_marshal.specs.Standing.{PiecesStand}
+use Rattle.ffi3_marshal.specs.Stored.{IsPlace, IsPut, IsStored, KeepsAbove, Stays}
+use Rattle.ffi3_marshal.proofs.Composing.{apart_sym, none_append, same_then, stays_none}
+use Rattle.ffi3_marshal.proofs.Filling.{boxed_stored, free_stored, from_32_stored, widened_stored}
+use Rattle.ffi3_marshal.proofs.Puts.{piece_set, word_put}
+use Rattle.ffi3_marshal.proofs.Stepping.{all_keep, all_since, all_stand_stays}
 use Rattle.ffi3_moves.specs.Play.{frame_at, moved, play, play_one, to_eight, written_over}
 use Rattle.ffi3_moves.specs.Moves.{exchange_at, filling, piece_in, pieces_in}
 use Rattle.ffi3_moves.specs.Exchange.{AreBytes, image_at}

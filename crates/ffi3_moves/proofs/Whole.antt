@@ -19,17 +19,15 @@ use Rattle.ffi3_place_rules.specs.Agrees.{AgreesWithMachine}
 use Rattle.ffi3_place_rules.specs.Standard.{Standard, plan_of, frame_of}
 use Rattle.ffi3_place_rules.specs.Holds.{OwnsHidden, RegisterHolds}
 use Rattle.ffi3_place_rules.specs.Sound.{IsWhole, Apart, IsNoneOf, IsSound, LiesIn, argument_locs, buffer_locs, copy_locs, hidden_locs, place_locs}
-use Rattle.ffi3_pieces.specs.Stored.{IsPlace}
-use Rattle.ffi3_pieces.specs.Standing.{all_uses, AreReady}
-use Rattle.ffi3_pieces.proofs.Arguments.{lies_more}
-use Rattle.ffi3_pieces.proofs.Composing.{none_append}
-use Rattle.ffi3_pieces.proofs.Lawful.{across_none, all_apart, each_first, each_join, machine_places}
-use Rattle.ffi3_transfer.specs.Stored.{Stays}
+use Rattle.ffi3_marshal.specs.Standing.{AreReady, all_uses}
+use Rattle.ffi3_marshal.specs.Stored.{IsPlace, Stays}
+use Rattle.ffi3_marshal.proofs.Arguments.{lies_more, places_keep, ready_all}
+use Rattle.ffi3_marshal.proofs.Composing.{none_append, stays_none}
+use Rattle.ffi3_marshal.proofs.Lawful.{across_none, all_apart, each_first, each_join, machine_places}
 use Rattle.ffi3_transfer.specs.Packed.{packed_size}
 use Rattle.ffi3_transfer.specs.Calls.{stored_locs}
-use Rattle.ffi3_transfer.proofs.Arguments.{all_stay, places_keep, ready_all}
+use Rattle.ffi3_transfer.proofs.Arguments.{all_stay}
 use Rattle.ffi3_transfer.proofs.Clear.{hidden_clear, count_clear, count_clear_of_hidden, count_is_register}
-use Rattle.ffi3_transfer.proofs.Composing.{stays_none}
 use Rattle.ffi3_transfer.proofs.Owning.{owned, filled}
 use Rattle.ffi3_transfer.proofs.Results.{buffer_within}
 use Rattle.ffi3_moves.specs.Play.{frame_at, play}

@@ -14,9 +14,9 @@ use Rattle.ffi3_place_rules.specs.Locs.{piece_locs}
 use Rattle.ffi3_place_rules.specs.Standard.{Standard, plan_of}
 use Rattle.ffi3_place_rules.specs.Holds.{FillArguments, HoldsResult, OwnsArguments, RegisterHolds}
 use Rattle.ffi3_transfer.specs.Calls.{IsCallStored, ResultKeeps, stored_locs}
+use Rattle.ffi3_marshal.specs.Standing.{PlacesKeep}
+use Rattle.ffi3_marshal.specs.Stored.{Stays}
 use Rattle.ffi3_transfer.specs.Packed.{values_packed}
-use Rattle.ffi3_transfer.specs.Standing.{PlacesKeep}
-use Rattle.ffi3_transfer.specs.Stored.{Stays}
 use Rattle.ffi3_moves.specs.Play.{frame_at, written_over}
 use Rattle.ffi3_moves.specs.Moves.{exchange_at}
 use Rattle.ffi3_moves.specs.Exchange.{AreBytes, image_at}

@@ -1,42 +1,24 @@
 -- One more argument beside those that stand.
-use Rattle.std.specs.Prelude.{slice_get, Some}
-use Rattle.std.proofs.Common.{◌≡◌, ℕ, suc, zero, ◌+◌, ◌<◌, List, [], ◌∷◌, ◌++◌, drop, length, subst, sym, refl, arith}
+use Rattle.std.proofs.Common.{◌≡◌, ℕ, ◌+◌, List, [], ◌∷◌, drop, length, subst, sym, arith}
 use Rattle.std.specs.List.{AllByRecursion}
 use Rattle.std.proofs.lemmas.List.{drop_all}
-use Rattle.ffi3_type_rules.specs.Tree.{Tree, tree_at}
+use Rattle.ffi3_type_rules.specs.Tree.{Tree}
 use Rattle.ffi3_type_rules.specs.Layout.{size_of}
-use Rattle.ffi3_type_rules.specs.Signature.{Signature, SignatureHasNoFault}
 use Rattle.ffi3_place_rules.specs.declared.Loc.{Loc}
 use Rattle.ffi3_place_rules.specs.declared.Place.{Place}
 use Rattle.ffi3_place_rules.specs.Image.{Image}
-use Rattle.ffi3_place_rules.specs.Agrees.{AgreesWithMachine}
-use Rattle.ffi3_place_rules.specs.Standard.{Standard, plan_of, frame_of, round8}
-use Rattle.ffi3_place_rules.specs.Sound.{AreApart, IsNoneOf, IsSound}
-use Rattle.ffi3_place_rules.proofs.Elements.{argument_read}
+use Rattle.ffi3_place_rules.specs.Standard.{round8}
+use Rattle.ffi3_place_rules.specs.Sound.{IsNoneOf}
 use Rattle.ffi3_type_rules.specs.declared.Target.{Target}
-use Rattle.ffi3_pieces.specs.Standing.{place_uses, all_uses, IsReady, AreReady}
-use Rattle.ffi3_pieces.proofs.Arguments.{place_read, ready_length}
-use Rattle.ffi3_pieces.proofs.Lawful.{each_first, each_rest, apart_rest, apart_across, across_none, all_ready, all_apart, written_by_law}
-use Rattle.ffi3_transfer.specs.Stored.{Stays}
+use Rattle.ffi3_marshal.specs.Stored.{Stays}
+use Rattle.ffi3_marshal.specs.Standing.{place_uses, all_uses, AreReady, PlaceKeeps, PlaceStands, PlacesKeep}
+use Rattle.ffi3_marshal.proofs.Composing.{stays_none, stays_then}
+use Rattle.ffi3_marshal.proofs.Copying.{keeps_since, place_stays}
+use Rattle.ffi3_marshal.proofs.Lawful.{each_first, each_rest, apart_across, across_none}
+use Rattle.ffi3_marshal.proofs.Arguments.{AtArgument, places_keep, ready_length}
 use Rattle.ffi3_transfer.specs.Packed.{packed_size, first_in, behind}
-use Rattle.ffi3_transfer.specs.Standing.{PlaceKeeps, PlaceStands, PlacesKeep, AllStand}
-use Rattle.ffi3_transfer.proofs.Composing.{stays_none, stays_then}
-use Rattle.ffi3_transfer.proofs.Copying.{keeps_since, place_keeps, place_stays}
+use Rattle.ffi3_transfer.specs.Standing.{AllStand}
 use Rattle.ffi3_transfer.proofs.Packing.{packed_open, behind_drop}
-
-ready_drop : (target : Target) (room j : ℕ) (ts : List Tree) (ps : List Place) → AreReady target room ts ps → AreReady target room (drop j ts) (drop j ps)
-ready_drop target room zero ts ps h = h
-ready_drop target room (suc j) [] [] h = tt
-ready_drop target room (suc j) [] (p ∷ ps) h = absurd h
-ready_drop target room (suc j) (t ∷ ts) [] h = absurd h
-ready_drop target room (suc j) (t ∷ ts) (p ∷ ps) h = ready_drop target room j ts ps h.1
-
-uses_drop : (target : Target) (room j : ℕ) (ts : List Tree) (ps : List Place) → AreReady target room ts ps → AreApart (all_uses ts ps) → AreApart (all_uses (drop j ts) (drop j ps))
-uses_drop target room zero ts ps ready h = h
-uses_drop target room (suc j) [] [] ready h = h
-uses_drop target room (suc j) [] (p ∷ ps) ready h = absurd ready
-uses_drop target room (suc j) (t ∷ ts) [] ready h = absurd ready
-uses_drop target room (suc j) (t ∷ ts) (p ∷ ps) ready h = uses_drop target room j ts ps ready.1 (apart_rest (place_uses t p) (all_uses ts ps) h)
 
 pub all_stay : (base : ℕ) (target : Target) (room : ℕ) (ls : List Loc) (a b : Image) (ts : List Tree) (ps : List Place) (bytes : List ℕ) → AreReady target room ts ps → AllByRecursion (IsNoneOf ls) (all_uses ts ps) → Stays base ls a b → AllStand base a ts ps bytes → AllStand base b ts ps bytes
 all_stay base target room ls a b [] [] bytes ready none s stand = tt
@@ -45,16 +27,6 @@ all_stay base target room ls a b (t ∷ ts) [] bytes ready none s stand = absurd
 all_stay base target room ls a b (t ∷ ts) (p ∷ ps) bytes ready none s stand = (
   place_stays base t (first_in t bytes) p ls a b ready.0.has_all (each_first (IsNoneOf ls) (place_uses t p) (all_uses ts ps) none) s stand.0,
   all_stay base target room ls a b ts ps (behind t bytes) ready.1 (each_rest (IsNoneOf ls) (place_uses t p) (all_uses ts ps) none) s stand.1,
-)
-
--- what their places keep they keep
-pub places_keep : (base : ℕ) (ls : List Loc) (o a b : Image) (ts : List Tree) (ps : List Place) → AllByRecursion (IsNoneOf ls) (all_uses ts ps) → Stays base ls a b → PlacesKeep base o a ts ps → PlacesKeep base o b ts ps
-places_keep base ls o a b [] [] none s keep = tt
-places_keep base ls o a b [] (p ∷ ps) none s keep = tt
-places_keep base ls o a b (t ∷ ts) [] none s keep = tt
-places_keep base ls o a b (t ∷ ts) (p ∷ ps) none s keep = (
-  place_keeps base t p ls o a b (each_first (IsNoneOf ls) (place_uses t p) (all_uses ts ps) none) s keep.0,
-  places_keep base ls o a b ts ps (each_rest (IsNoneOf ls) (place_uses t p) (all_uses ts ps) none) s keep.1,
 )
 
 module _ (base : ℕ) (target : Target) (room : ℕ) (ts : List Tree) (ps : List Place) (bytes : List ℕ) where
@@ -77,21 +49,7 @@ module _ (base : ℕ) (target : Target) (room : ℕ) (ts : List Tree) (ps : List
         kept = rw no_type tt;
       }
 
-  -- what is known of the argument at j
-  pub record AtArgument (j : ℕ) (t : Tree) (p : Place) : Type 0 where
-    pub types : drop j ts ≡ t ∷ drop (j + 1) ts
-    pub places : drop j ps ≡ p ∷ drop (j + 1) ps
-    pub ready : IsReady target room t p
-    pub rest_ready : AreReady target room (drop (j + 1) ts) (drop (j + 1) ps)
-    pub apart : AreApart (place_uses t p ++ all_uses (drop (j + 1) ts) (drop (j + 1) ps))
-
-  pub at_argument : (j : ℕ) (t : Tree) (p : Place) → AreReady target room ts ps → AreApart (all_uses ts ps) → drop j ts ≡ t ∷ drop (j + 1) ts → drop j ps ≡ p ∷ drop (j + 1) ps → AtArgument j t p
-  at_argument j t p ready apart types places =
-      let ready_here = subst (λ us. AreReady target room us (p ∷ drop (j + 1) ps)) types (subst (AreReady target room (drop j ts)) places (ready_drop target room j ts ps ready)) in
-      let apart_here = subst (λ us. AreApart (all_uses us (p ∷ drop (j + 1) ps))) types (subst (λ qs. AreApart (all_uses (drop j ts) qs)) places (uses_drop target room j ts ps ready apart)) in
-      record { types = types; places = places; ready = ready_here.0; rest_ready = ready_here.1; apart = apart_here }
-
-  module _ (j : ℕ) (t : Tree) (p : Place) (here : AtArgument j t p) where
+  module _ (j : ℕ) (t : Tree) (p : Place) (here : AtArgument target room ts ps j t p) where
     pub argument_step : (at end : ℕ) (first a b : Image) → end ≡ at + round8 (size_of t) → PlaceStands base b t (first_in t (drop at bytes)) p → PlaceKeeps base a b t p → Stays base (place_uses t p) a b → AllStored (j + 1) end first a → AllStored j at first b
     argument_step at end first a b next stands keeps stays before =
         let across = apart_across (place_uses t p) (all_uses (drop (j + 1) ts) (drop (j + 1) ps)) here.apart in
@@ -112,12 +70,3 @@ module _ (base : ℕ) (target : Target) (room : ℕ) (ts : List Tree) (ps : List
       let end = subst (λ i. AllStored i at first m) none stored in
       let start : at ≡ 0 = omega (arith, end.left, sized) in
       (subst (λ n. AllStand base m ts ps (drop n bytes)) start end.stand, end.stays, end.kept)
-
--- what the laws say of the argument at j
-module _ (std : Standard) (s : Signature) (sound : IsSound std s) (right : SignatureHasNoFault s) (agrees : AgreesWithMachine std) where
-  pub ready_all : AreReady std.target (frame_of std s) s.arguments (plan_of std s).places
-  ready_all = all_ready std s sound right std.target (written_by_law std s sound agrees std.target std.target refl refl)
-
-  pub lawful_argument : (base : ℕ) (bytes : List ℕ) (j : ℕ) (t : Tree) (p : Place) → j < length s.arguments → t ≡ tree_at s.arguments j → slice_get (plan_of std s).places j ≡ Some p → AtArgument base std.target (frame_of std s) s.arguments (plan_of std s).places bytes j t p
-  lawful_argument base bytes j t p below type_is place_is =
-      at_argument base std.target (frame_of std s) s.arguments (plan_of std s).places bytes j t p ready_all (all_apart std s sound) (argument_read s.arguments j t below type_is) (place_read (plan_of std s).places j p place_is)

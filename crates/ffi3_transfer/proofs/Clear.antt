@@ -12,9 +12,9 @@ use Rattle.ffi3_place_rules.specs.Isa.{to_list}
 use Rattle.ffi3_place_rules.specs.Standard.{Standard, plan_of}
 use Rattle.ffi3_place_rules.specs.Agrees.{AgreesWithMachine}
 use Rattle.ffi3_place_rules.specs.Sound.{Apart, IsNoneOf, IsSound, argument_locs, buffer_locs, copy_locs, hidden_locs, closed_to_arguments, closed_to_results, place_locs, stack_words, stack_words_for}
-use Rattle.ffi3_pieces.specs.Stored.{IsPlace}
-use Rattle.ffi3_pieces.specs.Standing.{all_uses}
-use Rattle.ffi3_pieces.proofs.Lawful.{each_first, each_rest, each_join, apart_first, apart_across, across_none, across_first, uses_each, machine_places}
+use Rattle.ffi3_marshal.specs.Standing.{all_uses}
+use Rattle.ffi3_marshal.specs.Stored.{IsPlace}
+use Rattle.ffi3_marshal.proofs.Lawful.{each_first, each_rest, each_join, apart_first, apart_across, across_none, across_first, uses_each, machine_places}
 
 register_apart : (l : Loc) (at n : ℕ) → IsPlace 0 l → AllByRecursion (Apart l) (stack_words at n)
 register_apart l at zero h = tt

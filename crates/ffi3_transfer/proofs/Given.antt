@@ -24,13 +24,12 @@ use Rattle.ffi3_place_rules.specs.Agrees.{AgreesWithMachine, given_back}
 use Rattle.ffi3_place_rules.specs.Standard.{Standard, plan_of}
 use Rattle.ffi3_place_rules.specs.Holds.{FillsAs, FillsResult, Kept, OwnsHidden, OwnsResult, RegisterHolds, SameIn}
 use Rattle.ffi3_place_rules.specs.Sound.{Apart, IsNoneOf, IsSound, LiesIn, closed_to_results, piece_locs, result_locs}
-use Rattle.ffi3_pieces.specs.Stored.{IsPlace}
-use Rattle.ffi3_pieces.proofs.Lawful.{across_none, each_first, each_map, each_rest, machine_places}
+use Rattle.ffi3_marshal.specs.Stored.{IsPlace, KeepsAbove, PieceStands, SameAt, Stays}
+use Rattle.ffi3_marshal.proofs.Composing.{same_word_at}
+use Rattle.ffi3_marshal.proofs.Owning.{pieces_filled, pieces_stand}
+use Rattle.ffi3_marshal.proofs.Lawful.{across_none, each_first, each_map, each_rest, machine_places}
 use Rattle.ffi3_explain_rules.specs.Arguments.{is_in_image}
-use Rattle.ffi3_transfer.specs.Stored.{KeepsAbove, SameAt, Stays, PieceStands}
 use Rattle.ffi3_transfer.specs.Calls.{IsBeside, IsGiven, IsGivenBy, ResultKeeps, at_return, given_locs, giving_bytes}
-use Rattle.ffi3_transfer.proofs.Composing.{same_word_at}
-use Rattle.ffi3_transfer.proofs.Owning.{pieces_stand, pieces_filled}
 
 -- ---- registers alone
 

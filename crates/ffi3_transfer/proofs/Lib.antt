@@ -1,9 +1,5 @@
-pub mod Puts
-pub mod Filling
-pub mod Composing
+pub mod Lent
 pub mod PlaceBytes
-pub mod Stepping
-pub mod Copying
 pub mod Packing
 pub mod Arguments
 pub mod Owning

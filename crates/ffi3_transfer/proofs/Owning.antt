@@ -1,59 +1,20 @@
 -- Arguments that stand at their places are owned by the image, and what fills the rest of their places is right.
-use Rattle.std.specs.Prelude.{true}
-use Rattle.std.proofs.Common.{◌≡◌, ℕ, suc, ◌+◌, ◌-◌, ◌<◌, ◌≤◌, List, [], ◌∷◌, get_or, length, ap, ◌∙◌, arith, length-drop}
-use Rattle.std.specs.List.{AllByRecursion}
+use Rattle.std.proofs.Common.{◌≡◌, ℕ, suc, ◌<◌, ◌≤◌, List, [], ◌∷◌, length, arith, length-drop}
 use Rattle.std.proofs.lemmas.List.{length-take-le}
 use Rattle.ffi3_type_rules.specs.Tree.{Tree, tree_at}
 use Rattle.ffi3_type_rules.specs.Fault.{IsLaidOut}
-use Rattle.ffi3_type_rules.specs.Layout.{Leaf, leaves_of, scalar_size, size_of}
-use Rattle.ffi3_type_rules.specs.Value.{value_in, fits}
+use Rattle.ffi3_type_rules.specs.Layout.{size_of}
 use Rattle.ffi3_type_rules.proofs.Fitting.{value_fits}
-use Rattle.ffi3_place_rules.specs.declared.Piece.{Piece}
 use Rattle.ffi3_place_rules.specs.declared.Place.{Place}
-use Rattle.ffi3_place_rules.specs.declared.Place.TheVariants.{Direct, ByRef}
 use Rattle.ffi3_place_rules.specs.Standard.{round8}
-use Rattle.ffi3_place_rules.specs.Image.{Image, byte_at}
-use Rattle.ffi3_place_rules.specs.Holds.{leaf_bytes, Carries, LeavesStand, OwnsArgument, OwnsArguments, FillPieces, FillArguments, FillsArgument}
-use Rattle.ffi3_place_rules.proofs.Reading.{LeavesRead, ReadsLeaf, leaves_read}
-use Rattle.ffi3_transfer.specs.Stored.{PieceStands}
+use Rattle.ffi3_place_rules.specs.Image.{Image}
+use Rattle.ffi3_place_rules.specs.Holds.{OwnsArguments, FillArguments}
+use Rattle.ffi3_marshal.proofs.Owning.{argument_filled, argument_owned}
 use Rattle.ffi3_transfer.specs.Packed.{packed_size, values_packed, first_in, behind}
-use Rattle.ffi3_transfer.specs.Standing.{PlaceStands, AllStand}
+use Rattle.ffi3_transfer.specs.Standing.{AllStand}
 use Rattle.ffi3_transfer.proofs.Packing.{in_room}
 
 module _ (base : ℕ) (m : Image) where
-  leaf_stands : (t : Tree) (bytes : List ℕ) (l : Leaf) (b : List ℕ) (pieces : List Piece) (k : ℕ) → k < scalar_size l.kind → ReadsLeaf bytes l b → AllByRecursion (PieceStands base m t bytes) pieces → AllByRecursion (λ p. Carries (l.at + k) p → byte_at m base p.loc (l.at + k - p.off) ≡ get_or b k 0) pieces
-  leaf_stands t bytes l b [] k h reads stand = tt
-  leaf_stands t bytes l b (p ∷ pieces) k h reads stand = (one, leaf_stands t bytes l b pieces k h reads stand.1)
-    where
-      one : Carries (l.at + k) p → byte_at m base p.loc (l.at + k - p.off) ≡ get_or b k 0
-      one c =
-          let there : p.off + (l.at + k - p.off) ≡ l.at + k = omega (arith, c.0) in
-          stand.0.held (l.at + k - p.off) (omega (arith, c.0, c.1)) ∙ ap (λ n. get_or bytes n 0) there ∙ reads k h
-
-  leaves_stand : (t : Tree) (bytes : List ℕ) (pieces : List Piece) (ls : List Leaf) (bs : List (List ℕ)) → LeavesRead bytes ls bs → AllByRecursion (PieceStands base m t bytes) pieces → LeavesStand m base pieces ls bs
-  leaves_stand t bytes pieces [] [] reads stand = tt
-  leaves_stand t bytes pieces [] (b ∷ bs) reads stand = absurd reads
-  leaves_stand t bytes pieces (l ∷ ls) [] reads stand = absurd reads
-  leaves_stand t bytes pieces (l ∷ ls) (b ∷ bs) reads stand =
-      (λ k h. leaf_stands t bytes l b pieces k h reads.0 stand, leaves_stand t bytes pieces ls bs reads.1 stand)
-
-  -- the pieces of bytes have the value that these have
-  pub pieces_stand : (t : Tree) (bytes : List ℕ) (pieces : List Piece) → AllByRecursion (PieceStands base m t bytes) pieces → LeavesStand m base pieces (leaves_of t) (leaf_bytes (value_in t bytes))
-  pieces_stand t bytes pieces stand =
-      leaves_stand t bytes pieces (leaves_of t) (leaf_bytes (value_in t bytes)) (leaves_read t bytes) stand
-
-  pub pieces_filled : (t : Tree) (bytes : List ℕ) (pieces : List Piece) → AllByRecursion (PieceStands base m t bytes) pieces → FillPieces m base t pieces (value_in t bytes)
-  pieces_filled t bytes [] stand = tt
-  pieces_filled t bytes (p ∷ pieces) stand = (stand.0.filled, pieces_filled t bytes pieces stand.1)
-
-  argument_owned : (t : Tree) (bytes : List ℕ) (p : Place) → fits t (value_in t bytes) ≡ true → PlaceStands base m t bytes p → OwnsArgument m base t p (value_in t bytes)
-  argument_owned t bytes (Direct pieces) fit stands = (fit, pieces_stand t bytes pieces stands)
-  argument_owned t bytes (ByRef at copy) fit stands = (fit, stands.address, ap (value_in t) stands.has)
-
-  argument_filled : (t : Tree) (bytes : List ℕ) (p : Place) → PlaceStands base m t bytes p → FillsArgument m base t p (value_in t bytes)
-  argument_filled t bytes (Direct pieces) stands = pieces_filled t bytes pieces stands
-  argument_filled t bytes (ByRef at copy) stands = tt
-
   pub owned : (ts : List Tree) (ps : List Place) (bytes : List ℕ) → ((i : ℕ) → i < length ts → IsLaidOut (tree_at ts i)) → packed_size ts ≤ length bytes → AllStand base m ts ps bytes → OwnsArguments m base ts ps (values_packed ts bytes)
   owned [] [] bytes laid long stand = tt
   owned [] (p ∷ ps) bytes laid long stand = absurd stand
@@ -61,10 +22,10 @@ module _ (base : ℕ) (m : Image) where
   owned (t ∷ ts) (p ∷ ps) bytes laid long stand =
       let sized : length (first_in t bytes) ≡ size_of t = length-take-le (size_of t) bytes (omega (arith, long, in_room t)) in
       let rest : packed_size ts ≤ length (behind t bytes) = omega (arith, long, length-drop (round8 (size_of t)) bytes) in
-      (argument_owned t (first_in t bytes) p (value_fits t (first_in t bytes) (laid 0 (omega arith)) sized) stand.0, owned ts ps (behind t bytes) (λ i h. laid (suc i) (omega (arith, h))) rest stand.1)
+      (argument_owned base m t (first_in t bytes) p (value_fits t (first_in t bytes) (laid 0 (omega arith)) sized) stand.0, owned ts ps (behind t bytes) (λ i h. laid (suc i) (omega (arith, h))) rest stand.1)
 
   pub filled : (ts : List Tree) (ps : List Place) (bytes : List ℕ) → AllStand base m ts ps bytes → FillArguments m base ts ps (values_packed ts bytes)
   filled [] [] bytes stand = tt
   filled [] (p ∷ ps) bytes stand = absurd stand
   filled (t ∷ ts) [] bytes stand = absurd stand
-  filled (t ∷ ts) (p ∷ ps) bytes stand = (argument_filled t (first_in t bytes) p stand.0, filled ts ps (behind t bytes) stand.1)
+  filled (t ∷ ts) (p ∷ ps) bytes stand = (argument_filled base m t (first_in t bytes) p stand.0, filled ts ps (behind t bytes) stand.1)

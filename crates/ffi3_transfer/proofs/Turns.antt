@@ -12,7 +12,7 @@ use Rattle.ffi3_place_rules.specs.Image.{Image, word_at}
 use Rattle.ffi3_place_rules.specs.Standard.{round8}
 use Rattle.ffi3_place_rules.specs.Sound.{PlaceHasAll}
 use Rattle.ffi3_place_rules.proofs.Elements.{argument_read}
-use Rattle.ffi3_pieces.proofs.Arguments.{place_read}
+use Rattle.ffi3_marshal.proofs.Arguments.{place_read}
 use Rattle.ffi3_explain_rules.specs.declared.Outside.{Outside}
 use Rattle.ffi3_explain_rules.specs.Arguments.{first_outside, is_in_image, or_later, outside_of, value_by_standard, values_by_standard}
 use Rattle.ffi3_explain.specs.Places.{ArgumentIsThere, ArgumentsAreReady}

@@ -13,14 +13,15 @@ use Rattle.ffi3_place_rules.specs.Agrees.{AgreesWithMachine}
 use Rattle.ffi3_place_rules.specs.Standard.{Standard, plan_of, frame_of}
 use Rattle.ffi3_place_rules.specs.Holds.{OwnsHidden, RegisterHolds}
 use Rattle.ffi3_place_rules.specs.Sound.{IsNoneOf, IsSound, hidden_locs}
-use Rattle.ffi3_pieces.specs.Standing.{all_uses}
+use Rattle.ffi3_marshal.specs.Standing.{PlacesKeep, all_uses}
+use Rattle.ffi3_marshal.specs.Stored.{Stays}
+use Rattle.ffi3_marshal.proofs.Arguments.{places_keep, ready_all}
+use Rattle.ffi3_marshal.proofs.Composing.{same_word_at, stays_then}
 use Rattle.ffi3_transfer.proofs.Clear.{hidden_clear, count_clear, count_clear_of_hidden, count_is_register}
-use Rattle.ffi3_transfer.specs.Stored.{Stays}
 use Rattle.ffi3_transfer.specs.Packed.{packed_size}
-use Rattle.ffi3_transfer.specs.Standing.{AllStand, PlacesKeep}
+use Rattle.ffi3_transfer.specs.Standing.{AllStand}
 use Rattle.ffi3_transfer.specs.Calls.{IsCallStored}
-use Rattle.ffi3_transfer.proofs.Composing.{same_word_at, stays_then}
-use Rattle.ffi3_transfer.proofs.Arguments.{all_stay, places_keep, ready_all}
+use Rattle.ffi3_transfer.proofs.Arguments.{all_stay}
 use Rattle.ffi3_transfer.proofs.Owning.{owned, filled}
 
 hidden_stays : (base : ℕ) (r : Res) (ls : List Loc) (a b : Image) → AllByRecursion (IsNoneOf ls) (hidden_locs r) → Stays base ls a b → OwnsHidden a base r → OwnsHidden b base r

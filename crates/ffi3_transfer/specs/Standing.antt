@@ -1,51 +1,10 @@
--- Arguments whose bytes stand at their places in an image, as steps towards `Holds`, which says it in the standards' words; and what a store keeps of those places: `PlacesKeep`.
-use Rattle.std.specs.Prelude.{◌≡◌, ℕ, ◌+◌, ◌*◌, ◌/◌, ◌<◌, ◌≤◌, ⊤, List, [], ◌∷◌, get_or, length}
-use Rattle.std.specs.List.{AllByRecursion}
+-- The arguments of a buffer, whose bytes stand at their places in an image, as a step towards `Holds`, which says it in the standards' words.
+use Rattle.std.specs.Prelude.{ℕ, ⊤, List, [], ◌∷◌}
 use Rattle.ffi3_type_rules.specs.Tree.{Tree}
-use Rattle.ffi3_type_rules.specs.Layout.{size_of}
-use Rattle.ffi3_type_rules.specs.Value.{part}
-use Rattle.ffi3_place_rules.specs.declared.Loc.{Loc}
-use Rattle.ffi3_place_rules.specs.declared.Piece.{Piece}
 use Rattle.ffi3_place_rules.specs.declared.Place.{Place}
-use Rattle.ffi3_place_rules.specs.declared.Place.TheVariants.{Direct, ByRef}
-use Rattle.ffi3_place_rules.specs.Image.{Image, word_at}
-use Rattle.ffi3_place_rules.specs.Sound.{stack_words_for}
+use Rattle.ffi3_place_rules.specs.Image.{Image}
+use Rattle.ffi3_marshal.specs.Standing.{PlaceStands}
 use Rattle.ffi3_transfer.specs.Packed.{first_in, behind}
-use Rattle.ffi3_transfer.specs.Stored.{KeepsAbove, PieceStands, Stays}
-
-abbrev pub PiecesStand : ℕ → Image → Tree → List ℕ → List Piece → Type 0
-PiecesStand base m t bytes pieces = AllByRecursion (PieceStands base m t bytes) pieces
-
--- a place has the address of a copy of the bytes
-pub record CopyStands (base : ℕ) (m : Image) (t : Tree) (bytes : List ℕ) (l : Loc) (copy : ℕ) : Type 0 where
-  pub address : word_at m base l ≡ m.sp + base + copy
-  pub room : base + copy + size_of t ≤ length m.stack
-  pub has : part m.stack (base + copy) (size_of t) ≡ bytes
-
-abbrev pub PlaceStands : ℕ → Image → Tree → List ℕ → Place → Type 0
-PlaceStands base m t bytes (Direct pieces) = PiecesStand base m t bytes pieces
-PlaceStands base m t bytes (ByRef at copy) = CopyStands base m t bytes at copy
-
--- the bytes behind a copy, in its last doubleword, keep what stood there
-abbrev pub KeepsBehind : ℕ → Tree → Image → Image → Type 0
-KeepsBehind from t old new =
-    (k : ℕ) → size_of t ≤ k → k < 8 * ((size_of t + 7) / 8) → get_or new.stack (from + k) 0 ≡ get_or old.stack (from + k) 0
-
--- what no byte of the argument takes of its places, and nothing fills, keeps what stood there
-abbrev pub PlaceKeeps : ℕ → Image → Image → Tree → Place → Type 0
-PlaceKeeps base old new t (Direct pieces) = AllByRecursion (KeepsAbove base old new) pieces
-PlaceKeeps base old new t (ByRef at copy) = KeepsBehind (base + copy) t old new
-
--- and so of all arguments
-abbrev pub PlacesKeep : ℕ → Image → Image → List Tree → List Place → Type 0
-PlacesKeep base old new (t ∷ ts) (p ∷ ps) = PlaceKeeps base old new t p × PlacesKeep base old new ts ps
-PlacesKeep base old new _ _ = ⊤
-
--- what the two stores of an argument by reference leave
-pub record IsCopied (base : ℕ) (t : Tree) (bytes : List ℕ) (l : Loc) (copy : ℕ) (old new : Image) : Type 0 where
-  pub stands : CopyStands base new t bytes l copy
-  pub kept : KeepsBehind (base + copy) t old new
-  pub stays : Stays base (l ∷ stack_words_for copy t) old new
 
 -- each argument of the buffer stands at its place
 abbrev pub AllStand : ℕ → Image → List Tree → List Place → List ℕ → Type 0

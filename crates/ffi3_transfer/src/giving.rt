@@ -5,9 +5,9 @@ ghost use Rattle.ffi3_type_rules.specs.Value.{part};
 ghost use Rattle.ffi3_place_rules.specs.Isa.{to_list};
 ghost use Rattle.ffi3_place_rules.specs.Holds.{RegisterHolds};
 ghost use Rattle.ffi3_place_rules.specs.Sound.{hidden_locs};
-ghost use Rattle.ffi3_pieces.specs.Stored.{IsPlace};
+ghost use Rattle.ffi3_marshal.specs.Stored.{IsPlace, Stays};
 ghost use Rattle.ffi3_explain_rules.specs.Arguments.{offset_in, stack_end};
-ghost use Rattle.ffi3_transfer.specs.Stored.{Stays, image_in};
+ghost use Rattle.ffi3_transfer.specs.Stored.{image_in};
 ghost use Rattle.ffi3_transfer.specs.Calls.{IsGiven, IsNotGiven};
 
 use crate::putting::put_word;

@@ -1,6 +1,7 @@
 //! Values between a caller's memory and the registers and stack of a call, by any calling standard.
 #![tactic(auto)]
 
+mod call;
 mod collecting;
 mod giving;
 mod loading;
@@ -8,7 +9,6 @@ mod padding;
 mod putting;
 mod reading;
 mod storing;
-mod widen;
 
 pub use collecting::{collect, first_outside, outside_of, read_argument};
 pub use giving::{give, offset_in};

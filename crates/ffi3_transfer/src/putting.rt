@@ -1,32 +1,14 @@
 // Bytes and words at places of registers and stack.
-ghost use Rattle.std.specs.Prelude.{◌≡◌, ℕ, ◌+◌, ◌-◌, ◌/◌, ◌^◌, ◌<◌, ◌≤◌, length, get_or};
-ghost use Rattle.std.specs.Int.{w64, to_le_bytes};
+ghost use Rattle.std.specs.Prelude.{◌≡◌, ◌-◌, ◌≤◌, length};
 ghost use Rattle.ffi3_type_rules.specs.Layout.{size_of};
 ghost use Rattle.ffi3_place_rules.specs.Sound.{IsPieceOf, IsWhole, IsWithin, place_size};
-ghost use Rattle.ffi3_pieces.specs.Stored.{HasLow, IsPlace};
-ghost use Rattle.ffi3_transfer.specs.Stored.{IsPut, IsSet, IsStored, IsWordPut, image_in};
+ghost use Rattle.ffi3_marshal.specs.Stored.{IsPlace, IsPut, IsSet, IsStored, IsWordPut};
+ghost use Rattle.ffi3_transfer.specs.Stored.{image_in};
 
 use crate::Registers;
-use crate::widen::{widened, widened_from_32};
-use ffi3_place::{Ext, Loc, Piece};
+use crate::call::Call;
+use ffi3_place::{Loc, Piece};
 use ffi3_types::CheckedType;
-
-// The number of eight bytes, the lowest first.
-fn word_of(bytes: [u8; 8]) -> u64
-    ensures { to_le_bytes w64 result ≡ bytes }
-{
-    u64::from_le_bytes(bytes)
-}
-
-// The word with its low bytes replaced.
-fn with_low(word: u64, bytes: &[u8]) -> u64
-    requires { length bytes.now ≤ 8 }
-    ensures { HasLow bytes.now word result }
-{
-    let mut all = word.to_le_bytes();
-    all[..bytes.len()].copy_from_slice(bytes);
-    word_of(all)
-}
 
 /// Puts bytes into a place, whose other bytes stay. Stack places count from `base` bytes above the stack pointer.
 pub fn put(registers: &mut Registers, stack: &mut [u8], base: u64, at: Loc, bytes: &[u8])
@@ -34,22 +16,8 @@ pub fn put(registers: &mut Registers, stack: &mut [u8], base: u64, at: Loc, byte
     requires few { length bytes.now ≤ place_size at }
     ensures { IsPut base at bytes.now (image_in registers.old stack.old) (image_in registers.new stack.new) }
 {
-    // its length tells that the sums below are small
-    let _len = stack.len();
-    match at {
-        Loc::G(r) => {
-            let word = with_low(registers.general[r as usize], bytes);
-            registers.general[r as usize] = word;
-        }
-        Loc::F(r) => {
-            let word = with_low(registers.floating[r as usize], bytes);
-            registers.floating[r as usize] = word;
-        }
-        Loc::S(n, _) => {
-            let from = base as usize + n as usize;
-            stack[from..from + bytes.len()].copy_from_slice(bytes);
-        }
-    }
+    let mut call = Call { registers, stack };
+    ffi3_marshal::put(&mut call, base, at, bytes);
 }
 
 /// Puts a number into a place of eight bytes. Stack places count from `base` bytes above the stack pointer.
@@ -58,7 +26,8 @@ pub fn put_word(registers: &mut Registers, stack: &mut [u8], base: u64, at: Loc,
     requires whole { IsWhole at }
     ensures { IsWordPut base at word (image_in registers.old stack.old) (image_in registers.new stack.new) }
 {
-    put(registers, stack, base, at, &word.to_le_bytes());
+    let mut call = Call { registers, stack };
+    ffi3_marshal::put_word(&mut call, base, at, word);
 }
 
 /// Puts the bytes that a piece carries into its place, whose other bytes stay.
@@ -67,32 +36,8 @@ pub fn set_piece(registers: &mut Registers, stack: &mut [u8], base: u64, piece: 
     requires fits { IsWithin (length bytes.now) piece }
     ensures { IsSet base piece bytes.now (image_in registers.old stack.old) (image_in registers.new stack.new) }
 {
-    let from = piece.off as usize;
-    put(
-        registers,
-        stack,
-        base,
-        piece.loc,
-        &bytes[from..from + piece.len as usize],
-    );
-}
-
-// The number of four bytes from an offset on, with ones above it.
-fn boxed(bytes: &[u8], from: usize) -> u64
-    requires { from + 4 ≤ length bytes.now }
-    ensures low { (k : ℕ) → k < 4 → get_or (to_le_bytes w64 result) k 0 ≡ get_or bytes.now (from + k) 0 }
-    ensures high { result / 2 ^ 32 ≡ 2 ^ 32 - 1 }
-{
-    word_of([
-        bytes[from],
-        bytes[from + 1],
-        bytes[from + 2],
-        bytes[from + 3],
-        0xFF,
-        0xFF,
-        0xFF,
-        0xFF,
-    ])
+    let mut call = Call { registers, stack };
+    ffi3_marshal::set_piece(&mut call, base, piece, bytes);
 }
 
 /// Puts the bytes that a piece of a value carries into its place, and fills the rest of the place as the standard says.
@@ -109,23 +54,6 @@ pub fn fill_piece(
     requires sized { length bytes.now ≡ size_of ty.now }
     ensures { IsStored base ty.now bytes.now piece (image_in registers.old stack.old) (image_in registers.new stack.new) }
 {
-    let plain = ty.as_type();
-    match piece.ext {
-        Ext::Free => set_piece(registers, stack, base, piece, bytes),
-        Ext::Widen => put_word(registers, stack, base, piece.loc, widened(plain, bytes)),
-        Ext::Riscv => put_word(
-            registers,
-            stack,
-            base,
-            piece.loc,
-            widened_from_32(plain, bytes),
-        ),
-        Ext::Boxed => put_word(
-            registers,
-            stack,
-            base,
-            piece.loc,
-            boxed(bytes, piece.off as usize),
-        ),
-    }
+    let mut call = Call { registers, stack };
+    ffi3_marshal::fill_piece(&mut call, base, piece, ty, bytes);
 }

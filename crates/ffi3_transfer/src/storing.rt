@@ -5,16 +5,17 @@ ghost use Rattle.ffi3_type_rules.specs.Layout.{size_of};
 ghost use Rattle.ffi3_place_rules.specs.Isa.{to_list};
 ghost use Rattle.ffi3_place_rules.specs.Standard.{plan_of};
 ghost use Rattle.ffi3_place_rules.specs.Holds.{OwnsHidden, RegisterHolds};
-ghost use Rattle.ffi3_place_rules.specs.Sound.{Apart, AreApart, hidden_locs, IsPieceOf, IsWhole, PlaceHasAll, piece_locs, stack_words_for};
-ghost use Rattle.ffi3_pieces.specs.Stored.{IsPlace};
-ghost use Rattle.ffi3_pieces.specs.Standing.{PlaceLies, all_uses, place_uses};
+ghost use Rattle.ffi3_place_rules.specs.Sound.{AreApart, hidden_locs, IsPieceOf, IsWhole, PlaceHasAll, piece_locs};
+ghost use Rattle.ffi3_marshal.specs.Stored.{IsPlace, KeepsAbove, Stays};
+ghost use Rattle.ffi3_marshal.specs.Standing.{PiecesStand, PlaceKeeps, PlaceLies, PlaceStands, PlacesKeep, all_uses, place_uses};
 ghost use Rattle.ffi3_explain.specs.Places.{HiddenIsThere};
-ghost use Rattle.ffi3_transfer.specs.Stored.{KeepsAbove, Stays, image_in};
+ghost use Rattle.ffi3_transfer.specs.Stored.{image_in};
 ghost use Rattle.ffi3_transfer.specs.Packed.{packed_size};
-ghost use Rattle.ffi3_transfer.specs.Standing.{AllStand, IsCopied, PiecesStand, PlaceKeeps, PlaceStands, PlacesKeep};
+ghost use Rattle.ffi3_transfer.specs.Standing.{AllStand};
 ghost use Rattle.ffi3_transfer.specs.Calls.{IsCallStored, IsNotStored, entry_bytes};
 
-use crate::putting::{fill_piece, put_word};
+use crate::call::Call;
+use crate::putting::put_word;
 use crate::{Registers, Unstored};
 use ffi3_cif::Cif;
 use ffi3_place::{Abi, Loc, Pieces, Place, Res};
@@ -38,35 +39,8 @@ pub(crate) fn store_pieces(
     ensures kept { AllByRecursion (KeepsAbove base (image_in registers.old stack.old) (image_in registers.new stack.new)) pieces.now }
     ensures stays { Stays base (piece_locs pieces.now) (image_in registers.old stack.old) (image_in registers.new stack.new) }
 {
-    for j in (0..pieces.len()).rev() {
-        fill_piece(registers, stack, base, *pieces.get(j), ty, bytes);
-    }
-}
-
-// Stores an argument by reference: a copy, and its address in a place.
-fn store_copy(
-    registers: &mut Registers,
-    stack: &mut [u8],
-    base: u64,
-    at: Loc,
-    copy: u32,
-    ty: &CheckedType<'_>,
-    bytes: &[u8],
-)
-    requires fits { base + copy + size_of ty.now ≤ length stack.old }
-    requires high { registers.old.sp + length stack.old < 2 ^ 64 }
-    requires lies { IsPlace (length stack.old - base) at }
-    requires whole { IsWhole at }
-    requires apart { AllByRecursion (Apart at) (stack_words_for copy ty.now) }
-    requires sized { length bytes.now ≡ size_of ty.now }
-    ensures { IsCopied base ty.now bytes.now at copy (image_in registers.old stack.old) (image_in registers.new stack.new) }
-{
-    // its length tells that the sums below are small
-    let _len = stack.len();
-    let from = base as usize + copy as usize;
-    stack[from..from + bytes.len()].copy_from_slice(bytes);
-    let address = registers.sp + base + copy as u64;
-    put_word(registers, stack, base, at, address);
+    let mut call = Call { registers, stack };
+    ffi3_marshal::store_pieces(&mut call, base, pieces, ty, bytes);
 }
 
 // Stores an argument at its place.
@@ -88,10 +62,8 @@ fn store_place(
     ensures kept { PlaceKeeps base (image_in registers.old stack.old) (image_in registers.new stack.new) ty.now place.now }
     ensures stays { Stays base (place_uses ty.now place.now) (image_in registers.old stack.old) (image_in registers.new stack.new) }
 {
-    match place {
-        Place::Direct(pieces) => store_pieces(registers, stack, base, pieces, ty, bytes),
-        Place::ByRef { at, copy } => store_copy(registers, stack, base, *at, *copy, ty, bytes),
-    }
+    let mut call = Call { registers, stack };
+    ffi3_marshal::store_place(&mut call, base, place, ty, bytes);
 }
 
 // Stores all arguments.
@@ -129,14 +101,8 @@ fn store_hidden(registers: &mut Registers, stack: &mut [u8], base: u64, res: &Re
     ensures stands { OwnsHidden (image_in registers.new stack.new) base res.now }
     ensures stays { Stays base (hidden_locs res.now) (image_in registers.old stack.old) (image_in registers.new stack.new) }
 {
-    match res {
-        Res::Hidden { at, buffer } => {
-            let address = registers.sp + base + *buffer as u64;
-            put_word(registers, stack, base, *at, address);
-        }
-        Res::Nothing => {}
-        Res::Direct(_) => {}
-    }
+    let mut call = Call { registers, stack };
+    ffi3_marshal::store_hidden(&mut call, base, res);
 }
 
 // Tells how many vector registers the arguments use, where a register tells it.

@@ -8,13 +8,13 @@ use Rattle.ffi3_place_rules.specs.Sound.{hidden_locs}
 use Rattle.ffi3_place_rules.specs.Isa.{to_list}
 use Rattle.ffi3_place_rules.specs.Standard.{plan_of}
 use Rattle.ffi3_place_rules.proofs.Tests.{and_left}
-use Rattle.ffi3_pieces.proofs.Arguments.{lies_more}
-use Rattle.ffi3_pieces.proofs.Lawful.{machine_places}
+use Rattle.ffi3_marshal.specs.Standing.{PiecesStand}
+use Rattle.ffi3_marshal.proofs.Arguments.{lies_more}
+use Rattle.ffi3_marshal.proofs.Lawful.{machine_places}
 use Rattle.ffi3_explain_rules.specs.Arguments.{is_in_image, stack_end}
 use Rattle.ffi3_explain_rules.proofs.Pieces.{is_le}
 use Rattle.ffi3_explain.proofs.Standing.{found_inside}
 use Rattle.ffi3_transfer.specs.Stored.{image_in}
-use Rattle.ffi3_transfer.specs.Standing.{PiecesStand}
 use Rattle.ffi3_transfer.proofs.PlaceBytes.{hidden_there}
 use Rattle.ffi3_transfer.proofs.Given.{nothing_given, result_registers, direct_given, hidden_given}
 use Rattle.ffi3_transfer.proofs.giving.give.Goals as goal

@@ -1,11 +1,15 @@
-use Rattle.std.proofs.Common.{◌≡◌, ◌+◌, ◌-◌, take, drop, subst, arith}
-use Rattle.ffi3_transfer.specs.Stored.{IsPut, image_in}
-use Rattle.ffi3_transfer.proofs.Puts.{piece_set}
+use Rattle.std.proofs.Common.{◌≡◌, ◌-◌, length, rules}
+use Rattle.ffi3_marshal.specs.Stored.{IsSet}
+use Rattle.ffi3_transfer.specs.Stored.{image_in}
+use Rattle.ffi3_transfer.proofs.Lent.{gave_back, one_takes}
 use Rattle.ffi3_transfer.proofs.putting.set_piece.Goals as goal
+
+pub set_piece-requires-clause-takes : goal.set_piece-requires-clause-takes
+set_piece-requires-clause-takes c = one_takes c.args.piece.loc
 
 pub returns : goal.returns
 returns c =
-    let old = image_in c.args.registers.now c.args.stack.now in
-    let new = image_in c.put.new.registers c.put.new.stack in
-    let many : c.args.piece.off + c.args.piece.len - c.args.piece.off ≡ c.args.piece.len = omega arith in
-    piece_set c.args.base c.args.piece c.args.bytes.now old new c.requires.fits (subst (λ n. IsPut c.args.base c.args.piece.loc (take n (drop c.args.piece.off c.args.bytes.now)) old new) many c.put.ensures)
+    let same = c.set_piece.ensures.within (length c.args.stack.now - c.args.base) c.requires.lies in
+    let registers : c.registers-1.given.0 ≡ c.set_piece.new.state.registers.now = search rules in
+    let stack : c.stack-1.given.0 ≡ c.set_piece.new.state.stack.now = search rules in
+    gave_back (IsSet c.args.base c.args.piece c.args.bytes.now (image_in c.args.registers.now c.args.stack.now)) c.registers-1.given.0 c.set_piece.new.state.registers.now c.stack-1.given.0 c.set_piece.new.state.stack.now registers stack c.set_piece.ensures.set

@@ -3,6 +3,9 @@ use Rattle.ffi3_place_rules.specs.Sound.{IsWithin}
 use Rattle.ffi3_explain.specs.Places.{CanBeRead}
 use Rattle.ffi3_explain.proofs.Loops.{ArePiecesRead, each_from, one_more_read, all_read, none_read}
 use Rattle.ffi3_transfer.specs.Stored.{image_in}
+use Rattle.ffi3_transfer.proofs.Lent.{is_there, is_read}
+use Rattle.ffi3_transfer.proofs.Lent.{is_there, is_read}
+use Rattle.ffi3_transfer.proofs.Lent.{is_there, is_read}
 use Rattle.ffi3_transfer.proofs.reading.read_pieces.Goals as goal
 
 pub loop-j-init : goal.loop-j-init
@@ -11,7 +14,8 @@ loop-j-init c = none_read (image_in c.args.registers.now c.args.stack.now) c.arg
 pub read_piece-requires-clause-there : goal.read_piece-requires-clause-there
 read_piece-requires-clause-there c =
     let below : c.loop-j.j - 1 < length c.args.pieces.now = omega (arith, c.loop-j.invariant.few) in
-    each_from (CanBeRead (image_in c.args.registers.now c.args.stack.now) c.args.base) c.args.pieces.now (c.loop-j.j - 1) c.get.result.now below c.get.ensures c.requires.there
+    is_there (image_in c.args.registers.now c.args.stack.now) c.args.base c.get.result.now.loc
+    (each_from (CanBeRead (image_in c.args.registers.now c.args.stack.now) c.args.base) c.args.pieces.now (c.loop-j.j - 1) c.get.result.now below c.get.ensures c.requires.there).0
 
 pub read_piece-requires-clause-within : goal.read_piece-requires-clause-within
 read_piece-requires-clause-within c =
@@ -26,7 +30,7 @@ loop-j-preserved c =
     let below : c.loop-j.j - 1 < length c.args.pieces.now = omega (arith, c.loop-j.invariant.few) in
     let back : c.loop-j.j ≡ c.loop-j.j - 1 + 1 = omega arith in
     let left = subst (λ n. ArePiecesRead (image_in c.args.registers.now c.args.stack.now) c.args.base c.args.pieces.now (length c.args.out.now) n c.loop-j.out) back c.loop-j.invariant in
-    one_more_read m c.args.base c.args.pieces.now size (c.loop-j.j - 1) c.loop-j.out c.read_piece.new.out c.get.result.now below c.get.ensures left c.read_piece.ensures
+    one_more_read m c.args.base c.args.pieces.now size (c.loop-j.j - 1) c.loop-j.out c.read_piece.new.out c.get.result.now below c.get.ensures left (is_read m c.args.base c.get.result.now c.loop-j.out c.read_piece.new.out c.read_piece.ensures)
 
 pub returns : goal.returns
 returns c =

@@ -3,14 +3,14 @@ use Rattle.ffi3_type_rules.specs.Tree.{tree_at}
 use Rattle.ffi3_type_rules.specs.Layout.{size_of, least_multiple}
 use Rattle.ffi3_place_rules.specs.Standard.{plan_of, frame_of, round8}
 use Rattle.ffi3_place_rules.proofs.Elements.{argument_read}
-use Rattle.ffi3_pieces.specs.Standing.{place_uses}
-use Rattle.ffi3_pieces.proofs.Arguments.{lies_more}
-use Rattle.ffi3_pieces.proofs.Lawful.{apart_first}
+use Rattle.ffi3_marshal.specs.Standing.{PlaceKeeps, PlaceStands, place_uses}
+use Rattle.ffi3_marshal.specs.Stored.{Stays}
+use Rattle.ffi3_marshal.proofs.Arguments.{lawful_argument, lies_more, ready_all}
+use Rattle.ffi3_marshal.proofs.Lawful.{apart_first}
 use Rattle.ffi3_transfer.specs.Packed.{packed_size, first_in}
-use Rattle.ffi3_transfer.specs.Stored.{Stays, image_in}
-use Rattle.ffi3_transfer.specs.Standing.{PlaceKeeps, PlaceStands}
+use Rattle.ffi3_transfer.specs.Stored.{image_in}
 use Rattle.ffi3_transfer.proofs.Packing.{room_before}
-use Rattle.ffi3_transfer.proofs.Arguments.{AllStored, none_yet, ready_all, lawful_argument, argument_step, stored_at_end}
+use Rattle.ffi3_transfer.proofs.Arguments.{AllStored, none_yet, argument_step, stored_at_end}
 use Rattle.ffi3_transfer.proofs.storing.store_arguments.Goals as goal
 
 pub loop-i-init : goal.loop-i-init
@@ -53,7 +53,7 @@ store_place-requires-clause-lies g c =
     let t = c.arg-ty.result in
     let below : c.loop-i.i - 1 < length c.args.cif.now.arguments = omega (arith, c.count-i.ensures.value, ap (λ r. length r.arguments) c.checked_sig-sig.ensures.value) in
     let type_is = c.arg-ty.ensures ∙ ap (λ r. tree_at r.arguments (c.loop-i.i - 1)) c.checked_sig-sig.ensures.value in
-    let here = lawful_argument std s (g.met.A.Abi.sound s) c.checked_sig-sig.ensures.faultless g.met.A.Abi.agrees std.link c.args.values.now (c.loop-i.i - 1) t c.place.result.now below type_is c.place.ensures in
+    let here = lawful_argument std s (g.met.A.Abi.sound s) c.checked_sig-sig.ensures.faultless g.met.A.Abi.agrees (c.loop-i.i - 1) t c.place.result.now below type_is c.place.ensures in
     let base_is : c.LINK-base.result ≡ std.link = c.LINK-base.ensures ∙ sym g.met.A.Abi.link_is in
     lies_more (frame_of std s) (length c.loop-i.stack - c.LINK-base.result) t c.place.result.now (omega (arith, c.requires.frame, c.loop-i.invariant.stays.size, base_is)) here.ready.lies
 
@@ -64,7 +64,7 @@ store_place-requires-clause-apart g c =
     let t = c.arg-ty.result in
     let below : c.loop-i.i - 1 < length c.args.cif.now.arguments = omega (arith, c.count-i.ensures.value, ap (λ r. length r.arguments) c.checked_sig-sig.ensures.value) in
     let type_is = c.arg-ty.ensures ∙ ap (λ r. tree_at r.arguments (c.loop-i.i - 1)) c.checked_sig-sig.ensures.value in
-    let here = lawful_argument std s (g.met.A.Abi.sound s) c.checked_sig-sig.ensures.faultless g.met.A.Abi.agrees std.link c.args.values.now (c.loop-i.i - 1) t c.place.result.now below type_is c.place.ensures in
+    let here = lawful_argument std s (g.met.A.Abi.sound s) c.checked_sig-sig.ensures.faultless g.met.A.Abi.agrees (c.loop-i.i - 1) t c.place.result.now below type_is c.place.ensures in
     apart_first (place_uses t c.place.result.now) _ here.apart
 
 pub store_place-requires-clause-has_all : goal.store_place-requires-clause-has_all
@@ -74,7 +74,7 @@ store_place-requires-clause-has_all g c =
     let t = c.arg-ty.result in
     let below : c.loop-i.i - 1 < length c.args.cif.now.arguments = omega (arith, c.count-i.ensures.value, ap (λ r. length r.arguments) c.checked_sig-sig.ensures.value) in
     let type_is = c.arg-ty.ensures ∙ ap (λ r. tree_at r.arguments (c.loop-i.i - 1)) c.checked_sig-sig.ensures.value in
-    let here = lawful_argument std s (g.met.A.Abi.sound s) c.checked_sig-sig.ensures.faultless g.met.A.Abi.agrees std.link c.args.values.now (c.loop-i.i - 1) t c.place.result.now below type_is c.place.ensures in
+    let here = lawful_argument std s (g.met.A.Abi.sound s) c.checked_sig-sig.ensures.faultless g.met.A.Abi.agrees (c.loop-i.i - 1) t c.place.result.now below type_is c.place.ensures in
     here.ready.has_all
 
 pub loop-i-preserved : goal.loop-i-preserved
@@ -89,7 +89,7 @@ loop-i-preserved g c =
     let b = image_in c.store_place.new.registers c.store_place.new.stack in
     let below : c.loop-i.i - 1 < length c.args.cif.now.arguments = omega (arith, c.count-i.ensures.value, ap (λ r. length r.arguments) c.checked_sig-sig.ensures.value) in
     let type_is = c.arg-ty.ensures ∙ ap (λ r. tree_at r.arguments (c.loop-i.i - 1)) c.checked_sig-sig.ensures.value in
-    let here = lawful_argument std s (g.met.A.Abi.sound s) c.checked_sig-sig.ensures.faultless g.met.A.Abi.agrees std.link c.args.values.now (c.loop-i.i - 1) t c.place.result.now below type_is c.place.ensures in
+    let here = lawful_argument std s (g.met.A.Abi.sound s) c.checked_sig-sig.ensures.faultless g.met.A.Abi.agrees (c.loop-i.i - 1) t c.place.result.now below type_is c.place.ensures in
     let base_is : c.LINK-base.result ≡ std.link = c.LINK-base.ensures ∙ sym g.met.A.Abi.link_is in
     let back : c.loop-i.i ≡ c.loop-i.i - 1 + 1 = omega arith in
     let before = subst (λ i. AllStored std.link std.target (frame_of std s) ts (plan_of std s).places c.args.values.now i c.loop-i.at (image_in c.args.registers.now c.args.stack.now) (image_in c.loop-i.registers c.loop-i.stack)) back c.loop-i.invariant in

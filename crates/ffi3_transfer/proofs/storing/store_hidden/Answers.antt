@@ -1,19 +1,29 @@
-use Rattle.std.proofs.Common.{subst}
-use Rattle.std.specs.List.{AllByRecursion}
-use Rattle.ffi3_place_rules.specs.Sound.{IsWhole, hidden_locs}
-use Rattle.ffi3_explain.specs.Places.{HiddenIsThere}
+use Rattle.std.proofs.Common.{◌≡◌, ◌-◌, length, rules}
+use Rattle.ffi3_place_rules.specs.Holds.{OwnsHidden}
+use Rattle.ffi3_place_rules.specs.Sound.{hidden_locs}
+use Rattle.ffi3_marshal.specs.Stored.{Stays}
 use Rattle.ffi3_transfer.specs.Stored.{image_in}
-use Rattle.ffi3_transfer.proofs.PlaceBytes.{place_lies}
+use Rattle.ffi3_transfer.proofs.Lent.{each_takes, gave_back, hidden_places}
+use Rattle.ffi3_transfer.proofs.PlaceBytes.{hidden_lies}
 use Rattle.ffi3_transfer.proofs.storing.store_hidden.Goals as goal
 
-pub put_word-requires-clause-lies : goal.put_word-requires-clause-lies
-put_word-requires-clause-lies c =
-    let m = image_in c.args.registers.now c.args.stack.now in
-    let there = subst (HiddenIsThere (image_in c.args.registers.now c.args.stack.now) c.args.base) c.in-Hidden.is c.requires.there in
-    let whole = subst (λ r. AllByRecursion IsWhole (hidden_locs r)) c.in-Hidden.is c.requires.whole in
-    place_lies m c.args.base c.in-Hidden.at c.requires.base whole.0 there.0
+pub store_hidden-requires-clause-lies : goal.store_hidden-requires-clause-lies
+store_hidden-requires-clause-lies c =
+    hidden_lies (image_in c.args.registers.now c.args.stack.now) c.args.base c.args.res.now c.requires.base c.requires.whole c.requires.there
 
-pub put_word-requires-clause-whole : goal.put_word-requires-clause-whole
-put_word-requires-clause-whole c =
-    let whole = subst (λ r. AllByRecursion IsWhole (hidden_locs r)) c.in-Hidden.is c.requires.whole in
-    whole.0
+pub store_hidden-requires-clause-take : goal.store_hidden-requires-clause-take
+store_hidden-requires-clause-take c = each_takes (hidden_locs c.args.res.now)
+
+pub returns-clause-stands : goal.returns-clause-stands
+returns-clause-stands c =
+    let same = c.store_hidden.ensures.within (length c.args.stack.now - c.args.base) (hidden_places c.args.base (image_in c.args.registers.now c.args.stack.now) c.args.res.now (hidden_lies (image_in c.args.registers.now c.args.stack.now) c.args.base c.args.res.now c.requires.base c.requires.whole c.requires.there)) in
+    let registers : c.registers-1.given.0 ≡ c.store_hidden.new.state.registers.now = search rules in
+    let stack : c.stack-1.given.0 ≡ c.store_hidden.new.state.stack.now = search rules in
+    gave_back (λ m. OwnsHidden m c.args.base c.args.res.now) c.registers-1.given.0 c.store_hidden.new.state.registers.now c.stack-1.given.0 c.store_hidden.new.state.stack.now registers stack c.store_hidden.ensures.stands
+
+pub returns-clause-stays : goal.returns-clause-stays
+returns-clause-stays c =
+    let same = c.store_hidden.ensures.within (length c.args.stack.now - c.args.base) (hidden_places c.args.base (image_in c.args.registers.now c.args.stack.now) c.args.res.now (hidden_lies (image_in c.args.registers.now c.args.stack.now) c.args.base c.args.res.now c.requires.base c.requires.whole c.requires.there)) in
+    let registers : c.registers-1.given.0 ≡ c.store_hidden.new.state.registers.now = search rules in
+    let stack : c.stack-1.given.0 ≡ c.store_hidden.new.state.stack.now = search rules in
+    gave_back (Stays c.args.base (hidden_locs c.args.res.now) (image_in c.args.registers.now c.args.stack.now)) c.registers-1.given.0 c.store_hidden.new.state.registers.now c.stack-1.given.0 c.store_hidden.new.state.stack.now registers stack c.store_hidden.ensures.stays

@@ -1,0 +1,11 @@
+pub mod Ranges
+pub mod Composing
+pub mod Puts
+pub mod Filling
+pub mod Stepping
+pub mod Copying
+pub mod Lawful
+pub mod Arguments
+pub mod Owning
+pub mod Read
+pub mod Taking
