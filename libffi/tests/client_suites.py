@@ -44,8 +44,10 @@ def need(found, what):
     return found
 
 
-def over(library, *words, **more):
-    paths = {"LD_LIBRARY_PATH": str(library)} if library else {}
+def over(library, *words, beside=None, **more):
+    """What a command prints over a library. Another folder has the client's own."""
+    folders = ":".join(str(folder) for folder in (library, beside) if folder)
+    paths = {"LD_LIBRARY_PATH": folders} if folders else {}
     try:
         ran = run(*words, env=os.environ | {"NO_INTERACTION": "1"} | paths, timeout=3600, **more)
     except subprocess.TimeoutExpired:
@@ -115,7 +117,7 @@ def glib(library, packages):
         folder = need(packages.binary("libglib2.0-tests"), "libglib2.0-tests can't be had") / str(folder)[1:]
     passed, wrong = 0, set()
     for name in GLIB:
-        said = over(library, folder / name, "--tap", cwd=folder)
+        said = over(library, folder / name, "--tap", cwd=folder, beside=folder)
         passed += len(re.findall(r"^ok", said, re.M))
         ends = re.search(r"^1\.\.(\d+)", said, re.M)
         if not ends or len(re.findall(r"^ok", said, re.M)) < int(ends[1]):

@@ -3,7 +3,7 @@
 import subprocess
 from pathlib import Path
 
-SOURCES = """Types: deb-src
+LIST = """Types: deb deb-src
 URIs: http://deb.debian.org/debian
 Suites: {}
 Components: main
@@ -30,20 +30,16 @@ class Packages:
 
     def source(self, name):
         """The folder of a package's sources, as they are before Debian's changes; or None, where they can't be had."""
-        if not self.found(name):
-            self.update()
-            run("apt-get", *self.words(), "source", "--download-only", name, cwd=self.folder)
+        into = self.folder / f"{name}.source"
+        if not into.exists():
+            self.ask("source", "--download-only", name)
             for archive in self.folder.glob(f"{name}_*.orig.tar.*z*"):
-                into = self.folder / f"{name}.source"
                 into.mkdir(exist_ok=True)
                 run("tar", "xf", archive, "-C", into)
-        return self.found(name)
-
-    def found(self, name):
-        return next(iter(sorted(self.folder.glob(f"{name}.source/*/"))), None)
+        return next(iter(sorted(into.glob("*/"))), None)
 
     def binary(self, name):
-        """The folder that has the files of a package, or None."""
+        """The folder that has the files of a package of this machine, or None."""
         into = self.folder / f"{name}.files"
         if not into.exists():
             run("apt-get", "-q", "download", name, cwd=self.folder)
@@ -51,16 +47,26 @@ class Packages:
                 run("dpkg", "-x", archive, into)
         return into if into.exists() else None
 
-    def words(self):
-        parts, lists = self.folder / "parts", self.folder / "lists"
-        return ["-q", "-o", "Dir::Etc::sourcelist=/dev/null", "-o", f"Dir::Etc::sourceparts={parts}", "-o",
-                f"Dir::State::lists={lists}"]
+    def root(self, machine, *names):
+        """A folder that has the files of these packages of another machine, as its root has them; or None."""
+        into = self.folder / f"{machine}.root"
+        if not into.exists():
+            self.ask("download", *[f"{name}:{machine}" for name in names], machine=machine)
+            found = [archive for name in names for archive in self.folder.glob(f"{name}_*_{machine}.deb")]
+            for archive in found if len(found) == len(names) else []:
+                run("dpkg", "-x", archive, into)
+        return into if into.exists() else None
 
-    def update(self):
-        """Reads the list of sources, which a machine need not have, once."""
-        if (self.folder / "parts").exists():
-            return
-        (self.folder / "lists/partial").mkdir(parents=True)
-        (self.folder / "parts").mkdir()
-        (self.folder / "parts/source.sources").write_text(SOURCES.format(version()))
-        run("apt-get", *self.words(), "update", cwd=self.folder)
+    def ask(self, *what, machine=None):
+        """Asks apt-get by a list of its own, since a machine need not have sources, or another machine's packages, in
+        its own list. Each list is read once."""
+        folder = self.folder / (machine or "sources")
+        words = ["-q", "-o", "Dir::Etc::sourcelist=/dev/null", "-o", f"Dir::Etc::sourceparts={folder}", "-o",
+                 f"Dir::State::lists={folder}/lists"]
+        if machine:
+            words += ["-o", f"APT::Architecture={machine}", "-o", f"APT::Architectures={machine}"]
+        if not folder.exists():
+            (folder / "lists/partial").mkdir(parents=True)
+            (folder / "debian.sources").write_text(LIST.format(version()))
+            run("apt-get", *words, "update", cwd=self.folder)
+        run("apt-get", *words, *what, cwd=self.folder)
