@@ -1,22 +1,25 @@
-"""Compares what the Python package says of real functions with what gcc does, called through the real header.
+"""Compares what the Python package says of real functions with what a compiler does, called through the real header.
 
 Of each function a caller is made that includes the header, fills each argument with bytes of its own, and calls by the
 function's own type; what registers and stack hold at the entry, what comes back, and the size, the offset and the kind
-of every scalar inside are compared with what the library says of the nodes that the header reader found. For win64 gcc
-calls by its attribute ms_abi, and a long has 64 bits.
+of every scalar inside are compared with what the library says of the nodes that the header reader found. The compiler
+is gcc. For win64 it calls by its attribute ms_abi, and a long has 64 bits. For apple it is clang, whose code is run on
+Linux (macho.py); the headers of its system are not at hand, and glibc's stand in for them.
 """
 
 import random
+import subprocess
 import tempfile
 from collections.abc import Callable, Iterator, Sequence
 from pathlib import Path
 
+import macho
 from ffi3 import headers
-from ffi3.library import HIDDEN, RESULT, Call, Piece, Type
+from ffi3.library import HIDDEN, RESULT, Call, Part, Piece, Type
 from pycparser import c_ast
 
 HERE = Path(__file__).resolve().parent
-RUNNERS = {"aapcs64": ["qemu-aarch64"], "riscv": ["qemu-riscv64"]}
+RUNNERS = {"aapcs64": ["qemu-aarch64"], "riscv": ["qemu-riscv64"], "apple": ["qemu-aarch64"]}
 SIZES = {"int8": 1, "int16": 2, "int32": 4, "int64": 8, "int128": 16, "float": 4, "double": 8, "pointer": 8}
 NAMES = {
     "amd64": ("rax rcx rdx rbx rsp rbp rsi rdi r8 r9 r10 r11 r12 r13 r14 r15".split(), [f"xmm{i}" for i in range(16)]),
@@ -24,18 +27,23 @@ NAMES = {
     "riscv": (["zero", "ra", "sp", "gp", "tp", "t0", "t1", "t2", "s0", "s1", *(f"a{i}" for i in range(8))],
               [*(f"ft{i}" for i in range(8)), "fs0", "fs1", *(f"fa{i}" for i in range(8))]),
 }
-NAMES["win64"] = NAMES["amd64"]
+NAMES["win64"], NAMES["apple"] = NAMES["amd64"], NAMES["aapcs64"]
 # The bytes of the return address on the stack, and the register in which a hidden result's address comes back.
-ENTRY = {"amd64": (8, 0), "win64": (8, 0), "aapcs64": (0, 0), "riscv": (0, 10)}
+ENTRY = {"amd64": (8, 0), "win64": (8, 0), "aapcs64": (0, 0), "riscv": (0, 10), "apple": (0, 0)}
+# In place of Apple's headers: Linux's, which are not to know clang as Apple's.
+LINUX_HEADERS = ["-U__APPLE__", "-U__MACH__", "-U__nonnull", "-idirafter", "/usr/aarch64-linux-gnu/include",
+                 "-idirafter", "/usr/include", "-idirafter", "/usr/include/x86_64-linux-gnu"]
 
 # What the library says of a function: the call, and the layout of each part. A planted error is another.
 Places = Callable[[headers.Function], Call]
+Layouts = Callable[[headers.Function, Part], Type]
 
 
 def compiler_for(target: str, flags: Sequence[str] = ()) -> headers.Compiler:
-    """gcc for a target; for win64 the host's, which calls so by an attribute."""
+    """gcc for a target; for win64 the host's, which calls so by an attribute; for apple clang, with Linux's headers."""
     own = headers.compiler_for(target, "gcc" if target == "win64" else None)
-    return headers.Compiler(target, (own.words[0], *flags, *own.words[1:]), own.note)
+    more = [*macho.SYNTAX, *LINUX_HEADERS] if target == "apple" else []
+    return headers.Compiler(target, (own.words[0], *flags, *own.words[1:], *more), own.note)
 
 
 def register(target: str, name: str) -> str:
@@ -134,14 +142,14 @@ class Value:
                    f"{piece.length});")
 
 
-def tried(i: int, function: headers.Function, call: Call, answers: headers.Answers,
+def tried(i: int, function: headers.Function, call: Call, layout: Layouts, answers: headers.Answers,
           chance: random.Random) -> Iterator[str]:
     """The C function that tries one function."""
     target = function.target
     parameters = [each.type for each in function.prototype.args.params if not isinstance(each, c_ast.EllipsisParam)]
 
-    def value(name: str, node: c_ast.Node, kind: headers.Kind, part, pieces: Sequence[Piece]) -> Value:
-        return Value(name, node, kind, function.layout(part), pieces, answers, chance)
+    def value(name: str, node: c_ast.Node, kind: headers.Kind, part: Part, pieces: Sequence[Piece]) -> Value:
+        return Value(name, node, kind, layout(function, part), pieces, answers, chance)
 
     passed = call.pieces[:call.passed]
     arguments = [value(f"a{k}", parameters[k], kind, k, [each for each in passed if each.part == k])
@@ -179,7 +187,7 @@ def chosen(found: Sequence[headers.Function], others: int, chance: random.Random
 
 
 def program(names: Sequence[str], compiler: headers.Compiler, functions: Sequence[headers.Function],
-            place: Places = headers.Function.place) -> str:
+            place: Places = headers.Function.place, layout: Layouts = headers.Function.layout) -> str:
     """The C program that tries all of these functions."""
     chance = random.Random(1)
     answers = headers.answers_of(compiler, headers.preprocessed(compiler, names), (
@@ -187,20 +195,31 @@ def program(names: Sequence[str], compiler: headers.Compiler, functions: Sequenc
     included = [f'"{Path(name).resolve()}"' if Path(name).exists() else f"<{name}>" for name in names]
     lines = [*(f"#include {name}" for name in included), '#include "trap.h"']
     for i, function in enumerate(functions):
-        lines += tried(i, function, place(function), answers, chance)
+        lines += tried(i, function, place(function), layout, answers, chance)
     return "\n".join([*lines, "int main(void) {", *(f"try_{i}();" for i in range(len(functions))),
-                      'printf("%d passed, %d failed\\n", passed, failed); return failed > 0; }', ""])
+                      "return ffi3_ended(); }", ""])
+
+
+def made(compiler: headers.Compiler, folder: Path) -> subprocess.CompletedProcess:
+    """Makes the program `tried` of tried.c, with the trap, which is compiled for Linux on every target."""
+    target = compiler.target
+    own = ["-w", "-fno-builtin", f"-I{HERE / 'headers'}"]
+    trap = [f"-DRETURN_ADDRESS={ENTRY[target][0]}", f"-DHIDDEN_BACK={ENTRY[target][1]}", HERE / "headers/trap.c"]
+    linked = ["-static", "-no-pie", "-o", folder / "tried", *trap]
+    if target != "apple":
+        return headers.run(*compiler.words, *own, *linked, folder / "tried.c")
+    ended = headers.run(*compiler.words, *own, "-S", "-o", "-", folder / "tried.c")
+    if ended.returncode:
+        return ended
+    (folder / "tried.s").write_text(macho.in_elf(ended.stdout))
+    return headers.run(headers.COMPILERS["aapcs64"], *own, *linked, folder / "tried.s")
 
 
 def ran(compiler: headers.Compiler, text: str) -> list[str]:
     """The lines that the program prints, or why it did not run."""
-    target = compiler.target
     with tempfile.TemporaryDirectory() as folder:
-        source, made = Path(folder, "tried.c"), Path(folder, "tried")
-        source.write_text(text)
-        entry = [f"-DRETURN_ADDRESS={ENTRY[target][0]}", f"-DHIDDEN_BACK={ENTRY[target][1]}"]
-        words = ["-w", "-fno-builtin", *entry, f"-I{HERE / 'headers'}", "-static", "-no-pie", "-o", made, source]
-        ended = headers.run(*compiler.words, *words)
+        Path(folder, "tried.c").write_text(text)
+        ended = made(compiler, Path(folder))
         if ended.returncode == 0:
-            ended = headers.run(*RUNNERS.get(target, []), made)
+            ended = headers.run(*RUNNERS.get(compiler.target, []), Path(folder, "tried"))
         return ended.stdout.splitlines() or [f"ended with {ended.returncode}: {ended.stderr[:3000]}"]

@@ -20,6 +20,7 @@ struct by_pragma { char c; double d; };
 #pragma pack(pop)
 typedef float four __attribute__((vector_size(16)));
 typedef int two __attribute__((vector_size(8)));
+typedef struct { char c[2 ?: 1]; } gnu;
 
 int r_packed(struct packed); //= a packed or aligned struct: i
 int r_aligned(struct aligned); //= a packed or aligned struct
@@ -46,4 +47,5 @@ int r_integers(_Complex int); //= a complex integer
 int r_prototype(); //= no prototype
 int r_written(struct { int a; } s); //= a struct or an enum without a tag
 int r_syntax(int) [[x]]; //= pycparser does not parse it
+int r_gnu(int a, gnu b); //= pycparser does not parse it
 void r_many(int, int, int, int, int, int, int, int, int, int, int, int, int, int, int, int, int, int, int, int, int, int, int, int, int, int, int, int, int, int, int, int, int, int, int, int, int, int, int, int, int, int, int, int, int, int, int, int, int, int, int, int, int, int, int, int, int, int, int, int, int, int, int, int, int); //= too many arguments: 65

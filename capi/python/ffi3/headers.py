@@ -34,6 +34,7 @@ COMPILERS = {"amd64": "gcc", "aapcs64": "aarch64-linux-gnu-gcc", "riscv": "riscv
              "win64": "x86_64-w64-mingw32-gcc"}
 # gcc makes no code for Apple's systems; clang does, and has a few headers of its own, as stdint.h.
 APPLE = "clang --target=arm64-apple-macos -nostdlibinc"
+NO_SDK = 'clang has no headers of a Mac here: --cc "clang --target=arm64-apple-macos -isysroot SDK" reads with those'
 # What a compiler defines on each target.
 TARGET_OF = {("__x86_64__", "_WIN32"): "win64", ("__x86_64__",): "amd64", ("__aarch64__", "__APPLE__"): "apple",
              ("__aarch64__",): "aapcs64", ("__riscv", "__LP64__"): "riscv"}
@@ -220,7 +221,10 @@ class Parser:
             try:
                 tree = self.parser.parse("\n".join(text))
             except c_parser.ParseError as error:
-                number = int(re.match(r":?(\d+)", str(error))[1]) - 2
+                where = re.match(r":?(\d+)", str(error))
+                if not where and len(lines) > 1:  # as of a type that it does not know: it is one of fewer
+                    return self.parse_halves(lines, typedefs)
+                number = int(where[1]) - 2 if where else 0
                 if number in left_out or number < 0:
                     raise Failed(f"pycparser: {error}") from None
                 left_out.add(number)
@@ -230,6 +234,13 @@ class Parser:
                 if node.coord.line > 1:
                     found[node.coord.line - 2].append(node)
             return found
+
+    def parse_halves(self, lines: Sequence[Sequence[str]], typedefs: Collection[str]) -> list[Found]:
+        """The same, first of the one half and then of the other."""
+        half = len(lines) // 2
+        found = self.parse(lines[:half], typedefs)
+        defined = {node.name for nodes in found for node in nodes or () if isinstance(node, c_ast.Typedef)}
+        return found + self.parse(lines[half:], {*typedefs, *defined})
 
 
 def key_of(words: Sequence[str], typedefs: Collection[str]) -> tuple[tuple[str, ...], frozenset[str]]:
@@ -792,7 +803,8 @@ def preprocessed(compiler: Compiler, headers: Iterable[str], more: Iterable[str]
                    for header in headers)
     made = run(*compiler.words, "-E", *more, "-x", "c", "-", input=text)
     if made.returncode:
-        raise Failed(made.stderr.strip())
+        is_for_a_mac = "-nostdlibinc" in compiler.words and "file not found" in made.stderr
+        raise Failed("\n".join([made.stderr.strip(), *[NO_SDK] * is_for_a_mac]))
     return made.stdout
 
 
