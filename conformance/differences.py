@@ -126,13 +126,16 @@ def fixed_in_one_register(signature, plan, direction, reason):
 
 
 def in_four_bytes(signature, plan, direction, reason):
-    """At or behind a named char or short on the stack of a variadic call."""
+    """At or behind a named char or short on the stack of a variadic call; also that no memory is where the address of a
+    copy behind it is looked for."""
     first = [i for i, stand in enumerate(plan.arguments[:signature.fixed or 0]) for piece in stand.pieces
              if piece.place.kind == "s" and is_narrow(signature.arguments[i]) and SIZES[signature.arguments[i]] < 4]
     if not first:
         return False
     if direction == "frame":
         return (i := argument_in(reason)) is None or i >= first[0]
+    if direction == "enter" and re.fullmatch(r"signal \d+", reason):
+        return any(stand.reference and stand.reference.kind == "s" for stand in plan.arguments[first[0]:])
     found = re.search(r" at s(\d+)\+", reason)
     start = plan.arguments[first[0]].pieces[0].place.number
     return direction in BY_PLACES and found is not None and int(found[1]) >= start
