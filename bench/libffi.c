@@ -1,6 +1,9 @@
 /* Nanoseconds of libffi's functions in two libraries, in turns, in one run: libffi LIBFFI OURS
  * Each number is the least of 15 turns, of the thread's own time. The last line says the largest ratio, but for the
- * first preparation of a signature. */
+ * first preparation of a signature.
+ *
+ * libffi LIBRARY LINE SIGNATURE TIMES does so many times what a line tells of, for whoever counts instructions; libffi
+ * alone prints the lines, each behind its number and that of its signature. */
 #define _GNU_SOURCE
 #include <dlfcn.h>
 #include <ffi.h>
@@ -10,7 +13,8 @@
 #include <time.h>
 
 #define TURNS 15
-#define TIMES 200000
+
+static int times = 200000;
 
 struct library {
     __typeof__(ffi_prep_cif) *prep_cif;
@@ -107,18 +111,18 @@ static double of_call(const struct library *it, const struct signature *signatur
         return -1;
     values_of(signature, values, room);
     double start = now();
-    for (int k = 0; k < TIMES; k++)
+    for (int k = 0; k < times; k++)
         it->call(&cif, signature->fn, result, values);
-    return (now() - start) / TIMES;
+    return (now() - start) / times;
 }
 
 static double of_prep(const struct library *it, const struct signature *signature)
 {
     ffi_cif cif;
     double start = now();
-    for (int k = 0; k < TIMES; k++)
+    for (int k = 0; k < times; k++)
         it->prep_cif(&cif, FFI_DEFAULT_ABI, signature->count, signature->result, (ffi_type **)signature->arguments);
-    return (now() - start) / TIMES;
+    return (now() - start) / times;
 }
 
 static void answer(ffi_cif *cif, void *result, void **values, void *data)
@@ -140,7 +144,7 @@ static double of_closure(const struct library *it, const struct signature *signa
     double start = now();
     unsigned which = signature - SIGNATURES;
     volatile double kept;
-    for (int k = 0; k < TIMES; k++)
+    for (int k = 0; k < times; k++)
         switch (which) {
         case 0: ((void (*)(void))code)(); break;
         case 1: kept = ((int (*)(int, int))code)(k, 2); break;
@@ -151,7 +155,7 @@ static double of_closure(const struct library *it, const struct signature *signa
         default: kept = ((long (*)(int, long, int, long, int, long, int, long, int, long))code)(1, 2, 3, 4, 5, 6, 7, 8,
                                                                                               9, k);
         }
-    double took = (now() - start) / TIMES;
+    double took = (now() - start) / times;
     (void)kept;
     it->closure_free(closure);
     return took;
@@ -163,12 +167,12 @@ static double of_alloc(const struct library *it, const struct signature *signatu
     void *code;
     it->prep_cif(&cif, FFI_DEFAULT_ABI, signature->count, signature->result, (ffi_type **)signature->arguments);
     double start = now();
-    for (int k = 0; k < TIMES / 10; k++) {
+    for (int k = 0; k < times / 10; k++) {
         ffi_closure *closure = it->closure_alloc(sizeof *closure, &code);
         it->prep_closure_loc(closure, &cif, answer, NULL, code);
         it->closure_free(closure);
     }
-    return (now() - start) / (TIMES / 10);
+    return (now() - start) / (times / 10);
 }
 
 static double of_layout(const struct library *it, const struct signature *signature)
@@ -177,60 +181,94 @@ static double of_layout(const struct library *it, const struct signature *signat
     size_t offsets[2];
     (void)signature;
     double start = now();
-    for (int k = 0; k < TIMES / 100; k++)
+    for (int k = 0; k < times / 100; k++)
         it->get_struct_offsets(FFI_DEFAULT_ABI, &type, offsets);
-    return (now() - start) / (TIMES / 100);
-}
-
-static double largest;
-
-static void compare(const char *what, double (*of)(const struct library *, const struct signature *),
-                    const struct library *libraries, unsigned count)
-{
-    for (unsigned i = 0; i < count; i++) {
-        double least[2] = {1e18, 1e18};
-        for (int turn = 0; turn < TURNS; turn++)
-            for (int k = 0; k < 2; k++) {
-                double took = of(&libraries[k], &SIGNATURES[i]);
-                least[k] = took < least[k] ? took : least[k];
-            }
-        printf("%-14s %-32s %8.1f %8.1f %6.2f\n", what, count == 1 ? "" : SIGNATURES[i].name, least[0], least[1],
-               least[1] / least[0]);
-        if (least[1] / least[0] > largest)
-            largest = least[1] / least[0];
-    }
+    return (now() - start) / (times / 100);
 }
 
 /* The first preparation of a signature, each of another one. */
-static double first_prep(const struct library *it)
+static double of_first_prep(const struct library *it, const struct signature *signature)
 {
     static unsigned seed;
     static ffi_type *kinds[] = {INT, LONG, DOUBLE, &ffi_type_float, &ffi_type_pointer, &ffi_type_uint8, &mixed, &pair};
     ffi_type *arguments[6];
     ffi_cif cif;
-    double start = now();
     unsigned from = seed;
-    for (; seed < from + 2000; seed++) {
+    double start = now();
+    (void)signature;
+    for (; seed < from + times / 100; seed++) {
         for (unsigned i = 0, n = seed; i < 6; i++, n /= 8)
             arguments[i] = kinds[n % 8];
         it->prep_cif(&cif, FFI_DEFAULT_ABI, 6, INT, arguments);
     }
-    return (now() - start) / 2000;
+    return (now() - start) / (times / 100);
+}
+
+static const struct line {
+    const char *name;
+    double (*of)(const struct library *, const struct signature *);
+    unsigned count;      /* of signatures */
+    int part;            /* it is done so many times less */
+    const char *remark;
+} LINES[] = {
+    {"ffi_call", of_call, COUNT, 1, NULL},
+    {"closure", of_closure, COUNT, 1, NULL},
+    {"ffi_prep_cif", of_prep, COUNT, 1, NULL},
+    {"offsets", of_layout, 1, 100, ""},
+    {"alloc, prep, free", of_alloc, 1, 10, ""},
+    {"first prep", of_first_prep, 1, 100, "of 6 arguments"},
+};
+#define LINES_COUNT (sizeof LINES / sizeof *LINES)
+
+static const char *name_of(const struct line *line, unsigned i)
+{
+    return line->remark ? line->remark : SIGNATURES[i].name;
+}
+
+/* Both times, and their ratio. A first preparation is one only once. */
+static double compare(const struct line *line, unsigned i, const struct library *libraries)
+{
+    double least[2] = {1e18, 1e18};
+    for (int turn = 0; turn < (line->of == of_first_prep ? 1 : TURNS); turn++)
+        for (int k = 0; k < 2; k++) {
+            double took = line->of(&libraries[k], &SIGNATURES[i]);
+            least[k] = took < least[k] ? took : least[k];
+        }
+    printf("%-17s %-31s %8.1f %8.1f %6.2f\n", line->name, name_of(line, i), least[0], least[1], least[1] / least[0]);
+    return least[1] / least[0];
+}
+
+static void compare_all(const struct library *libraries)
+{
+    double largest = 0;
+    printf("%-17s %-31s %8s %8s %6s\n", "ns", "", "libffi", "ours", "ratio");
+    for (const struct line *line = LINES; line < LINES + LINES_COUNT; line++)
+        for (unsigned i = 0; i < line->count; i++) {
+            double ratio = compare(line, i, libraries);
+            if (ratio > largest && line->of != of_first_prep)
+                largest = ratio;
+        }
+    printf("largest ratio %.2f\n", largest);
 }
 
 int main(int count, char **words)
 {
+    if (count == 1) {
+        for (const struct line *line = LINES; line < LINES + LINES_COUNT; line++)
+            for (unsigned i = 0; i < line->count; i++)
+                printf("%d %u %-17s %-31s\n", (int)(line - LINES), i, line->name, name_of(line, i));
+        return 0;
+    }
+    if (count == 5) {
+        struct library library = opened(words[1]);
+        const struct line *line = &LINES[atoi(words[2]) % LINES_COUNT];
+        times = atoi(words[4]) * line->part;
+        line->of(&library, &SIGNATURES[atoi(words[3]) % COUNT]);
+        return 0;
+    }
     if (count != 3)
         return 2;
     struct library libraries[2] = {opened(words[1]), opened(words[2])};
-    printf("%-14s %-32s %8s %8s %6s\n", "ns", "", "libffi", "ours", "ratio");
-    compare("ffi_call", of_call, libraries, COUNT);
-    compare("closure", of_closure, libraries, COUNT);
-    compare("ffi_prep_cif", of_prep, libraries, COUNT);
-    compare("offsets", of_layout, libraries, 1);
-    compare("alloc, prep, free", of_alloc, libraries, 1);
-    double theirs = first_prep(&libraries[0]), ours = first_prep(&libraries[1]);
-    printf("%-14s %-32s %8.1f %8.1f %6.2f\n", "first prep", "of 6 arguments", theirs, ours, ours / theirs);
-    printf("largest ratio %.2f\n", largest);
+    compare_all(libraries);
     return 0;
 }

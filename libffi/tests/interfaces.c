@@ -1,11 +1,12 @@
 /* Interfaces that are checked before they are used: changed ones, those of another library, those that are prepared
- * again while they are called, types that several threads lay out, arguments that are void, and frames that are
+ * again while they are called or at once, types that several threads lay out, arguments that are void, and frames
  * larger than a thread's stack.  interfaces [LIBFFI]  links -lffi; LIBFFI is another library's file. */
 #define _GNU_SOURCE
 #include "expect.h"
 #include <dlfcn.h>
 #include <ffi.h>
 #include <pthread.h>
+#include <sched.h>
 #include <signal.h>
 #include <stdatomic.h>
 #include <stdlib.h>
@@ -331,6 +332,60 @@ static void prepare_many(void)
     EXPECT(pages() - before < 64);
 }
 
+/* ---- Two threads prepare a signature that nobody has, and wait for the lock: both are given one plan.
+ *
+ * A process takes the library's locks before it forks. What is registered before the library is loaded is called behind
+ * that, while they are held. */
+
+static atomic_int waiting, arity;
+static unsigned plans[2];
+
+static void *prepare_anew(void *flags)
+{
+    ffi_type *types[40];
+    ffi_cif cif;
+    unsigned nargs = (unsigned)arity;
+    for (unsigned i = 0; i < nargs; i++)
+        types[i] = &ffi_type_uint16;
+    waiting++;
+    ffi_status status = ffi_prep_cif(&cif, FFI_DEFAULT_ABI, nargs, &ffi_type_float, types);
+    *(unsigned *)flags = status == FFI_OK ? cif.flags : 0;
+    return NULL;
+}
+
+static pthread_t preparing[2];
+
+static void begin_two(void)
+{
+    if (!arity)
+        return;
+    for (int k = 0; k < 2; k++)
+        pthread_create(&preparing[k], NULL, prepare_anew, &plans[k]);
+    while (waiting < 2)
+        sched_yield();
+    usleep(5000);
+}
+
+static void register_first(void) { pthread_atfork(begin_two, NULL, NULL); }
+
+__attribute__((section(".preinit_array"), used)) static void (*const before_all)(void) = register_first;
+
+static void prepare_at_once(void)
+{
+    for (int turn = 0; turn < 20; turn++) {
+        waiting = 0;
+        arity = 20 + turn;
+        pid_t child = fork();
+        if (child == 0)
+            _exit(0);
+        waitpid(child, NULL, 0);
+        for (int k = 0; k < 2; k++)
+            pthread_join(preparing[k], NULL);
+        EXPECT(plans[0] != 0 && plans[0] == plans[1]);
+    }
+    arity = 0;
+}
+
 int main(int count, char **words)
 {
     use_others(count > 1 ? words[1] : NULL);
@@ -343,6 +398,7 @@ int main(int count, char **words)
     change_types();
     serve_late();
     meet_guard();
+    prepare_at_once();
     prepare_many();
     return ended();
 }
