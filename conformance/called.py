@@ -203,7 +203,8 @@ def program(names: Sequence[str], compiler: headers.Compiler, functions: Sequenc
 def made(compiler: headers.Compiler, folder: Path) -> subprocess.CompletedProcess:
     """Makes the program `tried` of tried.c, with the trap, which is compiled for Linux on every target."""
     target = compiler.target
-    own = ["-w", "-fno-builtin", f"-I{HERE / 'headers'}"]
+    # (the linker for RISC-V takes minutes to relax the calls of thousands of functions)
+    own = ["-w", "-fno-builtin", *["-mno-relax"] * (target == "riscv"), f"-I{HERE / 'headers'}"]
     trap = [f"-DRETURN_ADDRESS={ENTRY[target][0]}", f"-DHIDDEN_BACK={ENTRY[target][1]}", HERE / "headers/trap.c"]
     linked = ["-static", "-no-pie", "-o", folder / "tried", *trap]
     if target != "apple":
