@@ -2,7 +2,7 @@
 use Rattle.std.proofs.Common.{◌≡◌, ℕ, zero, suc, ◌+◌, ◌<◌, ◌≤◌, Bool, true, false, cond, ◌&&◌, List, [], ◌∷◌, length, get_or, drop, Option, Some, None, option_map, ap, sym, refl, ◌∙◌, arith, ne_eqb}
 use Rattle.std.specs.Prelude.{◌==◌}
 use Rattle.std.proofs.lemmas.List.{drop_more, drop_all, drop-drop}
-use Rattle.ffi3_cdecl_rules.specs.Tokens.{Quoted, quoted_behind, open_behind, bracket_length, is_attribute_at, all_silent, are_silent, is_silent, front, goes_on_word}
+use Rattle.ffi3_cdecl_rules.specs.Tokens.{Quoted, quoted_behind, hides, open_behind, bracket_length, is_attribute_at, all_silent, are_silent, is_silent, front, goes_on_word}
 
 -- ---- where a bracket ends
 
@@ -29,16 +29,24 @@ length_from q o n bs = later n (bracket_length q o (drop n bs))
 pub bracket_begins : (q : Quoted) (bs : List ℕ) → length_from q 0 0 bs ≡ bracket_length q 0 bs
 bracket_begins q bs = later_none (bracket_length q 0 bs)
 
-pub bracket_more : (q : Quoted) (o n : ℕ) (bs : List ℕ) → n < length bs → (open_behind q (get_or bs n 0) o ≡ 0 → ⊥) → length_from q o n bs ≡ length_from (quoted_behind q (get_or bs n 0)) (open_behind q (get_or bs n 0) o) (n + 1) bs
-bracket_more q o n bs h e =
-    let b : ℕ = get_or bs n 0 in
-    let rest : Option ℕ = bracket_length (quoted_behind q (get_or bs n 0)) (open_behind q (get_or bs n 0) o) (drop (n + 1) bs) in
-    ap (λ cs. later n (bracket_length q o cs)) (drop_more bs n 0 h) ∙ ap (λ t. later n (cond t (Some 1) (option_map suc rest))) (ne_eqb (open_behind q (get_or bs n 0) o) 0 e) ∙ later_more n rest
+bracket_step : (q : Quoted) (o n : ℕ) (bs : List ℕ) → n < length bs → length_from q o n bs ≡ later n (cond (hides q (get_or bs n 0)) None (cond (open_behind q (get_or bs n 0) o == 0) (Some 1) (option_map suc (bracket_length (quoted_behind q (get_or bs n 0)) (open_behind q (get_or bs n 0) o) (drop (n + 1) bs)))))
+bracket_step q o n bs h =
+    ap (λ cs. later n (bracket_length q o cs)) (drop_more bs n 0 h)
 
-pub bracket_here : (q : Quoted) (o n : ℕ) (bs : List ℕ) → n < length bs → open_behind q (get_or bs n 0) o ≡ 0 → length_from q o n bs ≡ Some (n + 1)
-bracket_here q o n bs h e =
+pub bracket_hidden : (q : Quoted) (o n : ℕ) (bs : List ℕ) → n < length bs → hides q (get_or bs n 0) ≡ true → length_from q o n bs ≡ None
+bracket_hidden q o n bs h e =
     let rest : Option ℕ = bracket_length (quoted_behind q (get_or bs n 0)) (open_behind q (get_or bs n 0) o) (drop (n + 1) bs) in
-    ap (λ cs. later n (bracket_length q o cs)) (drop_more bs n 0 h) ∙ ap (λ m. later n (cond (m == 0) (Some 1) (option_map suc rest))) e
+    bracket_step q o n bs h ∙ ap (λ t. later n (cond t None (cond (open_behind q (get_or bs n 0) o == 0) (Some 1) (option_map suc rest)))) e
+
+pub bracket_more : (q : Quoted) (o n : ℕ) (bs : List ℕ) → n < length bs → hides q (get_or bs n 0) ≡ false → (open_behind q (get_or bs n 0) o ≡ 0 → ⊥) → length_from q o n bs ≡ length_from (quoted_behind q (get_or bs n 0)) (open_behind q (get_or bs n 0) o) (n + 1) bs
+bracket_more q o n bs h plain e =
+    let rest : Option ℕ = bracket_length (quoted_behind q (get_or bs n 0)) (open_behind q (get_or bs n 0) o) (drop (n + 1) bs) in
+    bracket_step q o n bs h ∙ ap (λ t. later n (cond t None (cond (open_behind q (get_or bs n 0) o == 0) (Some 1) (option_map suc rest)))) plain ∙ ap (λ t. later n (cond t (Some 1) (option_map suc rest))) (ne_eqb (open_behind q (get_or bs n 0) o) 0 e) ∙ later_more n rest
+
+pub bracket_here : (q : Quoted) (o n : ℕ) (bs : List ℕ) → n < length bs → hides q (get_or bs n 0) ≡ false → open_behind q (get_or bs n 0) o ≡ 0 → length_from q o n bs ≡ Some (n + 1)
+bracket_here q o n bs h plain e =
+    let rest : Option ℕ = bracket_length (quoted_behind q (get_or bs n 0)) (open_behind q (get_or bs n 0) o) (drop (n + 1) bs) in
+    bracket_step q o n bs h ∙ ap (λ t. later n (cond t None (cond (open_behind q (get_or bs n 0) o == 0) (Some 1) (option_map suc rest)))) plain ∙ ap (λ m. later n (cond (m == 0) (Some 1) (option_map suc rest))) e
 
 pub bracket_never : (q : Quoted) (o n : ℕ) (bs : List ℕ) → length bs ≤ n → length_from q o n bs ≡ None
 bracket_never q o n bs h =

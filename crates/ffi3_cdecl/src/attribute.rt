@@ -1,6 +1,6 @@
 // The bracket behind a word that adds an attribute, or that names a function for the assembler.
 ghost use Rattle.std.specs.Prelude.{◌≡◌, ◌≤◌, ◌<◌, ◌+◌, ◌∷◌, IfSome, length, drop, get_or, map};
-ghost use Rattle.ffi3_cdecl_rules.specs.Tokens.{front, goes_on_word, unquoted, quoted_behind, is_attribute_at, open_behind, bracket_length, are_silent, is_silent, is_among, silent_attributes, with_lines};
+ghost use Rattle.ffi3_cdecl_rules.specs.Tokens.{front, goes_on_word, unquoted, quoted_behind, hides, is_attribute_at, open_behind, bracket_length, are_silent, is_silent, is_among, silent_attributes, with_lines};
 ghost use Rattle.ffi3_cdecl.specs.QuotedOf.{quoted_of};
 
 use crate::bytes::{is_letter, word_length};
@@ -39,6 +39,17 @@ fn next_quoted(quoted: Quoted, b: u8) -> Quoted
     }
 }
 
+/// Whether the byte may hide brackets or quotes.
+fn hides(quoted: Quoted, b: u8) -> bool
+    ensures { result ≡ hides (quoted_of quoted) b }
+{
+    match quoted {
+        Quoted::Outside => b == 47 || b == 39 || b == 92,
+        Quoted::Between => b == 10,
+        Quoted::Escaped => b == 10,
+    }
+}
+
 /// Whether a word that begins with this byte is an attribute, or stands where one should.
 fn begins_attribute(quoted: Quoted, b: u8, depth: usize) -> bool
     ensures { result ≡ is_attribute_at (quoted_of quoted) b depth }
@@ -62,11 +73,7 @@ fn next_open(quoted: Quoted, bytes: &[u8], n: usize, depth: usize) -> usize
             if bytes[n] == 40 {
                 depth + 1
             } else if bytes[n] == 41 {
-                if depth == 0 {
-                    0
-                } else {
-                    depth - 1
-                }
+                if depth == 0 { 0 } else { depth - 1 }
             } else {
                 depth
             }
@@ -76,8 +83,8 @@ fn next_open(quoted: Quoted, bytes: &[u8], n: usize, depth: usize) -> usize
     }
 }
 
-/// How many bytes a bracket takes with its end, where it has one.
-#[tactic(auto, using(crate::proofs::Attributes::bracket_begins, crate::proofs::Attributes::bracket_more, crate::proofs::Attributes::bracket_here, crate::proofs::Attributes::bracket_never))]
+/// How many bytes a bracket takes with its end, where it has one that is read.
+#[tactic(auto, using(crate::proofs::Attributes::bracket_begins, crate::proofs::Attributes::bracket_hidden, crate::proofs::Attributes::bracket_more, crate::proofs::Attributes::bracket_here, crate::proofs::Attributes::bracket_never))]
 pub fn bracket_length(bytes: &[u8]) -> Option<usize>
     ensures count { result ≡ bracket_length unquoted 0 bytes.now }
     ensures within { IfSome result (λ n. n ≤ length bytes.now) }
@@ -86,6 +93,9 @@ pub fn bracket_length(bytes: &[u8]) -> Option<usize>
     let mut depth = 0;
     let mut quoted = Quoted::Outside;
     while n < bytes.len() {
+        if hides(quoted, bytes[n]) {
+            return None;
+        }
         let now = next_open(quoted, bytes, n, depth);
         if now == 0 {
             return Some(n + 1);
@@ -107,56 +117,106 @@ fn is_silent(word: &[u8]) -> bool
 fn is_silent_name(word: &[u8]) -> bool
     ensures { result ≡ is_among word.now silent_attributes }
 {
-    is(word, b"nothrow") || is(word, b"leaf") || is(word, b"pure") || is(word, b"const") || is(word, b"nonnull") || is(word, b"malloc") || is(word, b"format") || is_silent_from_7(word)
+    is(word, b"nothrow")
+        || is(word, b"leaf")
+        || is(word, b"pure")
+        || is(word, b"const")
+        || is(word, b"nonnull")
+        || is(word, b"malloc")
+        || is(word, b"format")
+        || is_silent_from_7(word)
 }
 
 // Of the attributes of the table from number 7 on.
 fn is_silent_from_7(word: &[u8]) -> bool
     ensures { result ≡ is_among word.now (drop 7 silent_attributes) }
 {
-    is(word, b"format_arg") || is(word, b"warn_unused_result") || is(word, b"deprecated") || is(word, b"noreturn") || is(word, b"visibility") || is(word, b"alloc_size") || is_silent_from_13(word)
+    is(word, b"format_arg")
+        || is(word, b"warn_unused_result")
+        || is(word, b"deprecated")
+        || is(word, b"noreturn")
+        || is(word, b"visibility")
+        || is(word, b"alloc_size")
+        || is_silent_from_13(word)
 }
 
 // From number 13 on.
 fn is_silent_from_13(word: &[u8]) -> bool
     ensures { result ≡ is_among word.now (drop 13 silent_attributes) }
 {
-    is(word, b"alloc_align") || is(word, b"access") || is(word, b"returns_nonnull") || is(word, b"returns_twice") || is(word, b"sentinel") || is(word, b"unused") || is_silent_from_19(word)
+    is(word, b"alloc_align")
+        || is(word, b"access")
+        || is(word, b"returns_nonnull")
+        || is(word, b"returns_twice")
+        || is(word, b"sentinel")
+        || is(word, b"unused")
+        || is_silent_from_19(word)
 }
 
 // From number 19 on.
 fn is_silent_from_19(word: &[u8]) -> bool
     ensures { result ≡ is_among word.now (drop 19 silent_attributes) }
 {
-    is(word, b"weak") || is(word, b"cold") || is(word, b"hot") || is(word, b"always_inline") || is(word, b"noinline") || is(word, b"warning") || is(word, b"error")
+    is(word, b"weak")
+        || is(word, b"cold")
+        || is(word, b"hot")
+        || is(word, b"always_inline")
+        || is(word, b"noinline")
+        || is(word, b"warning")
+        || is(word, b"error")
 }
 
 // The same with two low lines at both ends.
 fn is_silent_lined(word: &[u8]) -> bool
     ensures { result ≡ is_among word.now (map with_lines silent_attributes) }
 {
-    is(word, b"__nothrow__") || is(word, b"__leaf__") || is(word, b"__pure__") || is(word, b"__const__") || is(word, b"__nonnull__") || is(word, b"__malloc__") || is(word, b"__format__") || is_lined_from_7(word)
+    is(word, b"__nothrow__")
+        || is(word, b"__leaf__")
+        || is(word, b"__pure__")
+        || is(word, b"__const__")
+        || is(word, b"__nonnull__")
+        || is(word, b"__malloc__")
+        || is(word, b"__format__")
+        || is_lined_from_7(word)
 }
 
 // From number 7 on.
 fn is_lined_from_7(word: &[u8]) -> bool
     ensures { result ≡ is_among word.now (drop 7 (map with_lines silent_attributes)) }
 {
-    is(word, b"__format_arg__") || is(word, b"__warn_unused_result__") || is(word, b"__deprecated__") || is(word, b"__noreturn__") || is(word, b"__visibility__") || is(word, b"__alloc_size__") || is_lined_from_13(word)
+    is(word, b"__format_arg__")
+        || is(word, b"__warn_unused_result__")
+        || is(word, b"__deprecated__")
+        || is(word, b"__noreturn__")
+        || is(word, b"__visibility__")
+        || is(word, b"__alloc_size__")
+        || is_lined_from_13(word)
 }
 
 // From number 13 on.
 fn is_lined_from_13(word: &[u8]) -> bool
     ensures { result ≡ is_among word.now (drop 13 (map with_lines silent_attributes)) }
 {
-    is(word, b"__alloc_align__") || is(word, b"__access__") || is(word, b"__returns_nonnull__") || is(word, b"__returns_twice__") || is(word, b"__sentinel__") || is(word, b"__unused__") || is_lined_from_19(word)
+    is(word, b"__alloc_align__")
+        || is(word, b"__access__")
+        || is(word, b"__returns_nonnull__")
+        || is(word, b"__returns_twice__")
+        || is(word, b"__sentinel__")
+        || is(word, b"__unused__")
+        || is_lined_from_19(word)
 }
 
 // From number 19 on.
 fn is_lined_from_19(word: &[u8]) -> bool
     ensures { result ≡ is_among word.now (drop 19 (map with_lines silent_attributes)) }
 {
-    is(word, b"__weak__") || is(word, b"__cold__") || is(word, b"__hot__") || is(word, b"__always_inline__") || is(word, b"__noinline__") || is(word, b"__warning__") || is(word, b"__error__")
+    is(word, b"__weak__")
+        || is(word, b"__cold__")
+        || is(word, b"__hot__")
+        || is(word, b"__always_inline__")
+        || is(word, b"__noinline__")
+        || is(word, b"__warning__")
+        || is(word, b"__error__")
 }
 
 fn behind(bracket: &[u8], n: usize) -> &[u8]

@@ -164,6 +164,8 @@ pub fn step_square(u: Box<Settled>, token: Token<'_>) -> State
 {
     match token {
         Token::Number(_) => State::Wide(Wide::SquareFilled(u)),
+        Token::Star => State::Wide(Wide::SquareFilled(u)),
+        Token::Name(_) => State::Wide(Wide::SquareFilled(u)),
         Token::CloseSquare => State::Wide(Wide::Settled(u)),
         _ => State::Dead,
     }

@@ -240,6 +240,25 @@ fn is_blank_word_from_6(bytes: &[u8]) -> bool
     } else if is(bytes, b"__extension__") {
         true
     } else {
+        is_blank_word_from_12(bytes)
+    }
+}
+
+// And from number 12 on.
+fn is_blank_word_from_12(bytes: &[u8]) -> bool
+    ensures { result ≡ is_among bytes.now (drop 12 blank_words) }
+{
+    if is(bytes, b"__inline__") {
+        true
+    } else if is(bytes, b"__const") {
+        true
+    } else if is(bytes, b"__const__") {
+        true
+    } else if is(bytes, b"__volatile") {
+        true
+    } else if is(bytes, b"__volatile__") {
+        true
+    } else {
         false
     }
 }
@@ -337,6 +356,67 @@ fn more_word_from_24(bytes: &[u8]) -> Token<'_>
     } else if is(bytes, b"_Static_assert") {
         Token::Keyword
     } else if is(bytes, b"_Thread_local") {
+        Token::Keyword
+    } else {
+        more_word_from_27(bytes)
+    }
+}
+
+// From number 27 on.
+fn more_word_from_27(bytes: &[u8]) -> Token<'_>
+    ensures { token_of result ≡ word_among bytes.now (drop 27 (more_words ++ words)) }
+{
+    if is(bytes, b"complex") {
+        Token::Complex
+    } else if is(bytes, b"__complex") {
+        Token::Complex
+    } else if is(bytes, b"__complex__") {
+        Token::Complex
+    } else if is(bytes, b"__signed") {
+        Token::Sign(Sign::Signed)
+    } else if is(bytes, b"__signed__") {
+        Token::Sign(Sign::Signed)
+    } else {
+        more_word_from_32(bytes)
+    }
+}
+
+// From number 32 on.
+fn more_word_from_32(bytes: &[u8]) -> Token<'_>
+    ensures { token_of result ≡ word_among bytes.now (drop 32 (more_words ++ words)) }
+{
+    if is(bytes, b"typeof") {
+        Token::Keyword
+    } else if is(bytes, b"__typeof") {
+        Token::Keyword
+    } else if is(bytes, b"__typeof__") {
+        Token::Keyword
+    } else if is(bytes, b"typeof_unqual") {
+        Token::Keyword
+    } else if is(bytes, b"__alignof__") {
+        Token::Keyword
+    } else if is(bytes, b"__auto_type") {
+        Token::Keyword
+    } else {
+        more_word_from_38(bytes)
+    }
+}
+
+// From number 38 on.
+fn more_word_from_38(bytes: &[u8]) -> Token<'_>
+    ensures { token_of result ≡ word_among bytes.now (drop 38 (more_words ++ words)) }
+{
+    if is(bytes, b"_BitInt") {
+        Token::Keyword
+    } else if is(bytes, b"__int8") {
+        Token::Keyword
+    } else if is(bytes, b"__int16") {
+        Token::Keyword
+    } else if is(bytes, b"__int32") {
+        Token::Keyword
+    } else if is(bytes, b"__int64") {
+        Token::Keyword
+    } else if is(bytes, b"__ptr32") {
         Token::Keyword
     } else {
         word(bytes)

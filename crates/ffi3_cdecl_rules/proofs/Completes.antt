@@ -2,7 +2,7 @@
 use Rattle.std.proofs.Common.{◌≡◌, ℕ, zero, suc, ◌+◌, ◌<◌, ◌⊎◌, inl, inr, true, false, List, [], ◌∷◌, ◌++◌, length, Option, Some, None, option_map, ap, sym, subst, refl, ◌∙◌, append-nil, lt-ltb, true≢false, arith}
 use Rattle.ffi3_type_rules.specs.Tree.{Scalar, float, double, Tree, void, scalar, struct_of, array_of}
 use Rattle.ffi3_cdecl_rules.specs.Tokens.{Dialect, plain, wide, Token, Sign, signed, unsigned, type_word, sign_word, const_word, short_word, int_word, long_word, int128_word, char_word, complex_word, void_word, struct_word, name, number, open_round, close_round, open_curly, close_curly, open_square, close_square, star, comma, semicolon, dots}
-use Rattle.ffi3_cdecl_rules.specs.Grammar.{Kind, whole, bare, nothing, MOST_OPEN, pointer_type, short_of, int_of, long_of, Declaration, declared, IsIntOrNot, no_int, with_int, IsLongTail, one_long, two_longs, IsSized, a_short, an_int, a_long, an_int128, IsSigned, sign_alone, sign_of_char, sign_of_size, IsStars, one_star, more_stars, IsCounts, no_count, a_count, specifier_number, named_by, AreSpecifiers, no_more_words, a_word, Shape, a_value, an_array, handed, pointer_shape, array_shape, passed, member_type, returned, Naming, must_be_named, may_be_named, may_begin, opens_round, IsCalled, the_name, in_brackets, IsBase, by_word, by_size, by_sign, a_char, by_specifiers, a_void, a_tag, a_union, an_enum, a_name, a_struct, a_tagged_struct, IsQualified, unqualified, constant, IsType, itself, pointer_to, IsSuffixes, no_suffix, known_array, open_array, a_list, IsDeclarator, a_pointer, a_named, unnamed, in_round, IsInner, inner_of, IsInners, last_inner, inner_dots, next_inner, IsInnerList, no_inners, inner_void, some_inners, IsMember, a_member, AreDeclared, one_declared, then_members, then_declared, IsMembers, last_member, next_member, of_a_base, IsParameter, without_name, with_name, a_declared_one, IsParameters, last_parameter, last_before_dots, before_types, next_parameter, IsParameterList, no_parameters, only_void, some_parameters, IsResult, a_result, no_result, Function, IsFunction, returns_pointer, a_function_here, a_function_inside, IsEnd, no_semicolon, one_semicolon, IsDeclarationIn, declares, declares_by}
+use Rattle.ffi3_cdecl_rules.specs.Grammar.{Kind, whole, bare, nothing, MOST_OPEN, pointer_type, short_of, int_of, long_of, Declaration, declared, IsIntOrNot, no_int, with_int, IsLongTail, one_long, two_longs, IsSized, a_short, an_int, a_long, an_int128, IsSigned, sign_alone, sign_of_char, sign_of_size, IsStars, one_star, more_stars, IsCounts, no_count, a_count, specifier_number, named_by, AreSpecifiers, no_more_words, a_word, Shape, a_value, an_array, handed, pointer_shape, array_shape, passed, member_type, returned, Naming, must_be_named, may_be_named, may_begin, opens_round, IsCalled, the_name, in_brackets, IsBase, by_word, by_size, by_sign, a_char, by_specifiers, a_void, a_tag, a_union, an_enum, a_name, a_struct, a_tagged_struct, IsQualified, unqualified, constant, IsType, itself, pointer_to, is_named_bound, IsSuffixes, no_suffix, known_array, open_array, named_array, a_list, IsDeclarator, a_pointer, a_named, unnamed, in_round, IsInner, inner_of, IsInners, last_inner, inner_dots, next_inner, IsInnerList, no_inners, inner_void, some_inners, IsMember, a_member, AreDeclared, one_declared, then_members, then_declared, IsMembers, last_member, next_member, of_a_base, IsParameter, without_name, with_name, a_declared_one, IsParameters, last_parameter, last_before_dots, before_types, next_parameter, IsParameterList, no_parameters, only_void, some_parameters, IsResult, a_result, no_result, Function, IsFunction, returns_pointer, a_function_here, a_function_inside, IsEnd, no_semicolon, one_semicolon, IsDeclarationIn, declares, declares_by}
 use Rattle.ffi3_cdecl_rules.specs.Machine.{Round, unstarred, starred, and_more, brackets, bracket_inside, Head, Where, at_result, at_parameter, at_member, at_inner, Settled, a_parameter, an_inner, a_pointer_member, the_function, plain_member, starred_member, depth, depth_of, onto, arrays, Said, a_float, a_double, words_of, nothing_said, say, State, wants_type, wants_base, after_words, after_sign, after_short, after_long, after_long_long, after_struct, wants_star, sole_void, typed, opened, after_comma, member_named, after_member, declarator, round_opened, member_at, settled, list_opened, list_void, list_comma, closed, dead, based, based_in, step_base, words_go_on, opened_struct, step_declarator, step_unnamed, declared_name, parameter_by, inner_by, list_with_room, member_ends, function_named, closing, list_ended, step_closing, fixing, function_name, bracket_or_end, itself_or_bracket, nothing_or_bracket, step_named_by, step_words, step, finish, begun, Accepts}
 use Rattle.std.specs.Prelude.{⊤}
 use Rattle.ffi3_cdecl_rules.proofs.Shapes.{arrays_shape, handed_arrays, value_member}
@@ -423,6 +423,46 @@ module _ (d : Declaration) where
   open_steps (at_member ts w) k o (pointing ns) xs h = h
   open_steps (at_member ts w) k o lent xs h = absurd (never wide d xs h)
 
+  named_steps : (w : Where) (k : Kind) (o : Round) (g : Progress) (x : Token) (xs : List Token) → is_named_bound x ≡ true → Accepts wide (state_at w k o (with_other g)) xs d → Accepts wide (state_at w k o g) (open_square ∷ x ∷ close_square ∷ xs) d
+  named_steps at_result k o g star xs is h = absurd (never wide d xs h)
+  named_steps (at_parameter head ts) k (unstarred i) (still []) star xs is h = h
+  named_steps (at_parameter head ts) k (starred i j) (still []) star xs is h = h
+  named_steps (at_parameter head ts) k o (still (i ∷ ns)) star xs is h = h
+  named_steps (at_parameter head ts) k o (pointing ns) star xs is h = h
+  named_steps (at_parameter head ts) k o lent star xs is h = h
+  named_steps (at_inner u) (whole t) (unstarred i) (still []) star xs is h = h
+  named_steps (at_inner u) bare (unstarred i) (still []) star xs is h = h
+  named_steps (at_inner u) nothing (unstarred i) (still []) star xs is h = h
+  named_steps (at_inner u) k (starred i j) (still []) star xs is h = h
+  named_steps (at_inner u) k o (still (i ∷ ns)) star xs is h = h
+  named_steps (at_inner u) k o (pointing ns) star xs is h = h
+  named_steps (at_inner u) k o lent star xs is h = h
+  named_steps (at_member ts w) k o (still ns) star xs is h = absurd (never wide d xs h)
+  named_steps (at_member ts w) k o (pointing ns) star xs is h = h
+  named_steps (at_member ts w) k o lent star xs is h = absurd (never wide d xs h)
+  named_steps at_result k o g (name called) xs is h = absurd (never wide d xs h)
+  named_steps (at_parameter head ts) k (unstarred i) (still []) (name called) xs is h = h
+  named_steps (at_parameter head ts) k (starred i j) (still []) (name called) xs is h = h
+  named_steps (at_parameter head ts) k o (still (i ∷ ns)) (name called) xs is h = h
+  named_steps (at_parameter head ts) k o (pointing ns) (name called) xs is h = h
+  named_steps (at_parameter head ts) k o lent (name called) xs is h = h
+  named_steps (at_inner u) (whole t) (unstarred i) (still []) (name called) xs is h = h
+  named_steps (at_inner u) bare (unstarred i) (still []) (name called) xs is h = h
+  named_steps (at_inner u) nothing (unstarred i) (still []) (name called) xs is h = h
+  named_steps (at_inner u) k (starred i j) (still []) (name called) xs is h = h
+  named_steps (at_inner u) k o (still (i ∷ ns)) (name called) xs is h = h
+  named_steps (at_inner u) k o (pointing ns) (name called) xs is h = h
+  named_steps (at_inner u) k o lent (name called) xs is h = h
+  named_steps (at_member ts w) k o (still ns) (name called) xs is h = absurd (never wide d xs h)
+  named_steps (at_member ts w) k o (pointing ns) (name called) xs is h = h
+  named_steps (at_member ts w) k o lent (name called) xs is h = absurd (never wide d xs h)
+  named_steps w k o g x xs is h = absurd (true≢false (sym is))
+
+  settled_named : (u : Settled) (x : Token) (xs : List Token) → is_named_bound x ≡ true → Accepts wide (settled u) xs d → Accepts wide (settled u) (open_square ∷ x ∷ close_square ∷ xs) d
+  settled_named u star xs is h = h
+  settled_named u (name called) xs is h = h
+  settled_named u x xs is h = absurd (true≢false (sym is))
+
   -- a list that has room
   list_opens : (u : Settled) (xs : List Token) → depth_of u < MOST_OPEN → Accepts wide (list_opened u) xs d → Accepts wide (list_with_room u) xs d
   list_opens u xs room h = rw (lt-ltb (depth_of u) MOST_OPEN room) h
@@ -799,6 +839,8 @@ module _ (d : Declaration) where
         bound_steps d w k o g i xs (wide_suffixes w k o (with_bound g i) e q (λ j same. here j (same ∙ shape_bound g f i ∙ ap (shape_with g) is)))
     wide_suffixes w k o g e (open_array {before = xs} {e = f} q) here =
         open_steps d w k o g xs (wide_suffixes w k o (with_other g) e q (λ j same. here j (same ∙ shape_other g f)))
+    wide_suffixes w k o g e (named_array {before = xs} {x = x} {e = f} is q) here =
+        named_steps d w k o g x xs is (wide_suffixes w k o (with_other g) e q (λ j same. here j (same ∙ shape_other g f)))
     wide_suffixes {n = n} w k o g e (a_list {before = xs} {middle = ys} {e = f} room l q) here =
         list_steps d w k o g n xs ys e room (λ u deep h. wide_list u (ap suc (sym deep)) l h) (wide_suffixes w k o (with_other g) e q (λ j same. here j (same ∙ shape_other g f)))
 
@@ -975,6 +1017,7 @@ suffix_returned no_suffix = inl (refl, refl)
 suffix_returned (known_array {n = i} {e = f} q is) =
     inr (ap returned (sym is) ∙ returned_array f i)
 suffix_returned (open_array q) = inr refl
+suffix_returned (named_array is q) = inr refl
 suffix_returned (a_list room l q) = inr refl
 
 value_inside : (k : Kind) (o : Round) → value_in k o ≡ value_in k (bracket_inside o)
@@ -1016,6 +1059,8 @@ module _ (d : Declaration) where
   settled_suffixes u e no_suffix h = h
   settled_suffixes u e (known_array q is) h = settled_suffixes u e q h
   settled_suffixes u e (open_array q) h = settled_suffixes u e q h
+  settled_suffixes u e (named_array {before = xs} {x = x} is q) h =
+      settled_named d u x xs is (settled_suffixes u e q h)
   settled_suffixes u e (a_list {before = xs} room l q) h =
       list_opens d u xs (subst (λ i. i < MOST_OPEN) (sym e) room) (wide_list d u (ap suc (sym e)) l (settled_suffixes u e q h))
 

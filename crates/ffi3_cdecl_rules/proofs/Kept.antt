@@ -287,6 +287,8 @@ module _ (Taken : ℕ → Type 0) (Same : Tree → Tree → Type 0) (SameCounts 
 
     square_same : {u v : Settled} → SameSettled u v → (x : Token) → SameState (step_square u x) (step_square v x)
     square_same s (number n) = both_filled s
+    square_same s star = both_filled s
+    square_same s (name called) = both_filled s
     square_same s close_square = both_settled s
     square_same s x = both_dead
 

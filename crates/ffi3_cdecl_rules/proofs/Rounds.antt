@@ -1,10 +1,10 @@
 -- What stands round a declarator, one token further to the left, in the wide reading.
 use Rattle.std.proofs.Common.{◌≡◌, ℕ, zero, suc, ◌+◌, ◌<◌, true, false, List, ◌∷◌, sym, subst, refl, arith}
 use Rattle.ffi3_cdecl_rules.specs.Tokens.{wide, Token, name, number, open_round, close_round, open_square, close_square, star}
-use Rattle.ffi3_cdecl_rules.specs.Grammar.{Kind, MOST_OPEN, Shape, a_value, handed, array_shape, pointer_shape, Naming, may_be_named, may_begin, opens_round, IsSuffixes, no_suffix, known_array, open_array, a_list, IsDeclarator, a_pointer, a_named, unnamed, in_round, IsInnerList}
+use Rattle.ffi3_cdecl_rules.specs.Grammar.{Kind, MOST_OPEN, Shape, a_value, handed, array_shape, pointer_shape, Naming, may_be_named, may_begin, opens_round, IsSuffixes, no_suffix, known_array, open_array, named_array, is_named_bound, a_list, IsDeclarator, a_pointer, a_named, unnamed, in_round, IsInnerList}
 use Rattle.ffi3_cdecl_rules.specs.Machine.{Round, unstarred, starred, and_more, brackets, star_inside, bracket_inside}
 use Rattle.ffi3_cdecl_rules.proofs.Shapes.{IsntVoid, Lent, lent_handed, lent_pointer, lent_array}
-use Rattle.ffi3_cdecl_rules.proofs.WideRest.{Closings, no_bracket, a_bracket, Outside, no_outside, outside_bracket, inside_star, at_star, DeclaratorFollows, declarator_follows, BehindName, behind_name, SettledFollows, settles, InnerListFollows, inner_list_follows, BoundThen, a_bound, no_bound}
+use Rattle.ffi3_cdecl_rules.proofs.WideRest.{Closings, no_bracket, a_bracket, Outside, no_outside, outside_bracket, inside_star, at_star, DeclaratorFollows, declarator_follows, BehindName, behind_name, SettledFollows, settles, InnerListFollows, inner_list_follows, BoundThen, a_bound, no_bound, named_bound}
 
 -- ---- the same tokens behind another shape
 
@@ -19,6 +19,10 @@ with_square : {m : ℕ} {xs mid : List Token} {s : Shape} → SuffixesOf m xs mi
 with_square (suffixes_of q lent isnt) =
     suffixes_of (open_array q) (λ l. lent_handed) (λ i. lent_handed.isnt_void)
 
+with_named : {m : ℕ} {xs mid : List Token} {s : Shape} (x : Token) → is_named_bound x ≡ true → SuffixesOf m xs mid s → SuffixesOf m (open_square ∷ x ∷ close_square ∷ xs) mid s
+with_named x is (suffixes_of q lent isnt) =
+    suffixes_of (named_array is q) (λ l. lent_handed) (λ i. lent_handed.isnt_void)
+
 with_list : {m : ℕ} {xs ys mid : List Token} {s : Shape} → m < MOST_OPEN → IsInnerList wide (suc m) xs ys → SuffixesOf m ys mid s → SuffixesOf m (open_round ∷ xs) mid s
 with_list room l (suffixes_of q lent isnt) =
     suffixes_of (a_list room l q) (λ p. lent_handed) (λ i. lent_handed.isnt_void)
@@ -28,6 +32,8 @@ behind_another no_suffix u = suffixes_of no_suffix (λ l. l) (λ i. i)
 behind_another (known_array {n = n} q is) u =
     with_number n (behind_another q u)
 behind_another (open_array q) u = with_square (behind_another q u)
+behind_another (named_array {x = x} is q) u =
+    with_named x is (behind_another q u)
 behind_another (a_list room l q) u = with_list room l (behind_another q u)
 
 -- ---- what stands outside, by the brackets alone
@@ -101,6 +107,10 @@ module _ (n : ℕ) (E : Shape → List Token → Type 0) where
     square_there {behind = ys} e o x (suffixes_of q lent isnt) =
         behind_name e (open_array q) o (lend handed ys lent_handed x)
 
+    named_there : {k : Kind} {o : Round} {m : ℕ} {y : Token} {xs mid behind : List Token} {e : Shape} → is_named_bound y ≡ true → m ≡ n + brackets o → Outside k m o e mid behind → X behind → SuffixesOf m xs mid e → BehindName n E k o (open_square ∷ y ∷ close_square ∷ xs)
+    named_there {behind = ys} is e o x (suffixes_of q lent isnt) =
+        behind_name e (named_array is q) o (lend handed ys lent_handed x)
+
     list_there : {k : Kind} {o : Round} {m : ℕ} {xs ys mid behind : List Token} {e : Shape} → m ≡ n + brackets o → m < MOST_OPEN → IsInnerList wide (suc m) xs ys → Outside k m o e mid behind → X behind → SuffixesOf m ys mid e → BehindName n E k o (open_round ∷ xs)
     list_there {behind = zs} e room l o x (suffixes_of q lent isnt) =
         behind_name e (a_list room l q) o (lend handed zs lent_handed x)
@@ -113,6 +123,10 @@ module _ (n : ℕ) (E : Shape → List Token → Type 0) where
     square_outside e q x (some_outside {e = u} o) =
         square_there e o x (behind_another q u)
 
+    named_outside : {k : Kind} {o : Round} {m : ℕ} {y : Token} {xs mid behind : List Token} {s t : Shape} → is_named_bound y ≡ true → m ≡ n + brackets o → IsSuffixes wide m xs mid s t → X behind → SomeOutside k m o mid behind → BehindName n E k o (open_square ∷ y ∷ close_square ∷ xs)
+    named_outside is e q x (some_outside {e = u} o) =
+        named_there is e o x (behind_another q u)
+
     list_outside : {k : Kind} {o : Round} {m : ℕ} {xs ys mid behind : List Token} {s t : Shape} → m ≡ n + brackets o → m < MOST_OPEN → IsInnerList wide (suc m) xs ys → IsSuffixes wide m ys mid s t → X behind → SomeOutside k m o mid behind → BehindName n E k o (open_round ∷ xs)
     list_outside e room l q x (some_outside {e = u} o) =
         list_there e room l o x (behind_another q u)
@@ -123,6 +137,8 @@ module _ (n : ℕ) (E : Shape → List Token → Type 0) where
         array_outside i e q x (any_outside k o c)
     square_behind k o e (no_bound (settles q c x)) =
         square_outside e q x (any_outside k o c)
+    square_behind k o e (named_bound is (settles q c x)) =
+        named_outside is e q x (any_outside k o c)
 
     pub list_behind : {m : ℕ} {xs : List Token} (k : Kind) (o : Round) → m ≡ n + brackets o → m < MOST_OPEN → InnerListFollows m (SettledFollows m (brackets o) X) xs → BehindName n E k o (open_round ∷ xs)
     list_behind k o e room (inner_list_follows l (settles q c x)) =

@@ -3,7 +3,7 @@ use Rattle.std.proofs.Common.{◌≡◌, ℕ, zero, suc, ◌+◌, ◌<◌, true,
 use Rattle.std.specs.Prelude.{⊤}
 use Rattle.ffi3_type_rules.specs.Tree.{Tree, struct_of}
 use Rattle.ffi3_cdecl_rules.specs.Tokens.{wide, Token, name, number, open_round, close_round, open_curly, close_curly, close_square, comma, semicolon, dots}
-use Rattle.ffi3_cdecl_rules.specs.Grammar.{Kind, whole, bare, nothing, MOST_OPEN, pointer_type, named_by, AreSpecifiers, Shape, a_value, pointer_shape, passed, member_type, returned, Naming, must_be_named, may_be_named, may_begin, IsCalled, IsBase, IsQualified, IsSuffixes, IsDeclarator, IsInners, IsInnerList, AreDeclared, IsMembers, Function, IsFunction, IsEnd, Declaration, declared}
+use Rattle.ffi3_cdecl_rules.specs.Grammar.{Kind, whole, bare, nothing, MOST_OPEN, pointer_type, named_by, AreSpecifiers, Shape, a_value, pointer_shape, passed, member_type, returned, Naming, must_be_named, may_be_named, may_begin, IsCalled, IsBase, IsQualified, IsSuffixes, IsDeclarator, IsInners, IsInnerList, AreDeclared, IsMembers, Function, IsFunction, IsEnd, Declaration, declared, is_named_bound}
 use Rattle.ffi3_cdecl_rules.specs.Machine.{Round, unstarred, starred, brackets, Head, declared_by, Where, at_result, at_parameter, at_member, at_inner, Settled, a_parameter, an_inner, a_pointer_member, the_function, Member, plain_member, starred_member, bound_of, depth, depth_of, brackets_of, onto, arrays, words_of, State, wants_type, wants_base, after_words, after_struct_tag, wants_tag, after_struct, sole_void, opened, after_comma, after_member, declarator, round_opened, function_named, closing, parameter_itself, inner_nothing, member_at, member_bound, member_bounded, settled, square_opened, square_filled, list_opened, list_void, list_comma, list_dots, wide_dots, ended, dead}
 use Rattle.ffi3_cdecl_rules.proofs.Shapes.{arrays_shape}
 use Rattle.ffi3_cdecl_rules.proofs.Lists.{DotsFollow, NextFollows, CloseFollows, ListFollows, ListIs}
@@ -87,6 +87,7 @@ pub data SquareThen (G : List Token → Type 0) : List Token → Type 0 where
 pub data BoundThen (G : List Token → Type 0) : List Token → Type 0 where
   a_bound : {xs : List Token} {n : ℕ} → G xs → BoundThen G (number n ∷ close_square ∷ xs)
   no_bound : {xs : List Token} → G xs → BoundThen G (close_square ∷ xs)
+  named_bound : {xs : List Token} {x : Token} → is_named_bound x ≡ true → G xs → BoundThen G (x ∷ close_square ∷ xs)
 
 -- ---- the brackets round the function close behind its parameters
 

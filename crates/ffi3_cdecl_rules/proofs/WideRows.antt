@@ -4,7 +4,7 @@ use Rattle.std.specs.Prelude.{codes}
 use Rattle.ffi3_type_rules.specs.Layout.{least_multiple}
 use Rattle.ffi3_type_rules.specs.Tree.{u8, s8, s32, s64, u64, float, double, pointer, void, scalar, struct_of, array_of}
 use Rattle.ffi3_cdecl_rules.specs.Tokens.{wide, signed, unsigned}
-use Rattle.ffi3_cdecl_rules.specs.Reading.{reads, unexpected}
+use Rattle.ffi3_cdecl_rules.specs.Reading.{reads, bad_token, unexpected}
 use Rattle.ffi3_cdecl_rules.specs.Machine.{read_in}
 
 read_call : read_in wide signed (codes "ssize_t read(int fd, void *buf, size_t count);") ≡ reads (record { called = codes "read"; signature = record { result_type = scalar s64; arguments = scalar s32 ∷ scalar pointer ∷ scalar u64 ∷ []; fixed = None } })
@@ -56,3 +56,106 @@ attributes = refl
 
 telling_attribute : read_in wide signed (codes "int f(int x) __attribute__((pure, ms_abi));") ≡ unexpected 13
 telling_attribute = refl
+
+-- GNU C's spellings
+gnu_spellings : read_in wide signed (codes "__extension__ __inline__ __const char *f(__volatile__ int, __signed char, char __signed__, const char *__restrict__)") ≡ reads (record { called = codes "f"; signature = record { result_type = scalar pointer; arguments = scalar s32 ∷ scalar s8 ∷ scalar s8 ∷ scalar pointer ∷ []; fixed = None } })
+gnu_spellings = refl
+
+gnu_complex : read_in wide signed (codes "double f(__complex__ float, double __complex)") ≡ reads (record { called = codes "f"; signature = record { result_type = scalar double; arguments = struct_of (scalar float ∷ scalar float ∷ []) ∷ struct_of (scalar double ∷ scalar double ∷ []) ∷ []; fixed = None } })
+unfolding least_multiple
+gnu_complex = refl
+
+-- the macro of complex.h
+complex_of_the_header : read_in wide signed (codes "double cabs(double complex z)") ≡ reads (record { called = codes "cabs"; signature = record { result_type = scalar double; arguments = struct_of (scalar double ∷ scalar double ∷ []) ∷ []; fixed = None } })
+unfolding least_multiple
+complex_of_the_header = refl
+
+-- words that stand in a type are never names
+type_of : read_in wide signed (codes "int f(typeof(*x))") ≡ unexpected 6
+type_of = refl
+
+gnu_type_of : read_in wide signed (codes "int f(__typeof__(*x))") ≡ unexpected 6
+gnu_type_of = refl
+
+bit_int : read_in wide signed (codes "int f(unsigned _BitInt(n))") ≡ unexpected 15
+bit_int = refl
+
+microsofts_int64 : read_in wide signed (codes "int f(unsigned __int64)") ≡ unexpected 15
+microsofts_int64 = refl
+
+atomic : read_in wide signed (codes "int f(_Atomic(int) x)") ≡ unexpected 6
+atomic = refl
+
+alignas_in_a_parameter : read_in wide signed (codes "int f(_Alignas(8) int x)") ≡ unexpected 6
+alignas_in_a_parameter = refl
+
+assembler_without_bracket : read_in wide signed (codes "int f(int __asm__)") ≡ unexpected 10
+assembler_without_bracket = refl
+
+assembler_and_qualifier : read_in wide signed (codes "__asm__ volatile (" ++ (34 ∷ (codes "nop" ++ (34 ∷ (codes ");"))))) ≡ bad_token 18
+assembler_and_qualifier = refl
+
+-- a line that ends in a backslash goes on in the next
+spliced_line : read_in wide signed (codes "int f(int); // not " ++ (92 ∷ (10 ∷ (codes " g(int);" ++ (10 ∷ (codes " ")))))) ≡ reads (record { called = codes "f"; signature = record { result_type = scalar s32; arguments = scalar s32 ∷ []; fixed = None } })
+spliced_line = refl
+
+spliced_with_blanks : read_in wide signed (codes "int f( // a " ++ (92 ∷ (32 ∷ (13 ∷ (10 ∷ (codes " long" ++ (10 ∷ (codes " int)")))))))) ≡ reads (record { called = codes "f"; signature = record { result_type = scalar s32; arguments = scalar s32 ∷ []; fixed = None } })
+spliced_with_blanks = refl
+
+line_that_ends : read_in wide signed (codes "int f( // a " ++ (92 ∷ (codes " b" ++ (10 ∷ (codes " int)"))))) ≡ reads (record { called = codes "f"; signature = record { result_type = scalar s32; arguments = scalar s32 ∷ []; fixed = None } })
+line_that_ends = refl
+
+-- the mark that closes a comment may be spliced
+spliced_mark : read_in wide signed (codes "int f(/* a *" ++ (92 ∷ (10 ∷ (92 ∷ (32 ∷ (10 ∷ (codes "/ int)"))))))) ≡ reads (record { called = codes "f"; signature = record { result_type = scalar s32; arguments = scalar s32 ∷ []; fixed = None } })
+spliced_mark = refl
+
+no_mark : read_in wide signed (codes "int f(/* a *" ++ (92 ∷ (codes " / int)"))) ≡ bad_token 6
+no_mark = refl
+
+-- elsewhere a line is not spliced
+spliced_elsewhere : read_in wide signed (codes "int " ++ (92 ∷ (10 ∷ (codes " f(int)")))) ≡ bad_token 4
+spliced_elsewhere = refl
+
+-- a bracket that may hide another is not read
+comment_in_an_attribute : read_in wide signed (codes "int __attribute__((nothrow /* )) *//**/ )) f(int)") ≡ bad_token 4
+comment_in_an_attribute = refl
+
+quote_in_an_attribute : read_in wide signed (codes "int f(int) __asm__(" ++ (34 ∷ (codes "g" ++ (34 ∷ (codes " '(' );"))))) ≡ bad_token 11
+quote_in_an_attribute = refl
+
+line_in_quotes : read_in wide signed (codes "int f(int) __asm__(" ++ (34 ∷ (codes "g" ++ (92 ∷ (92 ∷ (10 ∷ (34 ∷ (codes ");")))))))) ≡ bad_token 11
+line_in_quotes = refl
+
+-- numbers of arrays that are names, or open
+numbers_of_arrays : read_in wide signed (codes "void f(int n, int a[n], int [*], int b[static n], int c[restrict 3], int d[const *], int e[n][3])") ≡ reads (record { called = codes "f"; signature = record { result_type = void; arguments = scalar s32 ∷ scalar pointer ∷ scalar pointer ∷ scalar pointer ∷ scalar pointer ∷ scalar pointer ∷ scalar pointer ∷ []; fixed = None } })
+numbers_of_arrays = refl
+
+sum_as_a_number : read_in wide signed (codes "void f(int a[n + 1])") ≡ bad_token 15
+sum_as_a_number = refl
+
+product_as_a_number : read_in wide signed (codes "void f(int a[2 * n])") ≡ unexpected 15
+product_as_a_number = refl
+
+-- a member's number is told
+number_of_a_member : read_in wide signed (codes "void f(struct { int a[n]; } *p)") ≡ unexpected 22
+number_of_a_member = refl
+
+member_that_points : read_in wide signed (codes "void f(struct { int (*a)[n]; } p)") ≡ reads (record { called = codes "f"; signature = record { result_type = void; arguments = struct_of (scalar pointer ∷ []) ∷ []; fixed = None } })
+unfolding least_multiple
+member_that_points = refl
+
+-- brackets in a parameter begin with a star
+types_in_brackets : read_in wide signed (codes "int f(int (x))") ≡ unexpected 11
+types_in_brackets = refl
+
+type_and_star_in_brackets : read_in wide signed (codes "int f(int (T *))") ≡ unexpected 11
+type_and_star_in_brackets = refl
+
+bracket_in_a_bracket : read_in wide signed (codes "int f(int (*(x)))") ≡ unexpected 13
+bracket_in_a_bracket = refl
+
+list_behind_brackets : read_in wide signed (codes "int f(int (*)(x), int (*g)(T *))") ≡ reads (record { called = codes "f"; signature = record { result_type = scalar s32; arguments = scalar pointer ∷ scalar pointer ∷ []; fixed = None } })
+list_behind_brackets = refl
+
+name_and_a_list : read_in wide signed (codes "int f(T (x))") ≡ unexpected 9
+name_and_a_list = refl

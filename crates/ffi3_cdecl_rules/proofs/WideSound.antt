@@ -3,11 +3,11 @@ use Rattle.std.proofs.Common.{◌≡◌, ℕ, zero, suc, ◌+◌, ◌<◌, Bool,
 use Rattle.std.proofs.lemmas.Bool.{ltb-true}
 use Rattle.ffi3_type_rules.specs.Tree.{Scalar, float, double, Tree, scalar}
 use Rattle.ffi3_cdecl_rules.specs.Tokens.{wide, Token, Sign, signed, unsigned, type_word, sign_word, const_word, short_word, int_word, long_word, int128_word, char_word, complex_word, void_word, struct_word, union_word, enum_word, name, number, open_round, close_round, open_curly, close_curly, open_square, close_square, comma, semicolon, star, dots}
-use Rattle.ffi3_cdecl_rules.specs.Grammar.{Kind, whole, bare, nothing, MOST_OPEN, pointer_type, specifier_number, named_by, no_more_words, a_word, kind_of_name, Shape, a_value, handed, pointer_shape, passed, member_type, returned, Naming, must_be_named, may_be_named, may_begin, opens_round, the_name, in_brackets, IsCalled, IsParameterList, by_word, by_specifiers, a_void, a_tag, a_union, an_enum, a_name, a_struct, a_tagged_struct, IsQualified, unqualified, constant, no_suffix, known_array, open_array, a_list, IsDeclarator, IsInner, inner_of, last_inner, inner_dots, next_inner, no_inners, inner_void, some_inners, one_declared, then_members, then_declared, of_a_base, a_declared_one, IsFunction, Function, returns_pointer, a_function_here, a_function_inside, IsEnd, no_semicolon, one_semicolon, Declaration, declared, IsDeclarationIn, declares_by}
+use Rattle.ffi3_cdecl_rules.specs.Grammar.{Kind, whole, bare, nothing, MOST_OPEN, pointer_type, specifier_number, named_by, no_more_words, a_word, kind_of_name, Shape, a_value, handed, pointer_shape, passed, member_type, returned, Naming, must_be_named, may_be_named, may_begin, opens_round, the_name, in_brackets, IsCalled, IsParameterList, by_word, by_specifiers, a_void, a_tag, a_union, an_enum, a_name, a_struct, a_tagged_struct, IsQualified, unqualified, constant, no_suffix, known_array, open_array, a_list, IsDeclarator, IsInner, inner_of, last_inner, inner_dots, next_inner, no_inners, inner_void, some_inners, one_declared, then_members, then_declared, of_a_base, a_declared_one, IsFunction, Function, returns_pointer, a_function_here, a_function_inside, IsEnd, no_semicolon, one_semicolon, Declaration, declared, IsDeclarationIn, declares_by, named_array, is_named_bound}
 use Rattle.ffi3_cdecl_rules.specs.Machine.{Round, unstarred, starred, and_more, brackets, star_inside, bracket_inside, Head, fixing, Where, at_result, at_parameter, at_member, at_inner, Settled, a_parameter, an_inner, a_pointer_member, the_function, Member, plain_member, starred_member, bound_of, depth, depth_of, brackets_of, arrays, Said, an_integer, a_character, of_128_bits, a_float, a_double, a_complex, of_no_size, said_short, said_long, words_of, say, State, wants_type, wants_base, after_words, after_struct_tag, wants_tag, after_struct, sole_void, opened, after_comma, after_member, declarator, round_opened, function_named, closing, parameter_itself, inner_nothing, member_at, member_bound, member_bounded, settled, square_opened, square_filled, list_opened, list_void, list_comma, list_dots, wide_dots, ended, dead, word_said, step_base, words_go_on, step_type, comma_of, step_closing, member_ends, inner_ends, function_ends, settled_ends, bracket_or_end, list_with_room, step_settled, step_square, step_filled, open_bracket, called_by, function_name, member_name, parameter_by, inner_by, declared_name, itself_ends, itself_or_bracket, step_itself, nothing_or_bracket, step_inner_nothing, step_unnamed, step_declarator, name_in_bracket, step_round_opened, step_function_named, step_round_closing, step_member_at, step_member_bound, step_member_bounded, step_list_opened, step_list_void, step_list_comma, step_list_dots, opened_struct, step_struct, step_tag, step_struct_tag, step_named_by, step_words, step_sole_void, step_opened, step_comma, step_wide_dots, step_after_member, step, finish, begun, Accepts}
 use Rattle.ffi3_cdecl_rules.proofs.Shapes.{arrays_shape, value_member, IsntVoid, Lent, whole_isnt_void, bare_isnt_void}
 use Rattle.ffi3_cdecl_rules.proofs.Lists.{ParametersFollow, DotsFollow, dots_end, types_follow, NextFollows, the_dots, the_next, CloseFollows, closes, goes_on, types_go_on, ListFollows, list_closes, list_of_void, list_of_parameters, ListIs, list_is, list_by, with_parameter}
-use Rattle.ffi3_cdecl_rules.proofs.WideRest.{IsOver, over, Closings, no_bracket, a_bracket, Outside, no_outside, outside_bracket, inside_star, at_star, BehindName, behind_name, SettledFollows, settles, SomeInners, inners_and, InnersFollow, inner_ends_by_dots, more_inners, InnerEnds, inner_closes, inner_goes_on, InnerListFollows, inner_list_follows, RoundThen, a_round, SomeMembers, some_members, SomeDeclared, some_declared, MembersFollow, no_more, more, MemberEnds, member_ends_here, member_goes_on, NumberThen, a_number, SquareThen, square, BoundThen, a_bound, no_bound, Closes, none_closes, outer_closes, inner_bracket_closes, star_closes, ReturnedBy, new_head, declares_it, naming, ClosingFollows, closing_follows, E, NamedFollows, its_list, its_bracket, its_inner_bracket, FunctionInside, function_inside_of, FunctionFollows, function_inside, name_inside, ParameterEnds, parameter_ends, MemberFollows, member_follows, InnerFollows, inner_follows, SettledEnds, SettledRest, DeclaratorRest, KindFollows, StructOf, BaseFollows, TypeFollows, CurlyFollows, curly_follows, TagFollows, members_of_tag, no_members, AloneFollows, the_tag, StructFollows, a_tag_follows, members_follow, VoidFollows, void_closes, void_declared, InnerVoidFollows, inner_void_closes, inner_void_declared, MemberRest, Rest}
+use Rattle.ffi3_cdecl_rules.proofs.WideRest.{IsOver, over, Closings, no_bracket, a_bracket, Outside, no_outside, outside_bracket, inside_star, at_star, BehindName, behind_name, SettledFollows, settles, SomeInners, inners_and, InnersFollow, inner_ends_by_dots, more_inners, InnerEnds, inner_closes, inner_goes_on, InnerListFollows, inner_list_follows, RoundThen, a_round, SomeMembers, some_members, SomeDeclared, some_declared, MembersFollow, no_more, more, MemberEnds, member_ends_here, member_goes_on, NumberThen, a_number, SquareThen, square, BoundThen, a_bound, no_bound, Closes, none_closes, outer_closes, inner_bracket_closes, star_closes, ReturnedBy, new_head, declares_it, naming, ClosingFollows, closing_follows, E, NamedFollows, its_list, its_bracket, its_inner_bracket, FunctionInside, function_inside_of, FunctionFollows, function_inside, name_inside, ParameterEnds, parameter_ends, MemberFollows, member_follows, InnerFollows, inner_follows, SettledEnds, SettledRest, DeclaratorRest, KindFollows, StructOf, BaseFollows, TypeFollows, CurlyFollows, curly_follows, TagFollows, members_of_tag, no_members, AloneFollows, the_tag, StructFollows, a_tag_follows, members_follow, VoidFollows, void_closes, void_declared, InnerVoidFollows, inner_void_closes, inner_void_declared, MemberRest, Rest, named_bound}
 use Rattle.ffi3_cdecl_rules.proofs.Rounds.{bracket_behind, nothing_behind, square_behind, list_behind, star_behind, kept_behind, name_declarator, star_declarator, bracket_declarator, Grounded, grounded, ground, unnamed_declarator, SomeOutside, some_outside, any_outside}
 use Rattle.ffi3_cdecl_rules.proofs.PlainSound.{some_same}
 use Rattle.ffi3_cdecl_rules.proofs.Never.{none_some}
@@ -210,6 +210,8 @@ module _ (d : Declaration) where
   settled_square : {xs : List Token} (u : Settled) → BoundThen (SettledRest d u) xs → SettledRest d u (open_square ∷ xs)
   settled_square u (a_bound (settles q c x)) = settles (known_array q refl) c x
   settled_square u (no_bound (settles q c x)) = settles (open_array q) c x
+  settled_square u (named_bound is (settles q c x)) =
+      settles (named_array is q) c x
 
   settled_list : {xs : List Token} (u : Settled) → depth_of u < MOST_OPEN → InnerListFollows (depth_of u) (SettledRest d u) xs → SettledRest d u (open_round ∷ xs)
   settled_list u room (inner_list_follows l (settles q c x)) =
@@ -225,8 +227,13 @@ module _ (d : Declaration) where
   number_bound : {G : List Token → Type 0} {xs : List Token} {n : ℕ} → SquareThen G xs → BoundThen G (number n ∷ xs)
   number_bound (square g) = a_bound g
 
+  some_bound : {G : List Token → Type 0} {xs : List Token} (x : Token) → is_named_bound x ≡ true → SquareThen G xs → BoundThen G (x ∷ xs)
+  some_bound x is (square g) = named_bound is g
+
   back_square : (u : Settled) (x : Token) (xs : List Token) → Rest d (step_square u x) xs → BoundThen (SettledRest d u) (x ∷ xs)
   back_square u (number n) xs h = number_bound h
+  back_square u star xs h = some_bound star refl h
+  back_square u (name called) xs h = some_bound (name called) refl h
   back_square u close_square xs h = no_bound h
   back_square u x xs h = absurd h
 

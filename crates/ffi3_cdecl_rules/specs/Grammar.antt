@@ -238,6 +238,12 @@ abbrev pub opens_round : List Token → Bool
 opens_round (open_round ∷ xs) = true
 opens_round xs = false
 
+-- the number of an array by a name, or left open by a "*" (C11 6.7.6.2 paragraph 4)
+abbrev pub is_named_bound : Token → Bool
+is_named_bound star = true
+is_named_bound (name called) = true
+is_named_bound x = false
+
 -- the name of a function, in brackets or not, inside so many
 pub data IsCalled : ℕ → List Token → List Token → List ℕ → Type 0 where
   the_name : {d : ℕ} {after : List Token} {called : List ℕ} → IsCalled d (name called ∷ after) after called
@@ -289,7 +295,7 @@ mutual
         → IsQualified r d before middle k → IsStars middle after
         → IsType r d before after pointer_type
 
-  -- {"[" [number] "]" | "(" parameters ")"} behind a name or a bracket: from the shape outside to that of the name. The first bracket is the outermost array. That no array is of functions and no function returns an array (C11 6.7.6.2 and 6.7.6.3, paragraph 1) is not asked: what is read has a pointer there in any case.
+  -- {"[" [number | "*" | ident] "]" | "(" parameters ")"} behind a name or a bracket: from the shape outside to that of the name. The first bracket is the outermost array. That no array is of functions and no function returns an array (C11 6.7.6.2 and 6.7.6.3, paragraph 1) is not asked: what is read has a pointer there in any case.
   pub data IsSuffixes (r : Dialect) : ℕ → List Token → List Token → Shape → Shape → Type 0 where
     no_suffix : {d : ℕ} {after : List Token} {s : Shape} → IsSuffixes r d after after s s
     known_array : {d : ℕ} {before after : List Token} {n : ℕ} {s e t : Shape} → IsSuffixes r d before after s e
@@ -297,6 +303,9 @@ mutual
         → IsSuffixes r d (open_square ∷ number n ∷ close_square ∷ before) after s t
     open_array : {d : ℕ} {before after : List Token} {s e : Shape} → IsSuffixes r d before after s e
         → IsSuffixes r d (open_square ∷ close_square ∷ before) after s handed
+    named_array : {d : ℕ} {before after : List Token} {x : Token} {s e : Shape} → is_named_bound x ≡ true
+        → IsSuffixes r d before after s e
+        → IsSuffixes r d (open_square ∷ x ∷ close_square ∷ before) after s handed
     a_list : {d : ℕ} {before middle after : List Token} {s e : Shape} → d < MOST_OPEN
         → IsInnerList r (suc d) before middle → IsSuffixes r d middle after s e
         → IsSuffixes r d (open_round ∷ before) after s handed

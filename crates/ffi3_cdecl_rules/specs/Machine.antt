@@ -202,7 +202,7 @@ pub data State : Type 0 where
   member_at : Member → List Tree → Where → State
   member_bound : Member → List Tree → Where → State
   member_bounded : Member → List Tree → Where → State
-  -- what is settled, its "[", a number in it; its "(", `void` in it, a comma and the dots
+  -- what is settled, its "[", a number, name or star in it; its "(", `void` in it, a comma and the dots
   settled : Settled → State
   square_opened : Settled → State
   square_filled : Settled → State
@@ -340,6 +340,8 @@ step_settled u x = bracket_or_end (brackets_of u) u x
 
 abbrev pub step_square : Settled → Token → State
 step_square u (number n) = square_filled u
+step_square u star = square_filled u
+step_square u (name called) = square_filled u
 step_square u close_square = settled u
 step_square u x = dead
 

@@ -138,14 +138,15 @@ found_at b bs =
 
 -- ---- the wide reading
 
--- words that say nothing of where a value stands: qualifiers, storage classes and function specifiers (C11 6.7.1, 6.7.3, 6.7.4), and GNU C's for them
+-- words that say nothing of where a value stands: qualifiers, storage classes and function specifiers (C11 6.7.1, 6.7.3, 6.7.4), and GNU C's spellings of them (GCC manual, "Alternate Keywords")
 abbrev pub blank_words : List (List ℕ)
 blank_words =
     codes "const" ∷ codes "volatile" ∷ codes "restrict" ∷ codes "__restrict" ∷ codes "__restrict__" ∷ codes "extern"
     ∷ codes "static" ∷ codes "inline" ∷ codes "__inline" ∷ codes "register" ∷ codes "_Noreturn"
-    ∷ codes "__extension__" ∷ []
+    ∷ codes "__extension__" ∷ codes "__inline__" ∷ codes "__const" ∷ codes "__const__" ∷ codes "__volatile"
+    ∷ codes "__volatile__" ∷ []
 
--- Words that the plain reading takes for identifiers: types, words that add attributes, and C11's other keywords.
+-- Words that the plain reading takes for identifiers: types, words that add attributes, C11's other keywords, and those of GNU C, C23 and Microsoft C that stand in a type. `complex` is the macro of complex.h (C11 7.3.1).
 abbrev pub more_words : List (List ℕ × Token)
 more_words =
     (codes "_Bool", type_word u8) ∷ (codes "_Complex", complex_word) ∷ (codes "union", union_word)
@@ -157,7 +158,13 @@ more_words =
     ∷ (codes "return", other_keyword) ∷ (codes "sizeof", other_keyword) ∷ (codes "switch", other_keyword)
     ∷ (codes "typedef", other_keyword) ∷ (codes "while", other_keyword) ∷ (codes "_Alignof", other_keyword)
     ∷ (codes "_Atomic", other_keyword) ∷ (codes "_Generic", other_keyword) ∷ (codes "_Imaginary", other_keyword)
-    ∷ (codes "_Static_assert", other_keyword) ∷ (codes "_Thread_local", other_keyword) ∷ []
+    ∷ (codes "_Static_assert", other_keyword) ∷ (codes "_Thread_local", other_keyword) ∷ (codes "complex", complex_word)
+    ∷ (codes "__complex", complex_word) ∷ (codes "__complex__", complex_word) ∷ (codes "__signed", sign_word signed)
+    ∷ (codes "__signed__", sign_word signed) ∷ (codes "typeof", other_keyword) ∷ (codes "__typeof", other_keyword)
+    ∷ (codes "__typeof__", other_keyword) ∷ (codes "typeof_unqual", other_keyword)
+    ∷ (codes "__alignof__", other_keyword) ∷ (codes "__auto_type", other_keyword) ∷ (codes "_BitInt", other_keyword)
+    ∷ (codes "__int8", other_keyword) ∷ (codes "__int16", other_keyword) ∷ (codes "__int32", other_keyword)
+    ∷ (codes "__int64", other_keyword) ∷ (codes "__ptr32", other_keyword) ∷ []
 
 abbrev pub is_among : List ℕ → List (List ℕ) → Bool
 is_among bytes [] = false
@@ -176,25 +183,57 @@ abbrev pub begins_with : ℕ → List ℕ → Bool
 begins_with c [] = false
 begins_with c (b ∷ bs) = b == c
 
+-- The end of a line is taken away with a "\" before it (C11 5.1.1.2, phase 2), where blanks may stand between, as GNU C has it: whether one stands before, once this byte is read.
+abbrev pub is_spliced_behind : Bool → ℕ → Bool
+is_spliced_behind spliced b =
+    (b == 92) || (spliced && (is_blank b && not (b == 10)))
+
+abbrev pub ends_line : Bool → ℕ → Bool
+ends_line spliced b = (b == 10) && not spliced
+
+-- how many bytes a comment takes behind its "//", up to the end of its line, where the end that is next may be spliced (C11 6.4.9)
+abbrev pub line_length : Bool → List ℕ → ℕ
+line_length spliced [] = 0
+line_length spliced (b ∷ bs) =
+    cond (ends_line spliced b) 0 (suc (line_length (is_spliced_behind spliced b) bs))
+
+-- what stands before a byte of a comment that a "*/" closes: a "*", that and a "\" that may splice a line, or neither
+pub data CommentPlace : Type 0 where
+  in_comment : CommentPlace
+  behind_star : CommentPlace
+  behind_splice : CommentPlace
+
+abbrev pub splice_goes_on : ℕ → CommentPlace
+splice_goes_on b =
+    cond (b == 10) behind_star (cond (is_blank b) behind_splice in_comment)
+
+abbrev pub place_behind : CommentPlace → ℕ → CommentPlace
+place_behind in_comment b = cond (b == 42) behind_star in_comment
+place_behind behind_star b =
+    cond (b == 42) behind_star (cond (b == 92) behind_splice in_comment)
+place_behind behind_splice b = cond (b == 42) behind_star (splice_goes_on b)
+
+abbrev pub closes_comment : CommentPlace → ℕ → Bool
+closes_comment in_comment b = false
+closes_comment behind_star b = b == 47
+closes_comment behind_splice b = false
+
 -- how many bytes a comment takes behind its "/*", with its "*/" (C11 6.4.9)
-abbrev pub comment_length : List ℕ → Option ℕ
-comment_length [] = None
-comment_length (b ∷ bs) =
-    cond ((b == 42) && begins_with 47 bs) (Some 2) (option_map suc (comment_length bs))
+abbrev pub comment_length : CommentPlace → List ℕ → Option ℕ
+comment_length p [] = None
+comment_length p (b ∷ bs) =
+    cond (closes_comment p b) (Some 1) (option_map suc (comment_length (place_behind p b) bs))
 
 abbrev pub passed_over : Option ℕ → Found
 passed_over None = nothing_known
 passed_over (Some n) = skipped (suc n)
 
-abbrev pub goes_on_line : ℕ → Bool
-goes_on_line b = not (b == 10)
-
 -- what stands at a "/" that these bytes follow
 abbrev pub comment_at : List ℕ → Found
 comment_at [] = nothing_known
 comment_at (b ∷ bs) =
-    cond (b == 42) (passed_over (comment_length bs))
-    (cond (b == 47) (skipped (suc (length (front goes_on_line bs)))) nothing_known)
+    cond (b == 42) (passed_over (comment_length in_comment bs))
+    (cond (b == 47) (skipped (suc (line_length false bs))) nothing_known)
 
 -- ---- GNU C's attributes, and names for the assembler
 
@@ -237,12 +276,18 @@ abbrev pub open_behind : Quoted → ℕ → ℕ → ℕ
 open_behind unquoted b n = cond (b == 40) (n + 1) (cond (b == 41) (n - 1) n)
 open_behind q b n = n
 
+-- A byte that may hide brackets or quotes: of a comment, of a character in quotes or of a line that is spliced. A bracket with one is not read.
+abbrev pub hides : Quoted → ℕ → Bool
+hides unquoted b = (b == 47) || (b == 39) || (b == 92)
+hides q b = b == 10
+
 -- how many bytes stand up to where all brackets are closed, the last ")" among them
 abbrev pub bracket_length : Quoted → ℕ → List ℕ → Option ℕ
 bracket_length q n [] = None
 bracket_length q n (b ∷ bs) =
-    cond (open_behind q b n == 0) (Some 1)
-    (option_map suc (bracket_length (quoted_behind q b) (open_behind q b n) bs))
+    cond (hides q b) None
+    (cond (open_behind q b n == 0) (Some 1)
+    (option_map suc (bracket_length (quoted_behind q b) (open_behind q b n) bs)))
 
 -- a word that begins here is an attribute, or stands where one should
 abbrev pub is_attribute_at : Quoted → ℕ → ℕ → Bool
