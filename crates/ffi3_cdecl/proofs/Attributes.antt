@@ -2,7 +2,7 @@
 use Rattle.std.proofs.Common.{◌≡◌, ℕ, zero, suc, ◌+◌, ◌<◌, ◌≤◌, Bool, true, false, cond, ◌&&◌, List, [], ◌∷◌, length, get_or, drop, Option, Some, None, option_map, ap, sym, refl, ◌∙◌, arith, ne_eqb}
 use Rattle.std.specs.Prelude.{◌==◌}
 use Rattle.std.proofs.lemmas.List.{drop_more, drop_all, drop-drop}
-use Rattle.ffi3_cdecl_rules.specs.Tokens.{Quoted, quoted_behind, hides, open_behind, bracket_length, is_attribute_at, all_silent, are_silent, is_silent, front, goes_on_word}
+use Rattle.ffi3_cdecl_rules.specs.Tokens.{Quoted, quoted_behind, hides, begins_string, open_behind, bracket_length, is_attribute_at, all_silent, are_silent, is_silent, front, goes_on_word}
 
 -- ---- where a bracket ends
 
@@ -96,3 +96,9 @@ word_goes_on q o n more bs h e two s count same =
 
 pub all_gone : (q : Quoted) (o n : ℕ) (bs : List ℕ) → length bs ≤ n → silent_from q o n bs ≡ true
 all_gone q o n bs h = ap (all_silent q o 0) (drop_all n bs h)
+
+-- ---- whether a string stands behind its "("
+
+pub no_string : (bs : List ℕ) → length bs ≡ 0 → false ≡ begins_string bs
+no_string [] e = refl
+no_string (b ∷ bs) e = absurd (omega (arith, e))

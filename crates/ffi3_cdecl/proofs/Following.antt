@@ -1,6 +1,6 @@
 -- What follows a word that attributes, or a name for the assembler, follow.
 use Rattle.std.proofs.Common.{◌≡◌, ℕ, ◌+◌, Bool, true, false, cond, List, length, drop, take, ap, sym, refl, ◌∙◌, Option, Some, None}
-use Rattle.ffi3_cdecl_rules.specs.Tokens.{Found, skipped, nothing_known, found, attribute_word, front, is_blank, begins_with, unquoted, bracket_length, are_silent, anything, with_bracket, attribute_at}
+use Rattle.ffi3_cdecl_rules.specs.Tokens.{Found, skipped, nothing_known, found, attribute_word, front, is_blank, begins_with, unquoted, bracket_length, are_silent, begins_string, with_bracket, attribute_at}
 
 abbrev blanks : List ℕ → ℕ
 blanks bs = length (front is_blank bs)
@@ -27,10 +27,14 @@ with_end : (silent : List ℕ → Bool) (more k n : ℕ) (bs cs : List ℕ) (t :
 with_end silent more k n bs cs t o ek ec et there eo is =
     ap (λ p. with_bracket silent (more + k) cs p) (sym is) ∙ ap (λ u. by_open u silent more k cs o) (sym there) ∙ behind_blanks silent more k bs cs t o ek ec et eo
 
+closed_by : (silent : List ℕ → Bool) (more k n : ℕ) (bs cs ds : List ℕ) (t s : Bool) (o : Option ℕ) (f : Found) → k ≡ blanks bs → cs ≡ drop k bs → t ≡ begins_with 40 cs → t ≡ true → o ≡ bracket_length unquoted 0 cs → o ≡ Some n → ds ≡ take n cs → s ≡ silent ds → f ≡ cond s (skipped (more + k + n)) (found attribute_word (more + k + n)) → f ≡ attribute_at silent more bs
+closed_by silent more k n bs cs ds t s o f ek ec et there eo is ed es ef =
+    ef ∙ ap (λ u. cond u (skipped (more + k + n)) (found attribute_word (more + k + n))) (es ∙ ap silent ed) ∙ with_end silent more k n bs cs t o ek ec et there eo is
+
 pub bracket_closed : (more k n : ℕ) (bs cs ds : List ℕ) (t s : Bool) (o : Option ℕ) (f : Found) → k ≡ blanks bs → cs ≡ drop k bs → t ≡ begins_with 40 cs → t ≡ true → o ≡ bracket_length unquoted 0 cs → o ≡ Some n → ds ≡ take n cs → s ≡ are_silent ds → f ≡ cond s (skipped (more + k + n)) (found attribute_word (more + k + n)) → f ≡ attribute_at are_silent more bs
 bracket_closed more k n bs cs ds t s o f ek ec et there eo is ed es ef =
-    ef ∙ ap (λ u. cond u (skipped (more + k + n)) (found attribute_word (more + k + n))) (es ∙ ap are_silent ed) ∙ with_end are_silent more k n bs cs t o ek ec et there eo is
+    closed_by are_silent more k n bs cs ds t s o f ek ec et there eo is ed es ef
 
-pub any_bracket : (more k n : ℕ) (bs cs : List ℕ) (t : Bool) (o : Option ℕ) → k ≡ blanks bs → cs ≡ drop k bs → t ≡ begins_with 40 cs → t ≡ true → o ≡ bracket_length unquoted 0 cs → o ≡ Some n → skipped (more + k + n) ≡ attribute_at anything more bs
-any_bracket more k n bs cs t o ek ec et there eo is =
-    with_end anything more k n bs cs t o ek ec et there eo is
+pub bracket_of_string : (more k n : ℕ) (bs cs ds : List ℕ) (t s : Bool) (o : Option ℕ) (f : Found) → k ≡ blanks bs → cs ≡ drop k bs → t ≡ begins_with 40 cs → t ≡ true → o ≡ bracket_length unquoted 0 cs → o ≡ Some n → ds ≡ take n cs → s ≡ begins_string ds → f ≡ cond s (skipped (more + k + n)) (found attribute_word (more + k + n)) → f ≡ attribute_at begins_string more bs
+bracket_of_string more k n bs cs ds t s o f ek ec et there eo is ed es ef =
+    closed_by begins_string more k n bs cs ds t s o f ek ec et there eo is ed es ef

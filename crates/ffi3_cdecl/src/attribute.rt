@@ -1,9 +1,9 @@
 // The bracket behind a word that adds an attribute, or that names a function for the assembler.
 ghost use Rattle.std.specs.Prelude.{◌≡◌, ◌≤◌, ◌<◌, ◌+◌, ◌∷◌, IfSome, length, drop, get_or, map};
-ghost use Rattle.ffi3_cdecl_rules.specs.Tokens.{front, goes_on_word, unquoted, quoted_behind, hides, is_attribute_at, open_behind, bracket_length, are_silent, is_silent, is_among, silent_attributes, with_lines};
+ghost use Rattle.ffi3_cdecl_rules.specs.Tokens.{front, goes_on_word, unquoted, quoted_behind, hides, begins_with, begins_string, is_blank, is_attribute_at, open_behind, bracket_length, are_silent, is_silent, is_among, silent_attributes, with_lines};
 ghost use Rattle.ffi3_cdecl.specs.QuotedOf.{quoted_of};
 
-use crate::bytes::{is_letter, word_length};
+use crate::bytes::{blank_length, is_letter, word_length};
 use crate::token::is;
 
 /// Where a byte of a bracket stands: outside of quotes, between them, or there behind a backslash.
@@ -44,7 +44,7 @@ fn hides(quoted: Quoted, b: u8) -> bool
     ensures { result ≡ hides (quoted_of quoted) b }
 {
     match quoted {
-        Quoted::Outside => b == 47 || b == 39 || b == 92,
+        Quoted::Outside => b == 47 || b == 39 || b == 92 || b == 82,
         Quoted::Between => b == 10,
         Quoted::Escaped => b == 10,
     }
@@ -217,6 +217,31 @@ fn is_lined_from_19(word: &[u8]) -> bool
         || is(word, b"__noinline__")
         || is(word, b"__warning__")
         || is(word, b"__error__")
+}
+
+/// Whether these bytes begin with a quote.
+fn begins_quote(bytes: &[u8]) -> bool
+    ensures { result ≡ begins_with 34 bytes.now }
+{
+    if let [b, ..] = bytes { *b == 34 } else { false }
+}
+
+/// The bytes behind the blanks at the front.
+fn behind_blanks(bytes: &[u8]) -> &[u8]
+    ensures { result.now ≡ drop (length (front is_blank bytes.now)) bytes.now }
+{
+    &bytes[blank_length(bytes)..]
+}
+
+/// Whether a string stands behind the mark that opens a bracket.
+#[tactic(auto, using(crate::proofs::Attributes::no_string))]
+pub fn begins_string(bracket: &[u8]) -> bool
+    ensures { result ≡ begins_string bracket.now }
+{
+    if bracket.len() == 0 {
+        return false;
+    }
+    begins_quote(behind_blanks(&bracket[1..]))
 }
 
 fn behind(bracket: &[u8], n: usize) -> &[u8]

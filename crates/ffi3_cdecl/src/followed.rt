@@ -1,9 +1,9 @@
 // What follows a word that attributes, or a name for the assembler, follow, in the wide reading.
 ghost use Rattle.std.specs.Prelude.{◌≡◌, ◌≤◌, ◌+◌, cond, length};
-ghost use Rattle.ffi3_cdecl_rules.specs.Tokens.{attribute_words, assembler_words, is_among, are_silent, anything, begins_with, attribute_at, skipped, found, attribute_word};
+ghost use Rattle.ffi3_cdecl_rules.specs.Tokens.{attribute_words, assembler_words, is_among, are_silent, begins_string, begins_with, attribute_at, skipped, found, attribute_word};
 ghost use Rattle.ffi3_cdecl.specs.TokenOf.{found_of};
 
-use crate::attribute::{are_silent, bracket_length};
+use crate::attribute::{are_silent, begins_string, bracket_length};
 use crate::bytes::blank_length;
 use crate::token::{Found, Token, from, is, upto};
 
@@ -70,11 +70,11 @@ pub fn attribute(rest: &[u8], more: usize) -> Found<'static>
     }
 }
 
-/// What follows a word that a name for the assembler follows: a blank.
-#[tactic(auto, using(crate::proofs::Following::no_bracket, crate::proofs::Following::bracket_open, crate::proofs::Following::any_bracket))]
+/// What follows a word that a name for the assembler follows: a blank where a string stands in the bracket.
+#[tactic(auto, using(crate::proofs::Following::no_bracket, crate::proofs::Following::bracket_open, crate::proofs::Following::bracket_of_string))]
 pub fn assembler(rest: &[u8], more: usize) -> Found<'static>
     requires { more + length rest.now ≤ 0x7FFF_FFFF_FFFF_FFFF }
-    ensures { found_of result ≡ attribute_at anything more rest.now }
+    ensures { found_of result ≡ attribute_at begins_string more rest.now }
 {
     let blanks = blank_length(rest);
     let bracket = from(rest, blanks);
@@ -83,6 +83,6 @@ pub fn assembler(rest: &[u8], more: usize) -> Found<'static>
     }
     match bracket_length(bracket) {
         None => Found::Nothing,
-        Some(n) => Found::Skipped(more + blanks + n),
+        Some(n) => bracketed(begins_string(upto(bracket, n)), more + blanks + n),
     }
 }

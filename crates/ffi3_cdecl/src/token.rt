@@ -419,6 +419,44 @@ fn more_word_from_38(bytes: &[u8]) -> Token<'_>
     } else if is(bytes, b"__ptr32") {
         Token::Keyword
     } else {
+        more_word_from_44(bytes)
+    }
+}
+
+// From number 44 on.
+fn more_word_from_44(bytes: &[u8]) -> Token<'_>
+    ensures { token_of result ≡ word_among bytes.now (drop 44 (more_words ++ words)) }
+{
+    if is(bytes, b"__int128__") {
+        Token::Int128
+    } else if is(bytes, b"_int8") {
+        Token::Keyword
+    } else if is(bytes, b"_int16") {
+        Token::Keyword
+    } else if is(bytes, b"_int32") {
+        Token::Keyword
+    } else if is(bytes, b"_int64") {
+        Token::Keyword
+    } else {
+        more_word_from_49(bytes)
+    }
+}
+
+// From number 49 on.
+fn more_word_from_49(bytes: &[u8]) -> Token<'_>
+    ensures { token_of result ≡ word_among bytes.now (drop 49 (more_words ++ words)) }
+{
+    if is(bytes, b"_ptr32") {
+        Token::Keyword
+    } else if is(bytes, b"_ExtInt") {
+        Token::Keyword
+    } else if is(bytes, b"_Fract") {
+        Token::Keyword
+    } else if is(bytes, b"_Accum") {
+        Token::Keyword
+    } else if is(bytes, b"_Sat") {
+        Token::Keyword
+    } else {
         word(bytes)
     }
 }

@@ -2,7 +2,7 @@
 use Rattle.std.proofs.Common.{◌≡◌, [], ◌∷◌, ◌++◌, Some, None, refl}
 use Rattle.std.specs.Prelude.{codes}
 use Rattle.ffi3_type_rules.specs.Layout.{least_multiple}
-use Rattle.ffi3_type_rules.specs.Tree.{u8, s8, s32, s64, u64, float, double, pointer, void, scalar, struct_of, array_of}
+use Rattle.ffi3_type_rules.specs.Tree.{u8, s8, s32, s64, u64, u128, float, double, pointer, void, scalar, struct_of, array_of}
 use Rattle.ffi3_cdecl_rules.specs.Tokens.{wide, signed, unsigned}
 use Rattle.ffi3_cdecl_rules.specs.Reading.{reads, bad_token, unexpected}
 use Rattle.ffi3_cdecl_rules.specs.Machine.{read_in}
@@ -159,3 +159,41 @@ list_behind_brackets = refl
 
 name_and_a_list : read_in wide signed (codes "int f(T (x))") ≡ unexpected 9
 name_and_a_list = refl
+
+-- words that name no type together
+complex_alone : read_in wide signed (codes "double f(_Complex z)") ≡ unexpected 18
+complex_alone = refl
+
+long_long_double : read_in wide signed (codes "int f(long long double x)") ≡ unexpected 16
+long_long_double = refl
+
+short_char : read_in wide signed (codes "int f(short char x)") ≡ unexpected 12
+short_char = refl
+
+comment_in_quotes : read_in wide signed (codes "int f(int) __asm__(" ++ (34 ∷ (codes "a" ++ (34 ∷ (codes " /* " ++ (34 ∷ (codes " */)"))))))) ≡ bad_token 11
+comment_in_quotes = refl
+
+bracket_in_a_comment : read_in wide signed (codes "int f(int) __attribute__((nonnull /* ) */))") ≡ bad_token 11
+bracket_in_a_comment = refl
+
+character_in_quotes : read_in wide signed (codes "int f(int) __attribute__((deprecated(')')))") ≡ bad_token 11
+character_in_quotes = refl
+
+gnu_int128 : read_in wide signed (codes "int f(unsigned __int128__)") ≡ reads (record { called = codes "f"; signature = record { result_type = scalar s32; arguments = scalar u128 ∷ []; fixed = None } })
+gnu_int128 = refl
+
+microsofts_other_int64 : read_in wide signed (codes "int f(unsigned _int64)") ≡ unexpected 15
+microsofts_other_int64 = refl
+
+fixed_point : read_in wide signed (codes "int f(unsigned long _Accum)") ≡ unexpected 20
+fixed_point = refl
+
+-- a name for the assembler is a string
+assembler_as_a_name : read_in wide signed (codes "int f(int asm(int))") ≡ unexpected 10
+assembler_as_a_name = refl
+
+raw_name : read_in wide signed (codes "int f(int) __asm__(R" ++ (34 ∷ (codes "(g)" ++ (34 ∷ (codes ")"))))) ≡ bad_token 11
+raw_name = refl
+
+raw_behind_a_name : read_in wide signed (codes "int f(int) __asm__( " ++ (34 ∷ (codes "g" ++ (34 ∷ (codes " R" ++ (34 ∷ (codes "(g)" ++ (34 ∷ (codes ")"))))))))) ≡ bad_token 11
+raw_behind_a_name = refl

@@ -4,7 +4,7 @@ use Rattle.std.specs.Prelude.{⊤, ◌==◌, bytes_eq}
 use Rattle.std.proofs.lemmas.Bool.{eqb-true}
 use Rattle.std.proofs.lemmas.Slice.Eq.{bytes_eq-Decides}
 use Rattle.ffi3_type_rules.specs.Tree.{Scalar, Tree, void, scalar, array_of}
-use Rattle.ffi3_cdecl_rules.specs.Tokens.{plain, wide, Token, Sign, signed, unsigned, sign_word, const_word, short_word, int_word, long_word, int128_word, char_word, semicolon, name, number, dots, words, blank_words, word_among, word_of, is_among, is_blank, is_letter, is_digit, goes_on_word, front, with_digits, Found, blank, skipped, nothing_known, found, number_at, dots_at, marks, mark_among, comment_at, found_at, wide_found_at, Placed, Cut, tokens, bad_at, before, bytes_more, cut_from, wide_words, close_curly, attribute_word, attribute_words, assembler_words, attribute_at, are_silent, anything, wide_word_at}
+use Rattle.ffi3_cdecl_rules.specs.Tokens.{plain, wide, Token, Sign, signed, unsigned, sign_word, const_word, short_word, int_word, long_word, int128_word, char_word, semicolon, name, number, dots, words, blank_words, word_among, word_of, is_among, is_blank, is_letter, is_digit, goes_on_word, front, with_digits, Found, blank, skipped, nothing_known, found, number_at, dots_at, marks, mark_among, comment_at, found_at, wide_found_at, Placed, Cut, tokens, bad_at, before, bytes_more, cut_from, wide_words, close_curly, attribute_word, attribute_words, assembler_words, attribute_at, are_silent, begins_string, wide_word_at}
 use Rattle.ffi3_cdecl_rules.specs.Grammar.{Kind, whole, bare, nothing, pointer_type, no_int, with_int, one_long, two_longs, IsSized, a_short, an_int, a_long, an_int128, IsSigned, sign_alone, sign_of_char, sign_of_size, IsStars, one_star, more_stars, IsCounts, no_count, a_count, specifier_number, named_by, AreSpecifiers, no_more_words, a_word, Shape, a_value, an_array, handed, pointer_shape, array_shape, member_type, Naming, opens_round, the_name, IsBase, by_word, by_size, by_sign, a_char, by_specifiers, a_void, a_tag, a_union, an_enum, a_name, a_struct, a_tagged_struct, IsQualified, unqualified, constant, itself, pointer_to, IsSuffixes, no_suffix, known_array, IsDeclarator, a_pointer, a_named, unnamed, a_member, one_declared, then_members, IsMembers, last_member, next_member, of_a_base, IsParameter, without_name, with_name, a_declared_one, IsParameters, last_parameter, last_before_dots, before_types, next_parameter, IsParameterList, no_parameters, only_void, some_parameters, a_result, no_result, Function, IsFunction, returns_pointer, a_function_here, IsEnd, no_semicolon, one_semicolon, Declaration, IsDeclarationIn, declares, declares_by, char_of, must_be_named, may_be_named, declared}
 use Rattle.ffi3_cdecl_rules.specs.Reading.{tokens_of, is_too_great, first_too_great, IsReadingIn, reads, is_read, StaysName, NamesStay, UsesNoKeyword}
 use Rattle.ffi3_cdecl_rules.proofs.Spoken.{letter_no_blank}
@@ -136,7 +136,7 @@ module _ (char_sign : Sign) where
   words_wider =
       (λ n bs. same_token refl, (λ n bs. same_token refl, (λ n bs. same_token refl, (λ n bs. same_token refl, (λ n bs. same_token refl, (λ n bs. same_token refl, (λ n bs. same_token refl, (λ n bs. same_token refl, (λ n bs. same_token refl, (λ n bs. same_token refl, (λ n bs. same_token refl, (λ n bs. same_token refl, (λ n bs. same_token refl, (λ n bs. same_token refl, (λ n bs. same_token refl, (λ n bs. const_skipped, (λ n bs. same_token refl, (λ n bs. same_token refl, (λ n bs. same_token refl, (λ n bs. same_token refl, (λ n bs. same_token refl, (λ n bs. same_token refl, (λ n bs. same_token refl, tt)))))))))))))))))))))))
 
-  name_stays : (word : List ℕ) (x : Token) (n : ℕ) (bs : List ℕ) (b d e : Bool) → cond b (found attribute_word 0) (cond d (found attribute_word 0) (cond e (skipped 0) (found x 0))) ≡ found (name word) 0 → Wider (found (name word) n) (cond b (attribute_at are_silent n bs) (cond d (attribute_at anything n bs) (cond e (skipped n) (found x n))))
+  name_stays : (word : List ℕ) (x : Token) (n : ℕ) (bs : List ℕ) (b d e : Bool) → cond b (found attribute_word 0) (cond d (found attribute_word 0) (cond e (skipped 0) (found x 0))) ≡ found (name word) 0 → Wider (found (name word) n) (cond b (attribute_at are_silent n bs) (cond d (attribute_at begins_string n bs) (cond e (skipped n) (found x n))))
   name_stays word x n bs true d e same = absurd (cc)
   name_stays word x n bs false true e same = absurd (cc)
   name_stays word x n bs false false true same = absurd (cc)

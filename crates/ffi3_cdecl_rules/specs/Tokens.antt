@@ -146,7 +146,7 @@ blank_words =
     ∷ codes "__extension__" ∷ codes "__inline__" ∷ codes "__const" ∷ codes "__const__" ∷ codes "__volatile"
     ∷ codes "__volatile__" ∷ []
 
--- Words that the plain reading takes for identifiers: types, words that add attributes, C11's other keywords, and those of GNU C, C23 and Microsoft C that stand in a type. `complex` is the macro of complex.h (C11 7.3.1).
+-- Words that the plain reading takes for identifiers: types, words that add attributes, C11's other keywords, and those of GNU C, Clang, C23, ISO/IEC TR 18037 and Microsoft C that stand in a type. `complex` is the macro of complex.h (C11 7.3.1).
 abbrev pub more_words : List (List ℕ × Token)
 more_words =
     (codes "_Bool", type_word u8) ∷ (codes "_Complex", complex_word) ∷ (codes "union", union_word)
@@ -164,7 +164,10 @@ more_words =
     ∷ (codes "__typeof__", other_keyword) ∷ (codes "typeof_unqual", other_keyword)
     ∷ (codes "__alignof__", other_keyword) ∷ (codes "__auto_type", other_keyword) ∷ (codes "_BitInt", other_keyword)
     ∷ (codes "__int8", other_keyword) ∷ (codes "__int16", other_keyword) ∷ (codes "__int32", other_keyword)
-    ∷ (codes "__int64", other_keyword) ∷ (codes "__ptr32", other_keyword) ∷ []
+    ∷ (codes "__int64", other_keyword) ∷ (codes "__ptr32", other_keyword) ∷ (codes "__int128__", int128_word)
+    ∷ (codes "_int8", other_keyword) ∷ (codes "_int16", other_keyword) ∷ (codes "_int32", other_keyword)
+    ∷ (codes "_int64", other_keyword) ∷ (codes "_ptr32", other_keyword) ∷ (codes "_ExtInt", other_keyword)
+    ∷ (codes "_Fract", other_keyword) ∷ (codes "_Accum", other_keyword) ∷ (codes "_Sat", other_keyword) ∷ []
 
 abbrev pub is_among : List ℕ → List (List ℕ) → Bool
 is_among bytes [] = false
@@ -276,9 +279,9 @@ abbrev pub open_behind : Quoted → ℕ → ℕ → ℕ
 open_behind unquoted b n = cond (b == 40) (n + 1) (cond (b == 41) (n - 1) n)
 open_behind q b n = n
 
--- A byte that may hide brackets or quotes: of a comment, of a character in quotes or of a line that is spliced. A bracket with one is not read.
+-- A byte that may hide brackets or quotes: of a comment, of a character in quotes, of a line that is spliced, or the "R" of a raw string (GNU C). A bracket with one is not read.
 abbrev pub hides : Quoted → ℕ → Bool
-hides unquoted b = (b == 47) || (b == 39) || (b == 92)
+hides unquoted b = (b == 47) || (b == 39) || (b == 92) || (b == 82)
 hides q b = b == 10
 
 -- how many bytes stand up to where all brackets are closed, the last ")" among them
@@ -306,8 +309,10 @@ all_silent q n (suc inside) (b ∷ bs) = all_silent q n inside bs
 abbrev pub are_silent : List ℕ → Bool
 are_silent bracket = all_silent unquoted 0 0 bracket
 
-abbrev pub anything : List ℕ → Bool
-anything bracket = true
+-- a string stands behind the "(" of a bracket, as a name for the assembler has it (GCC manual, "Controlling Names Used in Assembler Code")
+abbrev pub begins_string : List ℕ → Bool
+begins_string bracket =
+    begins_with 34 (drop (length (front is_blank (drop 1 bracket))) (drop 1 bracket))
 
 -- a word and its bracket of so many bytes, where it has an end
 abbrev pub with_bracket : (List ℕ → Bool) → ℕ → List ℕ → Option ℕ → Found
@@ -315,7 +320,7 @@ with_bracket silent more bs None = nothing_known
 with_bracket silent more bs (Some n) =
     cond (silent (take n bs)) (skipped (more + n)) (found attribute_word (more + n))
 
--- A word and its bracket, where it has one, behind blanks: a blank where all in it is silent, else an attribute.
+-- A word and its bracket, where it has one, behind blanks: a blank where what is in it is silent, else an attribute.
 abbrev pub attribute_at : (List ℕ → Bool) → ℕ → List ℕ → Found
 attribute_at silent more bs =
     cond (begins_with 40 (drop (length (front is_blank bs)) bs))
@@ -327,7 +332,7 @@ attribute_at silent more bs =
 abbrev pub wide_word_at : Sign → List ℕ → ℕ → List ℕ → Found
 wide_word_at c word more bs =
     cond (is_among word attribute_words) (attribute_at are_silent more bs)
-    (cond (is_among word assembler_words) (attribute_at anything more bs) (wide_word c word more))
+    (cond (is_among word assembler_words) (attribute_at begins_string more bs) (wide_word c word more))
 
 abbrev pub wide_found_at : Sign → ℕ → List ℕ → Found
 wide_found_at c b bs =
