@@ -155,7 +155,7 @@ def step(s, x):
         return ("member_bounded", b[:2] + ((x[1],) + b[2],) + b[3:], s[2], s[3]) if k == "number" else DEAD
     if f == "member_bounded": return ("member_at", *s[1:]) if k == "]" else DEAD
     if f == "settled": return step_settled(s[1], x)
-    if f == "square_opened": return ("square_filled", s[1]) if k == "number" else ("settled", s[1]) if k == "]" else DEAD
+    if f == "square_opened": return ("square_filled", s[1]) if k in ("number", "name", "*") else ("settled", s[1]) if k == "]" else DEAD
     if f == "square_filled": return ("settled", s[1]) if k == "]" else DEAD
     if f == "list_opened": return ("settled", s[1]) if k == ")" else ("list_void", s[1]) if k == "void" else step_type(("inner", s[1]), x)
     if f == "list_void": return ("settled", s[1]) if k == ")" else step_declarator(("nothing",), U0, ("inner", s[1]), x)

@@ -45,6 +45,13 @@ ROWS = [
  ("int f(void a[3])", "int32_t f(void *);"), ("int f(int)[3]", None), ("int (*f)(int)", None), ("int f", None), ("int f(int, ...", None), ("int f(..., int)", None), ("int f(void, ...)", None),
  ("int f(int) /* open", None), ("int f(int x[010])", None), ("unsigned float f(void)", None), ("_Complex f(void)", None), ("long char f(void)", None), ("long long long f(void)", None),
  ("int f(struct { int x[]; } s)", None), ("int f(struct { int g(int); } s)", None), ("int f(struct { int *x[2], (y); } s)", "int32_t f(struct { void * m0[2]; int32_t m1; });"),
+ ("int f(int n, int a[n], int [*], int b[static n], int (*c)[n][3])", "int32_t f(int32_t, void *, void *, void *, void *);"), ("int f(int a[n + 1])", None), ("int f(int a[2 * n])", None),
+ ("void f(struct { int a[n]; } *p)", None), ("void f(struct { int (*a)[n]; } p)", "void f(struct { void * m0; });"), ("double cabs(double complex z)", "double cabs(struct { double m0; double m1; });"),
+ ("__extension__ __inline__ __const char *f(__volatile__ int, char __signed__, unsigned __int128__)", "void * f(int32_t, int8_t, unsigned __int128);"),
+ ("int f(int // one \\\n, long\n, short)", "int32_t f(int32_t, int16_t);"), ("int f(int // one \\ \r\n, long\n, short)", "int32_t f(int32_t, int16_t);"), ("int f(int // one \\ x\n, long)", "int32_t f(int32_t, int64_t);"),
+ ("int f(/* one *\\\n\\ \n/ int)", "int32_t f(int32_t);"), ("int f(/* one *\\ / int)", None), ("int \\\n f(int)", None),
+ ("int f(typeof(*x))", None), ("int f(unsigned _BitInt(n))", None), ("int f(unsigned __int64)", None), ("int f(unsigned _int64)", None), ("int f(int asm(int))", None), ("int f(int __asm__)", None),
+ ("int f(int) __asm__(R\"(f)\")", None), ("int f(int) __attribute__((nonnull /* )) */ ))", None), ("int f(int) __attribute__((deprecated(')')))", None), ("int f(int) __asm__(\"f\\\\\n\")", None),
 ]
 if __name__ == "__main__":
     wrong = 0

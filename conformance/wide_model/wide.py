@@ -2,14 +2,19 @@
 import re, sys
 from pathlib import Path
 
-BLANKS = set("const volatile restrict __restrict __restrict__ extern static inline __inline register _Noreturn __extension__".split())
+BLANKS = set("""const volatile restrict __restrict __restrict__ extern static inline __inline __inline__ register _Noreturn
+    __extension__ __const __const__ __volatile __volatile__""".split())
 FIXED = {"float": "float", "double": "double", "int8_t": "sint8", "int16_t": "sint16", "int32_t": "sint32", "int64_t": "sint64",
     "uint8_t": "uint8", "uint16_t": "uint16", "uint32_t": "uint32", "uint64_t": "uint64", "size_t": "uint64", "uintptr_t": "uint64", "intptr_t": "sint64"}
 KNOWN = {"bool": "uint8", "ssize_t": "sint64", "ptrdiff_t": "sint64", "intmax_t": "sint64", "uintmax_t": "uint64"}
 for n in (8, 16, 32, 64):
     KNOWN[f"int_least{n}_t"] = f"sint{n}"; KNOWN[f"uint_least{n}_t"] = f"uint{n}"
+SPELLINGS = {"complex": "_Complex", "__complex": "_Complex", "__complex__": "_Complex", "__signed": "signed", "__signed__": "signed",
+    "__int128__": "__int128"}
 SPEC = "signed unsigned short long int char __int128 float double _Complex".split()
-KEYWORDS = set("auto break case continue default do else for goto if return sizeof switch typedef while _Alignas _Alignof _Atomic _Generic _Imaginary _Static_assert _Thread_local".split())
+KEYWORDS = set("""auto break case continue default do else for goto if return sizeof switch typedef while _Alignas _Alignof _Atomic
+    _Generic _Imaginary _Static_assert _Thread_local typeof __typeof __typeof__ typeof_unqual __alignof__ __auto_type _BitInt __int8
+    __int16 __int32 __int64 __ptr32 _int8 _int16 _int32 _int64 _ptr32 _ExtInt _Fract _Accum _Sat""".split())
 ATTR = set("__declspec _Alignas".split())
 WITH_BRACKET = {"__attribute__": True, "__attribute": True, "__asm__": False, "__asm": False, "asm": False}
 SILENT = set("""nothrow leaf pure const nonnull malloc format format_arg warn_unused_result deprecated noreturn visibility alloc_size
@@ -23,12 +28,14 @@ MOST_OPEN = 16
 class Bad(Exception):
     def __init__(self, why, at): self.why, self.at = why, at
 
-CUT = re.compile(r"(?P<blank>[ \t\n\r]+|/\*.*?\*/|//[^\n]*)|(?P<word>[A-Za-z_]\w*)|(?P<number>[0-9]+)|(?P<mark>\.\.\.|[](){}[,;*])", re.S | re.A)
+SPLICE = r"\\[ \t\r]*\n"
+CUT = re.compile(rf"(?P<blank>[ \t\n\r]+|/\*.*?\*(?:{SPLICE})*/|//(?:{SPLICE}|[^\n])*)|" + r"(?P<word>[A-Za-z_]\w*)|(?P<number>[0-9]+)|(?P<mark>\.\.\.|[](){}[,;*])", re.S | re.A)
 def bracket(text, at):
     """Where the bracket that opens there ends; None where it does not."""
     depth, quoted = 0, ""
     while at < len(text):
         c = text[at]
+        if c in ("\n" if quoted else "/'\\R"): return None
         if quoted == '"': quoted = "" if c == '"' else "\\" if c == "\\" else '"'
         elif quoted == "\\": quoted = '"'
         elif c == '"': quoted = '"'
@@ -54,6 +61,7 @@ def silent(text):
         depth += (c == "(") - (c == ")"); at += 1
     return True
 
+STRING = re.compile(r'\([ \t\n\r]*"')
 def cut(text):
     out, at = [], 0
     while at < len(text):
@@ -65,9 +73,10 @@ def cut(text):
             if text[opens:opens + 1] != "(": out.append(("attribute", s, at)); at = m.end(); continue
             end = bracket(text, opens)
             if end is None: raise Bad("bad token", at)
-            if WITH_BRACKET[s] and not silent(text[opens:end]): out.append(("attribute", s, at))
+            if not (silent if WITH_BRACKET[s] else STRING.match)(text[opens:end]): out.append(("attribute", s, at))
             at = end; continue
         if m.lastgroup == "word":
+            s = SPELLINGS.get(s, s)
             if s in BLANKS: pass
             elif s in FIXED and s not in ("float", "double"): out.append(("type", FIXED[s], at))
             elif s in SPEC: out.append((s, s, at))
@@ -277,6 +286,7 @@ def step_behind(kind, levels, pending, w, name, tok, k):
     return None
 def step_count(kind, levels, pending, w, name, needs, tok, k):
     if k == "number": return ("counted", kind, levels, pending, w, name, tok[1])
+    if k in ("name", "*") and not needs: return ("counted", kind, levels, pending, w, name, None)
     if k == "]" and not needs: return counted(kind, levels, pending, w, name, None)
     return None
 def counted(kind, levels, pending, w, name, n):
