@@ -7,6 +7,7 @@ pub mod Rounds
 pub mod Saying
 pub mod Named
 pub mod Settling
+pub mod Unnamed
 pub mod Lives
 pub mod Comments
 pub mod Following

@@ -43,8 +43,8 @@ nothing_some_open n u x s some e =
 -- ---- a bracket, where it has room
 
 pub bracket_opens : (k : Kind) (o p : Round) (w : Where) (n : ℕ) (b : Bool) → n ≡ brackets o → b ≡ ltb (depth w + n) 16 → b ≡ true → p ≡ bracket_inside o → round_opened k p w ≡ open_bracket k o w
-bracket_opens k o p w n b en eb yes ep =
-    let room : ltb (depth w + brackets o) 16 ≡ true = ap (λ i. ltb (depth w + i) 16) (sym en) ∙ sym eb ∙ yes in
+bracket_opens k o p w n b en eb fits ep =
+    let room : ltb (depth w + brackets o) 16 ≡ true = ap (λ i. ltb (depth w + i) 16) (sym en) ∙ sym eb ∙ fits in
     ap (λ q. round_opened k q w) ep ∙ ap (λ t. cond {A = State} t (round_opened k (bracket_inside o) w) dead) (sym room)
 
 pub bracket_refused : (k : Kind) (o : Round) (w : Where) (n : ℕ) (b : Bool) → n ≡ brackets o → b ≡ ltb (depth w + n) 16 → b ≡ false → dead ≡ open_bracket k o w
