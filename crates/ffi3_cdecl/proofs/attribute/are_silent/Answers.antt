@@ -1,4 +1,4 @@
-use Rattle.std.proofs.Common.{◌∙◌, sym, arith, rules}
+use Rattle.std.proofs.Common.{arith, rules}
 use Rattle.ffi3_cdecl.specs.QuotedOf.{quoted_of}
 use Rattle.ffi3_cdecl.proofs.Attributes.{word_goes_on}
 use Rattle.ffi3_cdecl.proofs.attribute.are_silent.Goals as goal

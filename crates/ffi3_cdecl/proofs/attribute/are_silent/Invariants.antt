@@ -1,4 +1,4 @@
-use Rattle.std.proofs.Common.{length, drop, ◌-◌, ◌≡◌, ◌≤◌}
+use Rattle.std.proofs.Common.{length, ◌-◌, ◌≡◌, ◌≤◌}
 use Rattle.ffi3_cdecl_rules.specs.Tokens.{are_silent}
 use Rattle.ffi3_cdecl.specs.QuotedOf.{quoted_of}
 use Rattle.ffi3_cdecl.proofs.Attributes.{silent_from}

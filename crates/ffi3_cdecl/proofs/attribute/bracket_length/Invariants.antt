@@ -1,4 +1,4 @@
-use Rattle.std.proofs.Common.{length, drop, ◌-◌, ◌≡◌, ◌≤◌}
+use Rattle.std.proofs.Common.{length, ◌-◌, ◌≡◌, ◌≤◌}
 use Rattle.ffi3_cdecl_rules.specs.Tokens.{bracket_length, unquoted}
 use Rattle.ffi3_cdecl.specs.QuotedOf.{quoted_of}
 use Rattle.ffi3_cdecl.proofs.Attributes.{length_from}
