@@ -13,14 +13,18 @@
  *
  * Build with `pkg-config --cflags --libs ffi3`.
  *
- * DECLARATIONS. A text is the declaration of one function, with or without a semicolon: `int printf(const char *,
- * ...);`. Types are char with a sign, short, int, long and long long, __int128, float, double, pointers to anything,
- * structs that are written out where they are used, `struct { int8_t a[2][3]; }`, with arrays in them, and of the names
- * of <stdint.h> and <stddef.h> int8_t to int64_t, uint8_t to uint64_t, intptr_t, uintptr_t and size_t. No other name is
- * a type by itself: not ptrdiff_t, intmax_t, int_fast8_t or wchar_t. A long has 64 bits for each standard, also for
- * Microsoft's, where C's has 32: what is a long there is written int. There is no preprocessor, typedef, union, enum or
- * comment. Of a variadic function (`, ...`) the named arguments are placed. At most 64 arguments, 4,096 bytes a struct,
- * and structs and arrays 16 deep.
+ * DECLARATIONS. A text is the declaration of one function as a manual page has it, with or without a semicolon:
+ * `ssize_t read(int fd, void *buf, size_t count);`. Types are C's integers and floating-point types with their words in
+ * any order, _Bool and bool, float _Complex and double _Complex, __int128, the names of <stdint.h> and <stddef.h> that
+ * say a width, size_t, ssize_t, ptrdiff_t, intptr_t, intmax_t and those without a sign, pointers to anything, also to
+ * names that are not known, arrays and functions as parameters, and structs that are written out where they are used,
+ * `struct { int8_t a[2][3], *b; }`. A char without a sign has that of the target, and in a layout is signed. No other
+ * name, no enum and no union is a type by itself: not wchar_t or int_fast8_t. A long has 64 bits for each standard,
+ * also for Microsoft's, where C's has 32: what is a long there is written int. Qualifiers, storage classes, comments,
+ * and attributes that say nothing of where a value stands are passed over. There is no preprocessor and no typedef. Of
+ * a variadic function (`, ...`) the named arguments are placed, and behind them the types that stand behind the dots,
+ * `, ..., int, double`, which is no C: those that a call passes there. At most 64 arguments, 4,096 bytes a struct, and
+ * structs and arrays 16 deep.
  *
  * DUTIES OF A CALLER. Each pointer points to memory of its type that the caller may read, and, where it is not const,
  * write: to as many elements as the length or the capacity behind it says, else to one. Where that length or capacity

@@ -3,6 +3,7 @@
 #![tactic(auto)]
 
 ghost use Rattle.std.specs.Prelude.{◌≡◌, ◌⊎◌, None, length};
+ghost use Rattle.ffi3_capi.specs.Chars.{char_sign, layout_sign};
 ghost use Rattle.ffi3_capi.specs.Faults.{Declares, IsFaultOf};
 ghost use Rattle.ffi3_capi.specs.ByNodes.{AreNodesOf, IsFaultOfNodes};
 ghost use Rattle.ffi3_capi.specs.Placed.{Places};
@@ -38,7 +39,7 @@ pub extern "C" fn ffi3_place(
     call: &mut PlacedCall,
     pieces: &mut [PlacedPiece],
 ) -> u32
-    ensures { Places (Declares text.now) (IsFaultOf text.now) target pieces.old result call.new pieces.new }
+    ensures { Places (Declares (char_sign target) text.now) (IsFaultOf (char_sign target) text.now) target pieces.old result call.new pieces.new }
 {
     ffi3_capi::place(alloc, target, Declaration::Text(text), call, pieces)
 }
@@ -73,7 +74,7 @@ pub extern "C" fn ffi3_layout(
     layout: &mut LaidType,
     leaves: &mut [LaidLeaf],
 ) -> u32
-    ensures { LaysOut (Declares text.now) (IsFaultOf text.now) value leaves.old result layout.new leaves.new }
+    ensures { LaysOut (Declares layout_sign text.now) (IsFaultOf layout_sign text.now) value leaves.old result layout.new leaves.new }
 {
     ffi3_capi::layout(alloc, Declaration::Text(text), value, layout, leaves)
 }
@@ -130,7 +131,7 @@ pub extern "C" fn ffi3_arguments(
     found: &mut EntryArguments,
     values: &mut [u8],
 ) -> u32
-    ensures { Reads (Declares text.now) (IsFaultOf text.now) target (image_in registers.now stack.now) values.old result found.new values.new }
+    ensures { Reads (Declares (char_sign target) text.now) (IsFaultOf (char_sign target) text.now) target (image_in registers.now stack.now) values.old result found.new values.new }
 {
     ffi3_capi::arguments(
         alloc,
@@ -155,7 +156,7 @@ pub extern "C" fn ffi3_arguments_each(
     each: &mut [EachArgument],
     values: &mut [u8],
 ) -> u32
-    ensures { ReadsEach (Declares text.now) (IsFaultOf text.now) target (image_in registers.now stack.now) each.old values.old result found.new each.new values.new }
+    ensures { ReadsEach (Declares (char_sign target) text.now) (IsFaultOf (char_sign target) text.now) target (image_in registers.now stack.now) each.old values.old result found.new each.new values.new }
 {
     let declaration = Declaration::Text(text);
     ffi3_capi::tell_each(
@@ -209,7 +210,7 @@ pub extern "C" fn ffi3_result(
     found: &mut ReturnedResult,
     value: &mut [u8],
 ) -> u32
-    ensures { ReadsResult (Declares text.now) (IsFaultOf text.now) target (image_in registers.now stack.now) value.old result found.new value.new }
+    ensures { ReadsResult (Declares (char_sign target) text.now) (IsFaultOf (char_sign target) text.now) target (image_in registers.now stack.now) value.old result found.new value.new }
 {
     ffi3_capi::tell_result(
         alloc,

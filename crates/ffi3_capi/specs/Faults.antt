@@ -4,7 +4,8 @@ use Rattle.ffi3_type_rules.specs.Tree.{Tree, void, scalar, left_out, structure, 
 use Rattle.ffi3_type_rules.specs.Fault.{Fault, bad_typedef, left_out_type, too_large, too_deep}
 use Rattle.ffi3_type_rules.specs.Signature.{Signature, Position, at_result, at_argument, SignatureFault, too_many}
 use Rattle.ffi3_type_rules.specs.Signature.{bad_type, bad_fixed, bad_argument_type}
-use Rattle.ffi3_cdecl_rules.specs.Reading.{Outcome, reads, bad_token, unexpected, bad_number, bad_signature, IsReading}
+use Rattle.ffi3_cdecl_rules.specs.Reading.{Outcome, reads, bad_token, unexpected, bad_number, bad_signature, IsReadingIn}
+use Rattle.ffi3_cdecl_rules.specs.Tokens.{wide, Sign}
 use Rattle.ffi3_capi.specs.declared.codes.TheConstants.{RESULT_PART}
 use Rattle.ffi3_capi.specs.declared.fault.TextFault.{TextFault}
 use Rattle.ffi3_capi.specs.declared.fault.FaultKind.{FaultKind}
@@ -92,12 +93,13 @@ outcome_fault (unexpected at) = Some (fault_at Unexpected at)
 outcome_fault (bad_number at) = Some (fault_at BadNumber at)
 outcome_fault (bad_signature f) = Some (signature_fault f)
 
--- WHY BYTES DECLARE NO FUNCTION: they are no UTF-8, or they are read as a fault
-pub data IsFaultOf (text : List ℕ) : TextFault → Type 0 where
-  not_text : (¬ IsUtf8 text) → IsFaultOf text (fault_with NotUtf8)
-  misread : (o : Outcome) (f : TextFault) → IsUtf8 text → IsReading text o → outcome_fault o ≡ Some f → IsFaultOf text f
+-- WHY BYTES DECLARE NO FUNCTION, where a `char` is signed or not: they are no UTF-8, or the wide reading reads them as a fault
+pub data IsFaultOf (c : Sign) (text : List ℕ) : TextFault → Type 0 where
+  not_text : (¬ IsUtf8 text) → IsFaultOf c text (fault_with NotUtf8)
+  misread : (o : Outcome) (f : TextFault) → IsUtf8 text → IsReadingIn wide c text o → outcome_fault o ≡ Some f
+      → IsFaultOf c text f
 
--- WHAT BYTES DECLARE: a function of some name and of this signature
-abbrev pub Declares : List ℕ → Signature → Type 0
-Declares text s =
-    (called : List ℕ) × IsReading text (reads (record { called = called; signature = s }))
+-- WHAT BYTES DECLARE, in the wide reading, where a `char` is signed or not: a function of some name and of this signature
+abbrev pub Declares : Sign → List ℕ → Signature → Type 0
+Declares c text s =
+    (called : List ℕ) × IsReadingIn wide c text (reads (record { called = called; signature = s }))

@@ -15,3 +15,4 @@ pub mod Refused
 pub mod Entry
 pub mod Returned
 pub mod Each
+pub mod Chars

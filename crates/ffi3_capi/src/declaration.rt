@@ -2,13 +2,17 @@
 ghost use Rattle.std.specs.Prelude.{◌≡◌, IfOk, IfErr, Some};
 ghost use Rattle.ffi3_type_rules.specs.Signature.{SignatureHasNoFault};
 ghost use Rattle.ffi3_capi.specs.declared.fault.TextFault.{TextFault};
+ghost use Rattle.ffi3_cdecl.specs.TokenOf.{sign_of};
+ghost use Rattle.ffi3_capi.specs.Chars.{char_sign};
 ghost use Rattle.ffi3_capi.specs.DeclaredBy.{IsDeclaredBy, IsFaultBy};
 
 use crate::fault::TextFault;
 use crate::nodes::declared_by_nodes;
+use crate::placing::target_numbered;
 use crate::reading::declared_by_text;
+use ffi3_cdecl::Sign;
 use ffi3_nodes::Node;
-use ffi3_types::Sig;
+use ffi3_types::{Sig, Target};
 use std::alloc::Global;
 
 /// What a caller declares a function by.
@@ -20,14 +24,46 @@ pub enum Declaration<'a> {
     Nodes(&'a [Node], u32),
 }
 
-/// The signature of the function that is declared; otherwise the fault, or None for a want of memory.
-pub fn declared(alloc: Global, declaration: Declaration<'_>) -> Result<Sig, Option<TextFault>>
-    ensures ok { IfOk result (λ s. IsDeclaredBy declaration.entry s) }
+/// The signature of the function that is declared, where a `char` without a sign has this one; otherwise the fault, or
+/// None for a want of memory.
+pub fn declared(
+    alloc: Global,
+    sign: Sign,
+    declaration: Declaration<'_>,
+) -> Result<Sig, Option<TextFault>>
+    ensures ok { IfOk result (λ s. IsDeclaredBy (sign_of sign) declaration.entry s) }
     ensures faultless { IfOk result (λ s. SignatureHasNoFault s) }
-    ensures err { IfErr result (λ e. (f : TextFault) → e ≡ Some f → IsFaultBy declaration.entry f) }
+    ensures err { IfErr result (λ e. (f : TextFault) → e ≡ Some f → IsFaultBy (sign_of sign) declaration.entry f) }
 {
     match declaration {
-        Declaration::Text(text) => declared_by_text(alloc, text),
+        Declaration::Text(text) => declared_by_text(alloc, sign, text),
         Declaration::Nodes(nodes, fixed) => declared_by_nodes(alloc, nodes, fixed),
     }
+}
+
+/// The sign of a `char` on the target of this number, where no word says one.
+fn char_sign(target: u32) -> Sign
+    ensures { sign_of result ≡ char_sign target }
+{
+    match target_numbered(target) {
+        Some(Target::Amd64) => Sign::Signed,
+        Some(Target::Aapcs64) => Sign::Unsigned,
+        Some(Target::Riscv) => Sign::Unsigned,
+        Some(Target::Win64) => Sign::Signed,
+        Some(Target::Apple) => Sign::Signed,
+        None => Sign::Signed,
+    }
+}
+
+/// What is declared for a call on this target.
+pub fn declared_on(
+    alloc: Global,
+    target: u32,
+    declaration: Declaration<'_>,
+) -> Result<Sig, Option<TextFault>>
+    ensures ok { IfOk result (λ s. IsDeclaredBy (char_sign target) declaration.entry s) }
+    ensures faultless { IfOk result (λ s. SignatureHasNoFault s) }
+    ensures err { IfErr result (λ e. (f : TextFault) → e ≡ Some f → IsFaultBy (char_sign target) declaration.entry f) }
+{
+    declared(alloc, char_sign(target), declaration)
 }

@@ -8,13 +8,14 @@ ghost use Rattle.ffi3_explain.specs.Places.{ArgumentIsThere};
 ghost use Rattle.ffi3_explain_rules.specs.Arguments.{least_stack, outside_of, value_by_standard};
 ghost use Rattle.ffi3_explain_rules.specs.Standards.{standard_of};
 ghost use Rattle.ffi3_transfer.specs.Stored.{image_in};
+ghost use Rattle.ffi3_capi.specs.Chars.{char_sign};
 ghost use Rattle.ffi3_capi.specs.DeclaredBy.{IsDeclaredBy, IsFaultBy};
 ghost use Rattle.ffi3_capi.specs.Entry.{HasOneMore};
 ghost use Rattle.ffi3_capi.specs.Each.{AreSeen, AreSeenBy, AreUnseen, AreUnseenBy, AreSeenOf, IsSeen, ReadsEach, each_argument};
 
 use crate::bytes::push_value;
 use crate::codes::{DONE, NOT_IN_STACK};
-use crate::declaration::{Declaration, declared};
+use crate::declaration::{Declaration, declared_on};
 use crate::entry::{EntryArguments, Unread, told};
 use crate::fault::{FaultKind, fault_with};
 use crate::fill::{fill, fill_bytes, room_status_of_both};
@@ -243,13 +244,13 @@ pub fn see(
     registers: &Registers,
     stack: &[u8],
 ) -> Result<Seen, Unread>
-    ensures seen { IfOk result (λ f. AreSeenOf (IsDeclaredBy declaration.entry) target (image_in registers.now stack.now) f) }
-    ensures unseen { IfErr result (λ u. AreUnseen (IsDeclaredBy declaration.entry) (IsFaultBy declaration.entry) target (image_in registers.now stack.now) u) }
+    ensures seen { IfOk result (λ f. AreSeenOf (IsDeclaredBy (char_sign target) declaration.entry) target (image_in registers.now stack.now) f) }
+    ensures unseen { IfErr result (λ u. AreUnseen (IsDeclaredBy (char_sign target) declaration.entry) (IsFaultBy (char_sign target) declaration.entry) target (image_in registers.now stack.now) u) }
 {
     let Some(to) = target_numbered(target) else {
         return Err(Unread::Call(Refusal::NoSuchTarget));
     };
-    let sig = match declared(alloc, declaration) {
+    let sig = match declared_on(alloc, target, declaration) {
         Ok(sig) => sig,
         Err(Some(fault)) => return Err(Unread::Call(Refusal::Fault(fault))),
         Err(None) => return Err(Unread::Call(Refusal::NoMemory)),
@@ -271,7 +272,7 @@ pub fn tell_each(
     each: &mut [EachArgument],
     values: &mut [u8],
 ) -> u32
-    ensures { ReadsEach (IsDeclaredBy declaration.entry) (IsFaultBy declaration.entry) target (image_in registers.now stack.now) each.old values.old result told.new each.new values.new }
+    ensures { ReadsEach (IsDeclaredBy (char_sign target) declaration.entry) (IsFaultBy (char_sign target) declaration.entry) target (image_in registers.now stack.now) each.old values.old result told.new each.new values.new }
 {
     match see(alloc, target, declaration, registers, stack) {
         Ok(seen) => {

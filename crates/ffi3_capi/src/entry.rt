@@ -3,11 +3,12 @@ ghost use Rattle.std.specs.Prelude.{◌≡◌, IfOk, IfErr};
 ghost use Rattle.ffi3_type_rules.specs.Signature.{SignatureHasNoFault};
 ghost use Rattle.ffi3_explain_rules.specs.Standards.{standard_of};
 ghost use Rattle.ffi3_transfer.specs.Stored.{image_in};
+ghost use Rattle.ffi3_capi.specs.Chars.{char_sign};
 ghost use Rattle.ffi3_capi.specs.DeclaredBy.{IsDeclaredBy, IsFaultBy};
 ghost use Rattle.ffi3_capi.specs.Entry.{AreFoundBy, AreNotReadBy, AreFound, AreNotRead, Reads, arguments_of, no_arguments, unread_status};
 
 use crate::codes::{NOT_IN_STACK, SHORT_STACK};
-use crate::declaration::{Declaration, declared};
+use crate::declaration::{Declaration, declared_on};
 use crate::each::see_arguments;
 use crate::fault::{FaultKind, TextFault, fault_with};
 use crate::fill::{fill_bytes, room_status};
@@ -198,13 +199,13 @@ pub fn find_arguments(
     registers: &Registers,
     stack: &[u8],
 ) -> Result<Found, Unread>
-    ensures found { IfOk result (λ f. AreFound (IsDeclaredBy declaration.entry) target (image_in registers.now stack.now) f) }
-    ensures unread { IfErr result (λ u. AreNotRead (IsDeclaredBy declaration.entry) (IsFaultBy declaration.entry) target (image_in registers.now stack.now) u) }
+    ensures found { IfOk result (λ f. AreFound (IsDeclaredBy (char_sign target) declaration.entry) target (image_in registers.now stack.now) f) }
+    ensures unread { IfErr result (λ u. AreNotRead (IsDeclaredBy (char_sign target) declaration.entry) (IsFaultBy (char_sign target) declaration.entry) target (image_in registers.now stack.now) u) }
 {
     let Some(to) = target_numbered(target) else {
         return Err(Unread::Call(Refusal::NoSuchTarget));
     };
-    let sig = match declared(alloc, declaration) {
+    let sig = match declared_on(alloc, target, declaration) {
         Ok(sig) => sig,
         Err(Some(fault)) => return Err(Unread::Call(Refusal::Fault(fault))),
         Err(None) => return Err(Unread::Call(Refusal::NoMemory)),
@@ -226,7 +227,7 @@ pub fn arguments(
     told: &mut EntryArguments,
     values: &mut [u8],
 ) -> u32
-    ensures { Reads (IsDeclaredBy declaration.entry) (IsFaultBy declaration.entry) target (image_in registers.now stack.now) values.old result told.new values.new }
+    ensures { Reads (IsDeclaredBy (char_sign target) declaration.entry) (IsFaultBy (char_sign target) declaration.entry) target (image_in registers.now stack.now) values.old result told.new values.new }
 {
     match find_arguments(alloc, target, declaration, registers, stack) {
         Ok(found) => {

@@ -3,6 +3,7 @@ ghost use Rattle.std.specs.Prelude.{◌≡◌, IfOk, IfErr};
 ghost use Rattle.ffi3_type_rules.specs.Tree.{Scalar, scalar, scalar_number};
 ghost use Rattle.ffi3_type_rules.specs.Layout.{scalar_size};
 ghost use Rattle.ffi3_types.specs.TreeOf.{tree_of};
+ghost use Rattle.ffi3_capi.specs.Chars.{layout_sign};
 ghost use Rattle.ffi3_capi.specs.DeclaredBy.{IsDeclaredBy, IsFaultBy};
 ghost use Rattle.ffi3_capi.specs.Laid.{laid_leaf, laid_leaves, laid_of, no_type, IsLaid, IsLayoutRefusal, LaysOut};
 
@@ -11,6 +12,7 @@ use crate::declaration::{Declaration, declared};
 use crate::fault::{FaultKind, TextFault, fault_with};
 use crate::fill::{fill, room_status};
 use crate::status::Refusal;
+use ffi3_cdecl::Sign;
 use ffi3_place_rules::Listed;
 use ffi3_types::{CheckedSig, CheckedType, FfiType, Leaf, NoMemory};
 use std::alloc::Global;
@@ -141,10 +143,10 @@ fn laid_type(alloc: Global, count: usize, ty: &CheckedType<'_>) -> Result<Laid, 
 
 /// The layout of an argument, or of the result, of the function that is declared.
 pub fn find_layout(alloc: Global, declaration: Declaration<'_>, value: u32) -> Result<Laid, Refusal>
-    ensures ok { IfOk result (λ l. IsLaid (IsDeclaredBy declaration.entry) value l) }
-    ensures err { IfErr result (λ r. IsLayoutRefusal (IsDeclaredBy declaration.entry) (IsFaultBy declaration.entry) value r) }
+    ensures ok { IfOk result (λ l. IsLaid (IsDeclaredBy layout_sign declaration.entry) value l) }
+    ensures err { IfErr result (λ r. IsLayoutRefusal (IsDeclaredBy layout_sign declaration.entry) (IsFaultBy layout_sign declaration.entry) value r) }
 {
-    let sig = match declared(alloc, declaration) {
+    let sig = match declared(alloc, Sign::Signed, declaration) {
         Ok(sig) => sig,
         Err(Some(fault)) => return Err(Refusal::Fault(fault)),
         Err(None) => return Err(Refusal::NoMemory),
@@ -168,7 +170,7 @@ pub fn layout(
     layout: &mut LaidType,
     leaves: &mut [LaidLeaf],
 ) -> u32
-    ensures { LaysOut (IsDeclaredBy declaration.entry) (IsFaultBy declaration.entry) value leaves.old result layout.new leaves.new }
+    ensures { LaysOut (IsDeclaredBy layout_sign declaration.entry) (IsFaultBy layout_sign declaration.entry) value leaves.old result layout.new leaves.new }
 {
     match find_layout(alloc, declaration, value) {
         Ok(found) => {

@@ -1,10 +1,11 @@
 // A call of the function that is declared.
 ghost use Rattle.std.specs.Prelude.{◌≡◌, IfOk, IfErr, slice_get};
 ghost use Rattle.ffi3_explain_rules.specs.Standards.{standard_of};
+ghost use Rattle.ffi3_capi.specs.Chars.{char_sign};
 ghost use Rattle.ffi3_capi.specs.DeclaredBy.{IsDeclaredBy, IsFaultBy};
 ghost use Rattle.ffi3_capi.specs.Placed.{targets, no_call, placement_of, IsPlacement, IsPlaceRefusal, Places};
 
-use crate::declaration::{Declaration, declared};
+use crate::declaration::{Declaration, declared_on};
 use crate::fault::{FaultKind, TextFault, fault_with};
 use crate::fill::{fill, room_status};
 use crate::pieces::{PlacedPiece, PlacedPieces, put_arguments, put_hidden, put_returned};
@@ -119,13 +120,13 @@ pub fn find_placement(
     target: u32,
     declaration: Declaration<'_>,
 ) -> Result<Placement, Refusal>
-    ensures ok { IfOk result (λ p. IsPlacement (IsDeclaredBy declaration.entry) target p) }
-    ensures err { IfErr result (λ r. IsPlaceRefusal (IsFaultBy declaration.entry) target r) }
+    ensures ok { IfOk result (λ p. IsPlacement (IsDeclaredBy (char_sign target) declaration.entry) target p) }
+    ensures err { IfErr result (λ r. IsPlaceRefusal (IsFaultBy (char_sign target) declaration.entry) target r) }
 {
     let Some(to) = target_numbered(target) else {
         return Err(Refusal::NoSuchTarget);
     };
-    let sig = match declared(alloc, declaration) {
+    let sig = match declared_on(alloc, target, declaration) {
         Ok(sig) => sig,
         Err(Some(fault)) => return Err(Refusal::Fault(fault)),
         Err(None) => return Err(Refusal::NoMemory),
@@ -144,7 +145,7 @@ pub fn place(
     call: &mut PlacedCall,
     pieces: &mut [PlacedPiece],
 ) -> u32
-    ensures { Places (IsDeclaredBy declaration.entry) (IsFaultBy declaration.entry) target pieces.old result call.new pieces.new }
+    ensures { Places (IsDeclaredBy (char_sign target) declaration.entry) (IsFaultBy (char_sign target) declaration.entry) target pieces.old result call.new pieces.new }
 {
     match find_placement(alloc, target, declaration) {
         Ok(found) => {

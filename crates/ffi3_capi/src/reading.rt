@@ -1,34 +1,40 @@
-// What a text declares.
+// What a text declares, as people write it.
 ghost use Rattle.std.specs.Prelude.{◌≡◌, IfOk, IfErr, Some, IsUtf8};
 ghost use Rattle.ffi3_type_rules.specs.Signature.{SignatureHasNoFault};
+ghost use Rattle.ffi3_cdecl.specs.TokenOf.{sign_of};
 ghost use Rattle.ffi3_capi.specs.declared.fault.TextFault.{TextFault};
 ghost use Rattle.ffi3_capi.specs.Faults.{Declares, IsFaultOf};
 
 use crate::fault::{FaultKind, TextFault, fault_with, told};
-use ffi3_cdecl::read_decl;
+use ffi3_cdecl::{Sign, read_wide_decl};
 use ffi3_types::Sig;
 use std::alloc::Global;
 
-/// The signature of the function that the text declares; otherwise the fault, or None for a want of memory.
-fn read(alloc: Global, text: &str) -> Result<Sig, Option<TextFault>>
-    ensures ok { IfOk result (λ s. Declares text.now s) }
+/// The signature of the function that the text declares, where a `char` without a sign has this one; otherwise the
+/// fault, or None for a want of memory.
+fn read(alloc: Global, sign: Sign, text: &str) -> Result<Sig, Option<TextFault>>
+    ensures ok { IfOk result (λ s. Declares (sign_of sign) text.now s) }
     ensures faultless { IfOk result (λ s. SignatureHasNoFault s) }
-    ensures err { IfErr result (λ e. (f : TextFault) → e ≡ Some f → IsUtf8 text.now → IsFaultOf text.now f) }
+    ensures err { IfErr result (λ e. (f : TextFault) → e ≡ Some f → IsUtf8 text.now → IsFaultOf (sign_of sign) text.now f) }
 {
-    match read_decl(alloc, text) {
+    match read_wide_decl(alloc, sign, text) {
         Ok(declaration) => Ok(declaration.into_sig()),
         Err(fault) => Err(told(&fault)),
     }
 }
 
 /// The same of bytes that may be no text.
-pub(crate) fn declared_by_text(alloc: Global, bytes: &[u8]) -> Result<Sig, Option<TextFault>>
-    ensures ok { IfOk result (λ s. Declares bytes.now s) }
+pub(crate) fn declared_by_text(
+    alloc: Global,
+    sign: Sign,
+    bytes: &[u8],
+) -> Result<Sig, Option<TextFault>>
+    ensures ok { IfOk result (λ s. Declares (sign_of sign) bytes.now s) }
     ensures faultless { IfOk result (λ s. SignatureHasNoFault s) }
-    ensures err { IfErr result (λ e. (f : TextFault) → e ≡ Some f → IsFaultOf bytes.now f) }
+    ensures err { IfErr result (λ e. (f : TextFault) → e ≡ Some f → IsFaultOf (sign_of sign) bytes.now f) }
 {
     match str::from_utf8(bytes) {
-        Ok(text) => read(alloc, text),
+        Ok(text) => read(alloc, sign, text),
         Err(_) => Err(Some(fault_with(FaultKind::NotUtf8))),
     }
 }

@@ -10,11 +10,12 @@ ghost use Rattle.ffi3_explain_rules.specs.Explain.{first_bytes};
 ghost use Rattle.ffi3_explain_rules.specs.Standards.{standard_of};
 ghost use Rattle.ffi3_explain.specs.Places.{CanBeRead, HasPlace};
 ghost use Rattle.ffi3_transfer.specs.Stored.{image_in};
+ghost use Rattle.ffi3_capi.specs.Chars.{char_sign};
 ghost use Rattle.ffi3_capi.specs.DeclaredBy.{IsDeclaredBy, IsFaultBy};
 ghost use Rattle.ffi3_capi.specs.Returned.{IsFound, IsFoundBy, IsNotFound, IsNotFoundBy, IsUnfound, ReadsResult, are_bytes, no_result, result_behind, result_of, returned_by_standard, unfound_status};
 
 use crate::codes::{NO_ADDRESS, NOT_IN_STACK};
-use crate::declaration::{Declaration, declared};
+use crate::declaration::{Declaration, declared_on};
 use crate::fault::{FaultKind, TextFault, fault_with};
 use crate::fill::{fill_bytes, room_status};
 use crate::placing::target_numbered;
@@ -226,13 +227,13 @@ pub fn find_result(
     registers: &Registers,
     stack: &[u8],
 ) -> Result<FoundResult, Unfound>
-    ensures found { IfOk result (λ f. IsFound (IsDeclaredBy declaration.entry) target (image_in registers.now stack.now) f) }
-    ensures unfound { IfErr result (λ u. IsNotFound (IsDeclaredBy declaration.entry) (IsFaultBy declaration.entry) target (image_in registers.now stack.now) u) }
+    ensures found { IfOk result (λ f. IsFound (IsDeclaredBy (char_sign target) declaration.entry) target (image_in registers.now stack.now) f) }
+    ensures unfound { IfErr result (λ u. IsNotFound (IsDeclaredBy (char_sign target) declaration.entry) (IsFaultBy (char_sign target) declaration.entry) target (image_in registers.now stack.now) u) }
 {
     let Some(to) = target_numbered(target) else {
         return Err(Unfound::Call(Refusal::NoSuchTarget));
     };
-    let sig = match declared(alloc, declaration) {
+    let sig = match declared_on(alloc, target, declaration) {
         Ok(sig) => sig,
         Err(Some(fault)) => return Err(Unfound::Call(Refusal::Fault(fault))),
         Err(None) => return Err(Unfound::Call(Refusal::NoMemory)),
@@ -254,7 +255,7 @@ pub fn tell_result(
     told: &mut ReturnedResult,
     value: &mut [u8],
 ) -> u32
-    ensures { ReadsResult (IsDeclaredBy declaration.entry) (IsFaultBy declaration.entry) target (image_in registers.now stack.now) value.old result told.new value.new }
+    ensures { ReadsResult (IsDeclaredBy (char_sign target) declaration.entry) (IsFaultBy (char_sign target) declaration.entry) target (image_in registers.now stack.now) value.old result told.new value.new }
 {
     match find_result(alloc, target, declaration, registers, stack) {
         Ok(found) => {

@@ -3,3 +3,12 @@ pub mod Lists
 pub mod Turns
 pub mod Judging
 pub mod Writing
+pub mod Rounds
+pub mod Saying
+pub mod Named
+pub mod Settling
+pub mod Unnamed
+pub mod Lives
+pub mod Comments
+pub mod Following
+pub mod Attributes

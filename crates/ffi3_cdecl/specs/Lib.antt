@@ -1,6 +1,9 @@
 pub mod TokenOf
 pub mod Digits
+pub mod RoundOf
+pub mod SaidOf
 pub mod StateOf
 pub mod PassOf
 pub mod Tells
 pub mod Going
+pub mod QuotedOf

@@ -2,6 +2,8 @@
 use Rattle.std.specs.Prelude.{Option, Some, None}
 use Rattle.ffi3_cdecl_rules.specs.Tokens as cut
 use Rattle.ffi3_type_rules.specs.Tree as types
+use Rattle.ffi3_cdecl.specs.declared.token.Dialect.{Dialect}
+use Rattle.ffi3_cdecl.specs.declared.token.Dialect.TheVariants.{Plain, Wide}
 use Rattle.ffi3_cdecl.specs.declared.token.TypeWord.{TypeWord}
 use Rattle.ffi3_cdecl.specs.declared.token.TypeWord.TheVariants as w
 use Rattle.ffi3_cdecl.specs.declared.token.Sign.{Sign}
@@ -10,6 +12,10 @@ use Rattle.ffi3_cdecl.specs.declared.token.Token.{Token}
 use Rattle.ffi3_cdecl.specs.declared.token.Token.TheVariants as t
 use Rattle.ffi3_cdecl.specs.declared.token.Found.{Found}
 use Rattle.ffi3_cdecl.specs.declared.token.Found.TheVariants as f
+
+abbrev pub dialect_of : Dialect → cut.Dialect
+dialect_of Plain = cut.plain
+dialect_of Wide = cut.wide
 
 abbrev pub scalar_of : TypeWord → types.Scalar
 scalar_of w.U8 = types.u8
@@ -35,9 +41,14 @@ token_of t.Short = cut.short_word
 token_of t.Int = cut.int_word
 token_of t.Long = cut.long_word
 token_of t.Int128 = cut.int128_word
-token_of t.Char = cut.char_word
+token_of (t.Char c) = cut.char_word (sign_of c)
 token_of t.Void = cut.void_word
 token_of t.Struct = cut.struct_word
+token_of t.Union = cut.union_word
+token_of t.Enum = cut.enum_word
+token_of t.Complex = cut.complex_word
+token_of t.Attribute = cut.attribute_word
+token_of t.Keyword = cut.other_keyword
 token_of (t.Name bytes) = cut.name bytes.now
 token_of (t.Number n) = cut.number n
 token_of t.OpenRound = cut.open_round
@@ -58,5 +69,6 @@ mark_of None = cut.nothing_known
 
 abbrev pub found_of : Found → cut.Found
 found_of f.Blank = cut.blank
+found_of (f.Skipped more) = cut.skipped more
 found_of f.Nothing = cut.nothing_known
 found_of (f.Token x more) = cut.found (token_of x) more

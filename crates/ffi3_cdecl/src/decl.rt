@@ -1,23 +1,30 @@
 // A declaration read in one pass over its bytes.
 ghost use Rattle.std.specs.Prelude.{◌≡◌, IfOk, IfErr, length};
-ghost use Rattle.ffi3_cdecl_rules.specs.Machine.{read};
-ghost use Rattle.ffi3_cdecl_rules.specs.Reading.{IsReading, reads};
+ghost use Rattle.ffi3_cdecl_rules.specs.Machine.{read, read_in};
+ghost use Rattle.ffi3_cdecl_rules.specs.Tokens.{wide};
+ghost use Rattle.ffi3_cdecl_rules.specs.Reading.{IsReading, IsReadingIn, reads};
 ghost use Rattle.ffi3_cdecl_rules.specs.OnePass.{pass_from, new_pass};
 ghost use Rattle.ffi3_cdecl.specs.PassOf.{pass_of, outcome_of, outcome_behind};
 ghost use Rattle.ffi3_cdecl.specs.Tells.{Tells};
+ghost use Rattle.ffi3_cdecl.specs.TokenOf.{dialect_of, sign_of};
 
 use crate::declaration::Declaration;
 use crate::fault::DeclFault;
 use crate::read::{Outcome, Pass, outcome_at, taking};
-use crate::token::{Found, found_at};
+use crate::token::{Dialect, Found, Sign, found_in};
 use ffi3_types::NoMemory;
 use std::alloc::Global;
 
 /// One pass over the bytes, and where it stopped: at the first of them at which no token begins, or nowhere.
 #[tactic(auto, using(crate::proofs::Turns::turn_inside, crate::proofs::Turns::turn_blank, crate::proofs::Turns::turn_nothing, crate::proofs::Turns::turn_token, crate::proofs::Turns::pass_end))]
-fn run_over(alloc: Global, bytes: &[u8]) -> Result<(Pass, Option<usize>), NoMemory>
-    ensures { IfOk result (λ r. outcome_behind r.1 (length bytes.now) (pass_of r.0)
-        ≡ pass_from 0 0 new_pass bytes.now) }
+fn run_over(
+    alloc: Global,
+    r: Dialect,
+    c: Sign,
+    bytes: &[u8],
+) -> Result<(Pass, Option<usize>), NoMemory>
+    ensures { IfOk result (λ o. outcome_behind o.1 (length bytes.now) (pass_of o.0)
+        ≡ pass_from (dialect_of r) (sign_of c) 0 0 new_pass bytes.now) }
 {
     let mut pass = Pass::new();
     let mut inside = 0;
@@ -25,11 +32,12 @@ fn run_over(alloc: Global, bytes: &[u8]) -> Result<(Pass, Option<usize>), NoMemo
         if inside > 0 {
             inside -= 1;
         } else {
-            match found_at(bytes, at) {
+            match found_in(r, c, bytes, at) {
                 Found::Blank => {}
+                Found::Skipped(more) => inside = more,
                 Found::Nothing => return Ok((pass, Some(at))),
                 Found::Token(token, more) => {
-                    pass = taking(alloc, pass, at, token)?;
+                    pass = taking(alloc, r, pass, at, token)?;
                     inside = more;
                 }
             }
@@ -40,11 +48,11 @@ fn run_over(alloc: Global, bytes: &[u8]) -> Result<(Pass, Option<usize>), NoMemo
 
 /// What the text is read as.
 #[tactic(auto, using(crate::proofs::Turns::computed))]
-fn outcome(alloc: Global, text: &str) -> Result<Outcome, NoMemory>
-    ensures { IfOk result (λ o. outcome_of o ≡ read text.now) }
+fn outcome(alloc: Global, r: Dialect, c: Sign, text: &str) -> Result<Outcome, NoMemory>
+    ensures { IfOk result (λ o. outcome_of o ≡ read_in (dialect_of r) (sign_of c) text.now) }
 {
     let bytes = text.as_bytes();
-    let (pass, stop) = run_over(alloc, bytes)?;
+    let (pass, stop) = run_over(alloc, r, c, bytes)?;
     Ok(outcome_at(pass, stop, bytes.len()))
 }
 
@@ -57,7 +65,26 @@ pub fn read_decl(alloc: Global, text: &str) -> Result<Declaration, DeclFault>
     ensures computed { IfOk result (λ d. reads d ≡ read text.now) }
     ensures refused { IfErr result (λ e. Tells (λ o. o ≡ read text.now) e) }
 {
-    match outcome(alloc, text)? {
+    match outcome(alloc, Dialect::Plain, Sign::Signed, text)? {
+        Outcome::Reads(d) => Ok(d),
+        Outcome::BadToken(at) => Err(DeclFault::BadToken { at: at as u64 }),
+        Outcome::Unexpected(at) => Err(DeclFault::Unexpected { at: at as u64 }),
+        Outcome::BadNumber(at) => Err(DeclFault::BadNumber { at: at as u64 }),
+        Outcome::BadSignature(fault) => Err(DeclFault::Sig(fault)),
+    }
+}
+
+/// Reads a declaration of a function as people write it: the wide reading, with the words, declarators and comments of
+/// C11 6.4, 6.7.6 and 6.7.2.1, and the types of header files by their names; where no word says a sign, a `char` has
+/// this one.
+#[tactic(auto, using(crate::proofs::Turns::is_wide_reading))]
+pub fn read_wide_decl(alloc: Global, char_sign: Sign, text: &str) -> Result<Declaration, DeclFault>
+    ensures ok { IfOk result (λ d. IsReadingIn wide (sign_of char_sign) text.now (reads d)) }
+    ensures err { IfErr result (λ e. Tells (IsReadingIn wide (sign_of char_sign) text.now) e) }
+    ensures computed { IfOk result (λ d. reads d ≡ read_in wide (sign_of char_sign) text.now) }
+    ensures refused { IfErr result (λ e. Tells (λ o. o ≡ read_in wide (sign_of char_sign) text.now) e) }
+{
+    match outcome(alloc, Dialect::Wide, char_sign, text)? {
         Outcome::Reads(d) => Ok(d),
         Outcome::BadToken(at) => Err(DeclFault::BadToken { at: at as u64 }),
         Outcome::Unexpected(at) => Err(DeclFault::Unexpected { at: at as u64 }),

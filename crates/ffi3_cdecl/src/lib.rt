@@ -1,20 +1,30 @@
 //! Reads a C declaration of a function, and writes one.
 #![tactic(auto)]
 
+mod attribute;
 mod bytes;
 mod decl;
 mod declaration;
+mod declarator;
 mod fault;
+mod followed;
+mod integers;
+mod members;
 mod place;
 mod read;
+mod round;
+mod said;
+mod settled;
 mod state;
 mod step;
 mod text;
 mod token;
+mod words;
 
-pub use decl::read_decl;
+pub use decl::{read_decl, read_wide_decl};
 pub use declaration::Declaration;
 pub use fault::DeclFault;
 /// A want of memory: the one answer that no clause ties to a cause.
 pub use ffi3_types::NoMemory;
 pub use text::decl_text;
+pub use token::Sign;

@@ -1,5 +1,5 @@
 // Types and counts that come one by one.
-ghost use Rattle.std.specs.Prelude.{◌≡◌, ◌∷◌, [], OnOk, IfOk, reverse};
+ghost use Rattle.std.specs.Prelude.{◌≡◌, ◌∷◌, [], OnOk, IfOk, reverse, length};
 ghost use Rattle.ffi3_type_rules.specs.Tree.{array_of};
 ghost use Rattle.ffi3_types.specs.TreeOf.{tree_of};
 ghost use Rattle.ffi3_cdecl_rules.specs.Machine.{arrays, onto};
@@ -58,6 +58,14 @@ impl Gathered {
             return Err(AllocError);
         }
         self.types.push(item)
+    }
+
+    /// How many there are.
+    #[tactic(auto, using(crate::proofs::Lists::length_reverse))]
+    pub fn len(&self) -> u32
+        ensures { result ≡ length self.now }
+    {
+        self.types.len() as u32
     }
 
     /// All of them, in their order.

@@ -1,51 +1,92 @@
 // The machine on its way over the tokens, and what it comes to.
 ghost use Rattle.std.specs.Prelude.{◌≡◌, IfOk};
-ghost use Rattle.ffi3_cdecl_rules.specs.Machine.{finish, is_dead, judged};
+ghost use Rattle.ffi3_cdecl_rules.specs.Machine.{finish, is_dead, judged, closing, settled};
 ghost use Rattle.ffi3_cdecl_rules.specs.Reading.{is_too_great};
 ghost use Rattle.ffi3_cdecl_rules.specs.OnePass.{keeping, kept, taking, new_pass};
-ghost use Rattle.ffi3_cdecl.specs.TokenOf.{token_of};
-ghost use Rattle.ffi3_cdecl.specs.StateOf.{state_of};
+ghost use Rattle.ffi3_cdecl.specs.TokenOf.{dialect_of, token_of};
+ghost use Rattle.ffi3_cdecl.specs.RoundOf.{round_of};
+ghost use Rattle.ffi3_cdecl.specs.StateOf.{settled_of, state_of, wide_of};
 ghost use Rattle.ffi3_cdecl.specs.PassOf.{pass_of, outcome_of, outcome_behind};
 
 use crate::declaration::Declaration;
-use crate::state::{State, Where, step_base, step_type};
+use crate::declarator::{
+    step_declarator, step_function_named, step_inner_nothing, step_itself, step_round_closing,
+    step_round_opened,
+};
+use crate::members::{step_member_at, step_member_bound, step_member_bounded};
+use crate::round::Round;
+use crate::settled::{
+    step_filled, step_list_comma, step_list_dots, step_list_opened, step_list_void, step_settled,
+    step_square,
+};
+use crate::state::{Settled, State, Where, Wide, step_base, step_type};
 use crate::step::{
     step_after_member, step_closed, step_closing, step_comma, step_count, step_counted, step_dots,
     step_long, step_long_long, step_member, step_named, step_opened, step_short, step_sign,
     step_sole_void, step_star, step_struct, step_typed,
 };
-use crate::token::Token;
+use crate::token::{Dialect, Token};
+use crate::words::{step_struct_tag, step_tag, step_wide_dots, step_words};
 use ffi3_types::{NoMemory, SigFault, check_sig};
 use std::alloc::Global;
 use std::mem;
 
-/// One token further.
-fn step(alloc: Global, state: State, token: Token<'_>) -> Result<State, NoMemory>
-    ensures { IfOk result (λ s. state_of s ≡ keeping (state_of state) (token_of token.entry)) }
+/// One token further in a state of the wide reading.
+fn step_wide(alloc: Global, r: Dialect, state: Wide, token: Token<'_>) -> Result<State, NoMemory>
+    ensures { IfOk result (λ s. state_of s ≡ keeping (dialect_of r) (wide_of state) (token_of token.entry)) }
 {
     match state {
-        State::WantsType(w) => Ok(step_type(w, token)),
-        State::WantsBase(w) => Ok(step_base(w, token)),
-        State::AfterSign(g, w) => step_sign(alloc, g, w, token),
-        State::AfterShort(g, w) => step_short(alloc, g, w, token),
-        State::AfterLong(g, w) => step_long(alloc, g, w, token),
-        State::AfterLongLong(g, w) => step_long_long(alloc, g, w, token),
-        State::AfterStruct(w) => step_struct(alloc, w, token),
+        Wide::AfterWords(said, w) => step_words(alloc, said, w, token),
+        Wide::AfterStructTag(w) => step_struct_tag(alloc, w, token),
+        Wide::WantsTag(w) => Ok(step_tag(w, token)),
+        Wide::Declarator(k, o, w) => step_declarator(alloc, k, o, w, token),
+        Wide::RoundOpened(k, o, w) => step_round_opened(alloc, k, o, w, token),
+        Wide::FunctionNamed(called, t, o) => Ok(step_function_named(called, t, o, token)),
+        Wide::Closing(o, d) => step_round_closing(alloc, o, d, token),
+        Wide::ParameterItself(k, n, head, types) => step_itself(alloc, k, n, head, types, token),
+        Wide::InnerNothing(n, u) => step_inner_nothing(alloc, n, u, token),
+        Wide::MemberAt(b, types, w) => step_member_at(alloc, b, types, w, token),
+        Wide::MemberBound(b, types, w) => step_member_bound(b, types, w, token),
+        Wide::MemberBounded(b, types, w) => Ok(step_member_bounded(b, types, w, token)),
+        Wide::Settled(u) => step_settled(alloc, u, token),
+        Wide::SquareOpened(u) => Ok(step_square(u, token)),
+        Wide::SquareFilled(u) => Ok(step_filled(u, token)),
+        Wide::ListOpened(u) => Ok(step_list_opened(r, u, token)),
+        Wide::ListVoid(u) => step_list_void(alloc, u, token),
+        Wide::ListComma(u) => Ok(step_list_comma(r, u, token)),
+        Wide::ListDots(u) => Ok(step_list_dots(u, token)),
+        Wide::Dots(head, types) => Ok(step_wide_dots(head, types, token)),
+    }
+}
+
+/// One token further.
+fn step(alloc: Global, r: Dialect, state: State, token: Token<'_>) -> Result<State, NoMemory>
+    ensures { IfOk result (λ s. state_of s ≡ keeping (dialect_of r) (state_of state) (token_of token.entry)) }
+{
+    match state {
+        State::WantsType(w) => Ok(step_type(r, w, token)),
+        State::WantsBase(w) => Ok(step_base(r, w, token)),
+        State::AfterSign(g, w) => step_sign(alloc, r, g, w, token),
+        State::AfterShort(g, w) => step_short(alloc, r, g, w, token),
+        State::AfterLong(g, w) => step_long(alloc, r, g, w, token),
+        State::AfterLongLong(g, w) => step_long_long(alloc, r, g, w, token),
+        State::AfterStruct(w) => step_struct(alloc, r, w, token),
         State::WantsStar(w) => Ok(step_star(w, token)),
-        State::SoleVoid(head) => Ok(step_sole_void(alloc, head, token)),
-        State::Typed(t, w) => step_typed(alloc, t, w, token),
+        State::SoleVoid(head) => step_sole_void(alloc, r, head, token),
+        State::Typed(t, w) => step_typed(alloc, r, t, w, token),
         State::Named(head) => Ok(step_named(head, token)),
-        State::Opened(head) => Ok(step_opened(alloc, head, token)),
-        State::ParameterNamed(head, types) => Ok(step_closing(head, types, token)),
-        State::AfterComma(head, types) => Ok(step_comma(head, types, token)),
+        State::Opened(head) => Ok(step_opened(alloc, r, head, token)),
+        State::ParameterNamed(head, types) => Ok(step_closing(r, head, types, token)),
+        State::AfterComma(head, types) => Ok(step_comma(r, head, types, token)),
         State::AfterDots(d) => Ok(step_dots(d, token)),
         State::MemberNamed(t, counts, types, w) => step_member(alloc, t, counts, types, w, token),
         State::WantsCount(t, counts, types, w) => step_count(t, counts, types, w, token),
         State::Counted(t, counts, types, w) => Ok(step_counted(t, counts, types, w, token)),
-        State::AfterMember(types, w) => Ok(step_after_member(types, w, token)),
+        State::AfterMember(types, w) => Ok(step_after_member(r, types, w, token)),
         State::Closed(d) => Ok(step_closed(d, token)),
         State::Ended(_) => Ok(State::Dead),
         State::Dead => Ok(State::Dead),
+        State::Wide(wide) => step_wide(alloc, r, wide, token),
     }
 }
 
@@ -81,11 +122,13 @@ impl Pass {
 }
 
 /// Whether no declaration can follow.
+#[tactic(auto, using(crate::proofs::Lives::wide_lives))]
 fn is_dead(state: &State) -> bool
     ensures { result ≡ is_dead (state_of state.now) }
 {
     match state {
         State::Dead => true,
+        State::Wide(_) => false,
         _ => false,
     }
 }
@@ -111,12 +154,18 @@ fn kept(old: Option<usize>, now: bool, at: usize) -> Option<usize>
 }
 
 /// The pass with one token more, at an offset.
-pub fn taking(alloc: Global, pass: Pass, at: usize, token: Token<'_>) -> Result<Pass, NoMemory>
-    ensures { IfOk result (λ p. pass_of p ≡ taking (pass_of pass) at (token_of token.entry)) }
+pub fn taking(
+    alloc: Global,
+    r: Dialect,
+    pass: Pass,
+    at: usize,
+    token: Token<'_>,
+) -> Result<Pass, NoMemory>
+    ensures { IfOk result (λ p. pass_of p ≡ taking (dialect_of r) (pass_of pass) at (token_of token.entry)) }
 {
     let Pass { state, died, great } = pass;
     let great = kept(great, is_too_great(&token), at);
-    let state = step(alloc, state, token)?;
+    let state = step(alloc, r, state, token)?;
     let died = kept(died, is_dead(&state), at);
     Ok(Pass { state, died, great })
 }
@@ -132,6 +181,51 @@ fn judged(d: Declaration) -> Outcome
     }
 }
 
+/// What is declared behind the function's parameters, where no bracket is open.
+#[tactic(auto, using(crate::proofs::Settling::finish_none, crate::proofs::Settling::finish_some, crate::proofs::Settling::finish_star_none, crate::proofs::Settling::finish_star_outside, crate::proofs::Settling::finish_star_inside))]
+fn finished_closing(o: Round, d: Declaration) -> Option<Declaration>
+    ensures { result ≡ finish (closing (round_of o) d) }
+{
+    match o {
+        Round::Unstarred(n) => { if n == 0 { Some(d) } else { None } }
+        Round::Starred(n, m) => {
+            if n == 0 {
+                if m == 0 { Some(d) } else { None }
+            } else {
+                None
+            }
+        }
+    }
+}
+
+/// What is declared by what is settled, if that is the function and no bracket is open.
+#[tactic(auto, using(crate::proofs::Settling::settled_none, crate::proofs::Settling::settled_some))]
+fn finished_settled(u: Settled) -> Option<Declaration>
+    ensures { result ≡ finish (settled (settled_of u)) }
+{
+    match u {
+        Settled::OfFunction(d, n) => { if n == 0 { Some(d) } else { None } }
+        other => {
+            mem::drop(other);
+            None
+        }
+    }
+}
+
+/// What is declared in a state of the wide reading.
+fn finished_wide(state: Wide) -> Option<Declaration>
+    ensures { result ≡ finish (wide_of state) }
+{
+    match state {
+        Wide::Closing(o, d) => finished_closing(o, d),
+        Wide::Settled(u) => finished_settled(Box::into_inner(u)),
+        other => {
+            mem::drop(other);
+            None
+        }
+    }
+}
+
 /// What is declared, where a declaration may end.
 fn finished(state: State) -> Option<Declaration>
     ensures { result ≡ finish (state_of state) }
@@ -139,6 +233,7 @@ fn finished(state: State) -> Option<Declaration>
     match state {
         State::Closed(d) => Some(d),
         State::Ended(d) => Some(d),
+        State::Wide(wide) => finished_wide(wide),
         other => {
             mem::drop(other);
             None

@@ -1,94 +1,71 @@
-// One token behind a type, a word of a base, a name or a mark.
-ghost use Rattle.std.specs.Prelude.{◌≡◌, [], IfOk, ltb, box_value};
-ghost use Rattle.ffi3_cdecl_rules.specs.Machine.{onto, depth, name_behind, close_behind, comma_behind, step_typed, step_sign, step_short, step_long, step_long_long, step_struct, step_star, step_sole_void, step_named, step_opened, step_closing, step_comma, step_dots, step_member, step_counted, step_after_member, step_closed};
-ghost use Rattle.ffi3_cdecl_rules.specs.Grammar.{declared, char_of, short_of, int_of, long_of, int128_of};
-ghost use Rattle.ffi3_type_rules.specs.Tree.{scalar};
-ghost use Rattle.ffi3_types.specs.TreeOf.{tree_of};
+// One token behind a type of the plain reading, a word of a base, a name or a mark.
+ghost use Rattle.std.specs.Prelude.{◌≡◌, [], IfOk, Some, None, ltb, box_value};
+ghost use Rattle.ffi3_cdecl_rules.specs.Machine.{onto, depth, depth_of, declared_by, list_ended, comma_of, name_behind, close_behind, comma_behind, step_typed, step_sign, step_short, step_long, step_long_long, opened_struct, step_struct, step_star, plain_void, step_sole_void, step_named, step_opened, step_closing, step_comma, step_dots, step_member, step_counted, step_after_member, step_closed};
 ghost use Rattle.ffi3_cdecl_rules.specs.OnePass.{keep_count};
-ghost use Rattle.ffi3_cdecl.specs.TokenOf.{token_of, sign_of};
-ghost use Rattle.ffi3_cdecl.specs.StateOf.{head_of, where_of, state_of};
+ghost use Rattle.ffi3_cdecl_rules.specs.Tokens.{dots};
+ghost use Rattle.ffi3_types.specs.TreeOf.{tree_of};
+ghost use Rattle.ffi3_cdecl.specs.TokenOf.{dialect_of, token_of, sign_of};
+ghost use Rattle.ffi3_cdecl.specs.StateOf.{head_of, where_of, settled_of, state_of};
 
 use crate::declaration::Declaration;
+use crate::declarator::step_declarator;
+use crate::integers::{char_of, int_of, int128_of, long_of, short_of};
 use crate::place::{Counts, Gathered};
-use crate::state::{Head, State, Where, step_type};
-use crate::token::{Sign, Token};
+use crate::round::Round;
+use crate::said::Kind;
+use crate::state::{Head, Settled, State, Where, Wide, declarator, step_type};
+use crate::token::{Dialect, Sign, Token};
 use ffi3_types::{Bytes, FfiType, NoMemory, Sig};
 use std::alloc::Global;
 
-/// How many structs may be open in one another.
-const MOST_OPEN: u64 = 16;
+/// How many structs, brackets and lists may be open in one another.
+pub const MOST_OPEN: u64 = 16;
 
-fn char_of(g: Sign) -> FfiType
-    ensures { tree_of result ≡ scalar (char_of (sign_of g)) }
+/// A function whose parameters are these, and how many of them stand before the dots.
+fn declared(head: Head, types: Gathered, fixed: Option<u32>) -> Declaration
+    ensures { result ≡ declared_by (head_of head) (onto types []) fixed }
 {
-    match g {
-        Sign::Signed => FfiType::S8,
-        Sign::Unsigned => FfiType::U8,
-    }
-}
-
-fn short_of(g: Sign) -> FfiType
-    ensures { tree_of result ≡ scalar (short_of (sign_of g)) }
-{
-    match g {
-        Sign::Signed => FfiType::S16,
-        Sign::Unsigned => FfiType::U16,
-    }
-}
-
-fn int_of(g: Sign) -> FfiType
-    ensures { tree_of result ≡ scalar (int_of (sign_of g)) }
-{
-    match g {
-        Sign::Signed => FfiType::S32,
-        Sign::Unsigned => FfiType::U32,
-    }
-}
-
-fn long_of(g: Sign) -> FfiType
-    ensures { tree_of result ≡ scalar (long_of (sign_of g)) }
-{
-    match g {
-        Sign::Signed => FfiType::S64,
-        Sign::Unsigned => FfiType::U64,
-    }
-}
-
-fn int128_of(g: Sign) -> FfiType
-    ensures { tree_of result ≡ scalar (int128_of (sign_of g)) }
-{
-    match g {
-        Sign::Signed => FfiType::S128,
-        Sign::Unsigned => FfiType::U128,
-    }
-}
-
-/// A function whose parameters are these.
-fn declared(head: Head, types: Gathered, variadic: bool) -> Declaration
-    ensures { result ≡ declared (head_of head) (onto types []) variadic }
-{
-    let args = types.all();
-    let fixed = if variadic {
-        Some(args.len() as u32)
-    } else {
-        None
-    };
     let Head {
         called,
         result_type,
+        fixed: _,
+        round: _,
     } = head;
-    Declaration::new(called, Sig::new(result_type, args, fixed))
+    Declaration::new(called, Sig::new(result_type, types.all(), fixed))
+}
+
+/// Behind the ")" of the parameters.
+pub fn list_ended(r: Dialect, head: Head, types: Gathered, fixed: Option<u32>) -> State
+    ensures { state_of result ≡ list_ended (dialect_of r) (head_of head) (onto types []) fixed }
+{
+    let round = head.round;
+    let d = declared(head, types, fixed);
+    match r {
+        Dialect::Plain => State::Closed(d),
+        Dialect::Wide => State::Wide(Wide::Closing(round, d)),
+    }
+}
+
+/// Behind a comma of the parameters: behind the dots only types stand.
+fn comma_of(head: Head, types: Gathered) -> State
+    ensures { state_of result ≡ comma_of (head_of head).fixed (head_of head) types }
+{
+    match head.fixed {
+        None => State::AfterComma(head, types),
+        Some(_) => State::WantsType(Where::Parameter(head, types)),
+    }
 }
 
 /// Behind a type stands a closing mark.
-fn close_behind(w: Where, t: FfiType) -> Result<State, NoMemory>
-    ensures { IfOk result (λ s. state_of s ≡ close_behind (where_of w) (tree_of t)) }
+fn close_behind(r: Dialect, w: Where, t: FfiType) -> Result<State, NoMemory>
+    ensures { IfOk result (λ s. state_of s ≡ close_behind (dialect_of r) (where_of w) (tree_of t)) }
 {
     match w {
         Where::Parameter(head, types) => {
             let mut types = types;
             types.push(t)?;
-            Ok(State::Closed(declared(head, types, false)))
+            let fixed = head.fixed;
+            Ok(list_ended(r, head, types, fixed))
         }
         _ => Ok(State::Dead),
     }
@@ -102,7 +79,7 @@ fn comma_behind(w: Where, t: FfiType) -> Result<State, NoMemory>
         Where::Parameter(head, types) => {
             let mut types = types;
             types.push(t)?;
-            Ok(State::AfterComma(head, types))
+            Ok(comma_of(head, types))
         }
         _ => Ok(State::Dead),
     }
@@ -118,6 +95,8 @@ fn name_behind(alloc: Global, w: Where, t: FfiType, name: &[u8]) -> Result<State
             Ok(State::Named(Head {
                 called,
                 result_type: t,
+                fixed: None,
+                round: Round::Unstarred(0),
             }))
         }
         Where::Parameter(head, types) => {
@@ -128,91 +107,148 @@ fn name_behind(alloc: Global, w: Where, t: FfiType, name: &[u8]) -> Result<State
         Where::Member(types, outer) => {
             Ok(State::MemberNamed(t, Counts::new(alloc), types, outer))
         }
+        Where::Inner(u) => Ok(State::Wide(Wide::Settled(Box::new(alloc, Settled::OfInner(u, 0))?))),
     }
 }
 
 /// A token behind a type.
-pub fn step_typed(alloc: Global, t: FfiType, w: Where, token: Token<'_>) -> Result<State, NoMemory>
-    ensures { IfOk result (λ s. state_of s ≡ step_typed (tree_of t) (where_of w) (token_of token.entry)) }
+pub fn step_typed(
+    alloc: Global,
+    r: Dialect,
+    t: FfiType,
+    w: Where,
+    token: Token<'_>,
+) -> Result<State, NoMemory>
+    ensures { IfOk result (λ s. state_of s ≡ step_typed (dialect_of r) (tree_of t) (where_of w) (token_of token.entry)) }
 {
     match token {
         Token::Star => Ok(State::Typed(FfiType::Pointer, w)),
         Token::Name(name) => name_behind(alloc, w, t, name),
-        Token::CloseRound => close_behind(w, t),
+        Token::CloseRound => close_behind(r, w, t),
         Token::Comma => comma_behind(w, t),
         _ => Ok(State::Dead),
     }
 }
 
 /// A token behind a word of sign.
-pub fn step_sign(alloc: Global, g: Sign, w: Where, token: Token<'_>) -> Result<State, NoMemory>
-    ensures { IfOk result (λ s. state_of s ≡ step_sign (sign_of g) (where_of w) (token_of token.entry)) }
+pub fn step_sign(
+    alloc: Global,
+    r: Dialect,
+    g: Sign,
+    w: Where,
+    token: Token<'_>,
+) -> Result<State, NoMemory>
+    ensures { IfOk result (λ s. state_of s ≡ step_sign (dialect_of r) (sign_of g) (where_of w) (token_of token.entry)) }
 {
     match token {
-        Token::Char => Ok(State::Typed(char_of(g), w)),
+        Token::Char(_) => Ok(State::Typed(char_of(g), w)),
         Token::Short => Ok(State::AfterShort(g, w)),
         Token::Int => Ok(State::Typed(int_of(g), w)),
         Token::Long => Ok(State::AfterLong(g, w)),
         Token::Int128 => Ok(State::Typed(int128_of(g), w)),
-        _ => step_typed(alloc, int_of(g), w, token),
+        _ => step_typed(alloc, r, int_of(g), w, token),
     }
 }
 
 /// A token behind `short`.
-pub fn step_short(alloc: Global, g: Sign, w: Where, token: Token<'_>) -> Result<State, NoMemory>
-    ensures { IfOk result (λ s. state_of s ≡ step_short (sign_of g) (where_of w) (token_of token.entry)) }
+pub fn step_short(
+    alloc: Global,
+    r: Dialect,
+    g: Sign,
+    w: Where,
+    token: Token<'_>,
+) -> Result<State, NoMemory>
+    ensures { IfOk result (λ s. state_of s ≡ step_short (dialect_of r) (sign_of g) (where_of w) (token_of token.entry)) }
 {
     match token {
         Token::Int => Ok(State::Typed(short_of(g), w)),
-        _ => step_typed(alloc, short_of(g), w, token),
+        _ => step_typed(alloc, r, short_of(g), w, token),
     }
 }
 
 /// A token behind `long`.
-pub fn step_long(alloc: Global, g: Sign, w: Where, token: Token<'_>) -> Result<State, NoMemory>
-    ensures { IfOk result (λ s. state_of s ≡ step_long (sign_of g) (where_of w) (token_of token.entry)) }
+pub fn step_long(
+    alloc: Global,
+    r: Dialect,
+    g: Sign,
+    w: Where,
+    token: Token<'_>,
+) -> Result<State, NoMemory>
+    ensures { IfOk result (λ s. state_of s ≡ step_long (dialect_of r) (sign_of g) (where_of w) (token_of token.entry)) }
 {
     match token {
         Token::Long => Ok(State::AfterLongLong(g, w)),
         Token::Int => Ok(State::Typed(long_of(g), w)),
-        _ => step_typed(alloc, long_of(g), w, token),
+        _ => step_typed(alloc, r, long_of(g), w, token),
     }
 }
 
 /// A token behind `long long`.
-pub fn step_long_long(alloc: Global, g: Sign, w: Where, token: Token<'_>) -> Result<State, NoMemory>
-    ensures { IfOk result (λ s. state_of s ≡ step_long_long (sign_of g) (where_of w) (token_of token.entry)) }
+pub fn step_long_long(
+    alloc: Global,
+    r: Dialect,
+    g: Sign,
+    w: Where,
+    token: Token<'_>,
+) -> Result<State, NoMemory>
+    ensures { IfOk result (λ s. state_of s ≡ step_long_long (dialect_of r) (sign_of g) (where_of w) (token_of token.entry)) }
 {
     match token {
         Token::Int => Ok(State::Typed(long_of(g), w)),
-        _ => step_typed(alloc, long_of(g), w, token),
+        _ => step_typed(alloc, r, long_of(g), w, token),
     }
 }
 
-/// Whether fewer structs than so many are open.
+/// Whether fewer structs, brackets and lists than so many are open.
+#[cycle(has_room)]
 pub fn has_room(w: &Where, room: u64) -> bool
     ensures { result ≡ ltb (depth (where_of w.now)) room }
 {
     match w {
+        Where::Result => room > 0,
+        Where::Parameter(_, _) => room > 0,
         Where::Member(_, outer) => room > 0 && has_room(outer, room - 1),
-        _ => room > 0,
+        Where::Inner(u) => room > 0 && has_room_inside(u, room - 1),
+    }
+}
+
+/// The same of what is settled.
+#[cycle(has_room)]
+#[tactic(auto, using(crate::proofs::Rounds::deeper, crate::proofs::Rounds::no_deeper))]
+pub fn has_room_inside(u: &Settled, room: u64) -> bool
+    ensures { result ≡ ltb (depth_of (settled_of u.now)) room }
+{
+    match u {
+        Settled::OfParameter(_, _, n) => (*n as u64) < room,
+        Settled::OfInner(outer, n) => (*n as u64) < room
+            && has_room_inside(outer, room - *n as u64 - 1),
+        Settled::OfMember(_, _, _, w, n) => (*n as u64) < room && has_room(w, room - *n as u64 - 1),
+        Settled::OfFunction(_, n) => (*n as u64) < room,
+    }
+}
+
+/// A "{", where it has room.
+pub fn opened_struct(alloc: Global, w: Where) -> Result<State, NoMemory>
+    ensures { IfOk result (λ s. state_of s ≡ opened_struct (where_of w)) }
+{
+    if has_room(&w, MOST_OPEN) {
+        let outer = Box::new(alloc, w)?;
+        Ok(State::WantsType(Where::Member(Gathered::new(alloc), outer)))
+    } else {
+        Ok(State::Dead)
     }
 }
 
 /// A token behind `struct`.
-pub fn step_struct(alloc: Global, w: Where, token: Token<'_>) -> Result<State, NoMemory>
-    ensures { IfOk result (λ s. state_of s ≡ step_struct (where_of w) (token_of token.entry)) }
+pub fn step_struct(alloc: Global, r: Dialect, w: Where, token: Token<'_>) -> Result<State, NoMemory>
+    ensures { IfOk result (λ s. state_of s ≡ step_struct (dialect_of r) (where_of w) (token_of token.entry)) }
 {
     match token {
-        Token::Name(_) => Ok(State::WantsStar(w)),
-        Token::OpenCurly => {
-            if has_room(&w, MOST_OPEN) {
-                let outer = Box::new(alloc, w)?;
-                Ok(State::WantsType(Where::Member(Gathered::new(alloc), outer)))
-            } else {
-                Ok(State::Dead)
-            }
-        }
+        Token::Name(_) => match r {
+            Dialect::Plain => Ok(State::WantsStar(w)),
+            Dialect::Wide => Ok(State::Wide(Wide::AfterStructTag(w))),
+        },
+        Token::OpenCurly => opened_struct(alloc, w),
         _ => Ok(State::Dead),
     }
 }
@@ -227,17 +263,37 @@ pub fn step_star(w: Where, token: Token<'_>) -> State
     }
 }
 
-/// A token behind `void` as the first parameter.
-pub fn step_sole_void(alloc: Global, head: Head, token: Token<'_>) -> State
-    ensures { state_of result ≡ step_sole_void (head_of head) (token_of token.entry) }
+/// A token behind `void` as the first parameter in the plain reading: a star.
+fn plain_void(alloc: Global, head: Head, token: Token<'_>) -> State
+    ensures { state_of result ≡ plain_void (head_of head) (token_of token.entry) }
 {
     match token {
         Token::Star => State::Typed(
             FfiType::Pointer,
             Where::Parameter(head, Gathered::new(alloc)),
         ),
-        Token::CloseRound => State::Closed(declared(head, Gathered::new(alloc), false)),
         _ => State::Dead,
+    }
+}
+
+/// A token behind `void` as the first parameter.
+pub fn step_sole_void(
+    alloc: Global,
+    r: Dialect,
+    head: Head,
+    token: Token<'_>,
+) -> Result<State, NoMemory>
+    ensures { IfOk result (λ s. state_of s ≡ step_sole_void (dialect_of r) (head_of head) (token_of token.entry)) }
+{
+    match token {
+        Token::CloseRound => Ok(list_ended(r, head, Gathered::new(alloc), None)),
+        _ => match r {
+            Dialect::Plain => Ok(plain_void(alloc, head, token)),
+            Dialect::Wide => {
+                let w = Where::Parameter(head, Gathered::new(alloc));
+                Ok(step_declarator(alloc, Kind::Nothing, Round::Unstarred(0), w, token)?)
+            }
+        },
     }
 }
 
@@ -252,34 +308,50 @@ pub fn step_named(head: Head, token: Token<'_>) -> State
 }
 
 /// A token behind the mark that opens the parameters.
-pub fn step_opened(alloc: Global, head: Head, token: Token<'_>) -> State
-    ensures { state_of result ≡ step_opened (head_of head) (token_of token.entry) }
+pub fn step_opened(alloc: Global, r: Dialect, head: Head, token: Token<'_>) -> State
+    ensures { state_of result ≡ step_opened (dialect_of r) (head_of head) (token_of token.entry) }
 {
     match token {
-        Token::CloseRound => State::Closed(declared(head, Gathered::new(alloc), false)),
+        Token::CloseRound => list_ended(r, head, Gathered::new(alloc), None),
         Token::Void => State::SoleVoid(head),
-        _ => step_type(Where::Parameter(head, Gathered::new(alloc)), token),
+        _ => step_type(r, Where::Parameter(head, Gathered::new(alloc)), token),
     }
 }
 
 /// A token behind a parameter and its name.
-pub fn step_closing(head: Head, types: Gathered, token: Token<'_>) -> State
-    ensures { state_of result ≡ step_closing (head_of head) types (token_of token.entry) }
+pub fn step_closing(r: Dialect, head: Head, types: Gathered, token: Token<'_>) -> State
+    ensures { state_of result ≡ step_closing (dialect_of r) (head_of head) types (token_of token.entry) }
 {
     match token {
-        Token::CloseRound => State::Closed(declared(head, types, false)),
-        Token::Comma => State::AfterComma(head, types),
+        Token::CloseRound => {
+            let fixed = head.fixed;
+            list_ended(r, head, types, fixed)
+        }
+        Token::Comma => comma_of(head, types),
         _ => State::Dead,
     }
 }
 
+/// The dots behind a comma of the parameters.
+fn dots_behind(r: Dialect, head: Head, types: Gathered) -> State
+    ensures { state_of result ≡ step_comma (dialect_of r) (head_of head) types dots }
+{
+    match r {
+        Dialect::Plain => {
+            let fixed = Some(types.len());
+            State::AfterDots(declared(head, types, fixed))
+        }
+        Dialect::Wide => State::Wide(Wide::Dots(head, types)),
+    }
+}
+
 /// A token behind a comma of the parameters.
-pub fn step_comma(head: Head, types: Gathered, token: Token<'_>) -> State
-    ensures { state_of result ≡ step_comma (head_of head) types (token_of token.entry) }
+pub fn step_comma(r: Dialect, head: Head, types: Gathered, token: Token<'_>) -> State
+    ensures { state_of result ≡ step_comma (dialect_of r) (head_of head) types (token_of token.entry) }
 {
     match token {
-        Token::Dots => State::AfterDots(declared(head, types, true)),
-        _ => step_type(Where::Parameter(head, types), token),
+        Token::Dots => dots_behind(r, head, types),
+        _ => step_type(r, Where::Parameter(head, types), token),
     }
 }
 
@@ -362,11 +434,18 @@ pub fn step_counted(
 }
 
 /// A token behind a member.
-pub fn step_after_member(types: Gathered, outer: Box<Where>, token: Token<'_>) -> State
-    ensures { state_of result ≡ step_after_member types (where_of (box_value outer)) (token_of token.entry) }
+pub fn step_after_member(r: Dialect, types: Gathered, outer: Box<Where>, token: Token<'_>) -> State
+    ensures { state_of result ≡ step_after_member (dialect_of r) types (where_of (box_value outer)) (token_of token.entry) }
 {
     match token {
-        Token::CloseCurly => State::Typed(FfiType::Struct(types.all()), Box::into_inner(outer)),
-        _ => step_type(Where::Member(types, outer), token),
+        Token::CloseCurly => {
+            let t = FfiType::Struct(types.all());
+            let w = Box::into_inner(outer);
+            match r {
+                Dialect::Plain => State::Typed(t, w),
+                Dialect::Wide => declarator(Kind::Whole(t), w),
+            }
+        }
+        _ => step_type(r, Where::Member(types, outer), token),
     }
 }

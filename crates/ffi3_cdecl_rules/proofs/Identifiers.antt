@@ -1,12 +1,12 @@
 -- What is read has a canonical text: its name is an identifier, and dots stand behind the last of its parameters.
-use Rattle.std.proofs.Common.{◌≡◌, ◌∙◌, ◌⊎◌, ◌&&◌, ◌+◌, ℕ, zero, suc, Bool, true, false, cond, List, [], ◌∷◌, length, Some, None, inl, inr, refl, sym, ap, subst}
+use Rattle.std.proofs.Common.{◌≡◌, ◌∙◌, ◌⊎◌, ◌&&◌, ◌+◌, ℕ, zero, suc, Bool, true, false, cond, List, [], ◌∷◌, length, Option, Some, None, inl, inr, refl, sym, ap, subst}
 use Rattle.std.specs.Prelude.{⊤, ◌==◌, bytes_eq}
 use Rattle.ffi3_type_rules.specs.Signature.{SignatureHasNoFault}
 use Rattle.ffi3_type_rules.specs.Tree.{Tree, Scalar}
-use Rattle.ffi3_cdecl_rules.specs.Tokens.{Token, Sign, name, number, dots, words, word_among, word_of, is_blank, is_letter, is_digit, goes_on_word, front, with_digits, Found, blank, nothing_known, found, number_at, dots_at, marks, mark_among, found_at, Cut, tokens, bad_at, before, bytes_more, cut_from}
-use Rattle.ffi3_cdecl_rules.specs.Grammar.{IsIntOrNot, no_int, with_int, IsLongTail, one_long, two_longs, IsSized, a_short, an_int, a_long, an_int128, IsSigned, sign_alone, sign_of_char, sign_of_size, IsStars, one_star, more_stars, IsCounts, no_count, a_count, Kind, IsBase, by_word, by_size, by_sign, a_char, a_void, a_tag, a_struct, IsQualified, plain, constant, IsType, itself, pointer_to, IsMember, a_member, IsMembers, last_member, next_member, IsResult, a_result, no_result, Declaration, IsDeclaration, declares}
+use Rattle.ffi3_cdecl_rules.specs.Tokens.{plain, signed, wide, Token, Sign, name, number, dots, words, word_among, word_of, is_blank, is_letter, is_digit, goes_on_word, front, with_digits, Found, blank, skipped, nothing_known, found, number_at, dots_at, marks, mark_among, found_at, Cut, tokens, bad_at, before, bytes_more, cut_from}
+use Rattle.ffi3_cdecl_rules.specs.Grammar.{IsIntOrNot, no_int, with_int, IsLongTail, one_long, two_longs, IsSized, a_short, an_int, a_long, an_int128, IsSigned, sign_alone, sign_of_char, sign_of_size, IsStars, one_star, more_stars, IsCounts, no_count, a_count, Kind, IsBase, by_word, by_size, by_sign, a_char, by_specifiers, a_void, a_tag, a_union, an_enum, a_name, a_struct, a_tagged_struct, IsQualified, unqualified, constant, IsType, itself, pointer_to, IsMember, a_member, IsMembers, last_member, next_member, of_a_base, IsParameters, last_parameter, last_before_dots, before_types, next_parameter, IsParameterList, no_parameters, only_void, some_parameters, IsResult, a_result, no_result, Declaration, IsDeclarationIn, declares, declares_by}
 use Rattle.ffi3_cdecl_rules.specs.Canonical.{FixesAll, IsIdentifier, passes}
-use Rattle.ffi3_cdecl_rules.specs.Reading.{tokens_of, IsReading, reads, is_read}
+use Rattle.ffi3_cdecl_rules.specs.Reading.{tokens_of, IsReadingIn, reads, is_read}
 
 -- a token that is a name is an identifier
 abbrev IsSpelled : Token → Type 0
@@ -46,32 +46,41 @@ behind_counts : {t u : Tree} {before after : List Token} → IsCounts t before a
 behind_counts no_count all = all.1
 behind_counts (a_count c) (opens, (count, (closes, all))) = behind_counts c all
 
+isnt_wide : plain ≡ wide → ⊥
+isnt_wide e = cc
+
 mutual
-  behind_base : {d : ℕ} {before after : List Token} {k : Kind} → IsBase d before after k → AreSpelled before → AreSpelled after
+  behind_base : {d : ℕ} {before after : List Token} {k : Kind} → IsBase plain d before after k → AreSpelled before → AreSpelled after
   behind_base by_word all = all.1
-  behind_base (by_size z) all = behind_sized z all
-  behind_base (by_sign z) all = behind_signed z all.1
-  behind_base a_char all = all.1
+  behind_base (by_size p z) all = behind_sized z all
+  behind_base (by_sign p z) all = behind_signed z all.1
+  behind_base (a_char p) all = all.1
+  behind_base (by_specifiers p ws is) all = absurd (isnt_wide p)
   behind_base a_void all = all.1
   behind_base a_tag (word, (tag, all)) = all
+  behind_base (a_union p) all = absurd (isnt_wide p)
+  behind_base (an_enum p) all = absurd (isnt_wide p)
+  behind_base (a_name p is) all = absurd (isnt_wide p)
   behind_base (a_struct few ms) (word, (opens, all)) = behind_members ms all
+  behind_base (a_tagged_struct p few ms) all = absurd (isnt_wide p)
 
-  behind_qualified : {d : ℕ} {before after : List Token} {k : Kind} → IsQualified d before after k → AreSpelled before → AreSpelled after
-  behind_qualified (plain b) all = behind_base b all
+  behind_qualified : {d : ℕ} {before after : List Token} {k : Kind} → IsQualified plain d before after k → AreSpelled before → AreSpelled after
+  behind_qualified (unqualified b) all = behind_base b all
   behind_qualified (constant b) all = behind_base b all.1
 
-  behind_type : {d : ℕ} {before after : List Token} {t : Tree} → IsType d before after t → AreSpelled before → AreSpelled after
+  behind_type : {d : ℕ} {before after : List Token} {t : Tree} → IsType plain d before after t → AreSpelled before → AreSpelled after
   behind_type (itself q) all = behind_qualified q all
   behind_type (pointer_to q stars) all = behind_stars stars (behind_qualified q all)
 
-  behind_member : {d : ℕ} {before after : List Token} {t : Tree} → IsMember d before after t → AreSpelled before → AreSpelled after
-  behind_member (a_member t counts) all = behind_counts counts (behind_type t all).1
+  behind_member : {d : ℕ} {before after : List Token} {t : Tree} → IsMember plain d before after t → AreSpelled before → AreSpelled after
+  behind_member (a_member p t counts) all = behind_counts counts (behind_type t all).1
 
-  behind_members : {d : ℕ} {before after : List Token} {ts : List Tree} → IsMembers d before after ts → AreSpelled before → AreSpelled after
+  behind_members : {d : ℕ} {before after : List Token} {ts : List Tree} → IsMembers plain d before after ts → AreSpelled before → AreSpelled after
   behind_members (last_member m) all = (behind_member m all).1
   behind_members (next_member m ms) all = behind_members ms (behind_member m all)
+  behind_members (of_a_base p q ms) all = absurd (isnt_wide p)
 
-behind_result : {before after : List Token} {t : Tree} → IsResult before after t → AreSpelled before → AreSpelled after
+behind_result : {before after : List Token} {t : Tree} → IsResult plain before after t → AreSpelled before → AreSpelled after
 behind_result (a_result t) all = behind_type t all
 behind_result (no_result q) all = behind_qualified q all
 
@@ -79,6 +88,7 @@ behind_result (no_result q) all = behind_qualified q all
 
 abbrev IsSpelledFound : Found → Type 0
 IsSpelledFound blank = ⊤
+IsSpelledFound (skipped more) = ⊤
 IsSpelledFound nothing_known = ⊤
 IsSpelledFound (found x more) = IsSpelled x
 
@@ -151,14 +161,15 @@ IsSpelledCut (bad_at at) = ⊤
 
 before_spelled : (f : Found) (at : ℕ) (c : Cut) → IsSpelledFound f → IsSpelledCut c → IsSpelledCut (before f at c)
 before_spelled blank at c this rest = rest
+before_spelled (skipped more) at c this rest = rest
 before_spelled nothing_known at c this rest = tt
 before_spelled (found x more) at (tokens ps) this rest = (this, rest)
 before_spelled (found x more) at (bad_at there) this rest = tt
 
-cut_spelled : (at inside : ℕ) (bs : List ℕ) → IsSpelledCut (cut_from at inside bs)
+cut_spelled : (at inside : ℕ) (bs : List ℕ) → IsSpelledCut (cut_from plain signed at inside bs)
 cut_spelled at inside [] = tt
 cut_spelled at zero (b ∷ bs) =
-    before_spelled (found_at b bs) at (cut_from (at + 1) (bytes_more (found_at b bs)) bs) (found_spelled b bs) (cut_spelled (at + 1) (bytes_more (found_at b bs)) bs)
+    before_spelled (found_at b bs) at (cut_from plain signed (at + 1) (bytes_more (found_at b bs)) bs) (found_spelled b bs) (cut_spelled (at + 1) (bytes_more (found_at b bs)) bs)
 cut_spelled at (suc inside) (b ∷ bs) = cut_spelled (at + 1) inside bs
 
 -- ---- what is declared
@@ -169,26 +180,36 @@ some_is x y e = cc
 none_is_some : (x : ℕ) → None ≡ Some x → ⊥
 none_is_some x e = cc
 
-dots_last : (variadic : Bool) (count n : ℕ) → cond variadic (Some count) None ≡ Some n → n ≡ count
-dots_last true count n is = sym (some_is count n is)
-dots_last false count n is = absurd (none_is_some n is)
+dots_last : {before after : List Token} {ts : List Tree} {f : Option ℕ} (n : ℕ) → IsParameters plain before after ts f → f ≡ Some n → n ≡ length ts
+dots_last n (last_parameter p) is = absurd (none_is_some n is)
+dots_last n (last_before_dots p) is = sym (some_is 1 n is)
+dots_last n (before_types p q ps) is = absurd (isnt_wide p)
+dots_last n (next_parameter {fixed = None} p ps) is = absurd (none_is_some n is)
+dots_last n (next_parameter {fixed = Some i} p ps) is =
+    sym (some_is (suc i) n is) ∙ ap suc (dots_last i ps refl)
 
-declared_fixes : (ts : List Token) (d : Declaration) → IsDeclaration ts d → FixesAll d.signature
-declared_fixes ts _ (declares {ts = us} {variadic = variadic} result parameters end) =
-    λ n is. dots_last variadic (length us) n is
+list_fixes : {before after : List Token} {ts : List Tree} {f : Option ℕ} (n : ℕ) → IsParameterList plain before after ts f → f ≡ Some n → n ≡ length ts
+list_fixes n no_parameters is = absurd (none_is_some n is)
+list_fixes n only_void is = absurd (none_is_some n is)
+list_fixes n (some_parameters ps) is = dots_last n ps is
 
-declared_named : (ts : List Token) (d : Declaration) → IsDeclaration ts d → AreSpelled ts → IsIdentifier d.called
-declared_named ts _ (declares result parameters end) all = (behind_result result all).0
+declared_fixes : (ts : List Token) (d : Declaration) → IsDeclarationIn plain ts d → FixesAll d.signature
+declared_fixes ts _ (declares p result all end) = λ n is. list_fixes n all is
+declared_fixes ts _ (declares_by p result all end) = absurd (isnt_wide p)
+
+declared_named : (ts : List Token) (d : Declaration) → IsDeclarationIn plain ts d → AreSpelled ts → IsIdentifier d.called
+declared_named ts _ (declares p result list end) all = (behind_result result all).0
+declared_named ts _ (declares_by p result list end) all = absurd (isnt_wide p)
 
 -- THE NAME of what is read IS AN IDENTIFIER
-pub identifier_read : (text : List ℕ) (d : Declaration) → IsReading text (reads d) → IsIdentifier d.called
+pub identifier_read : (text : List ℕ) (d : Declaration) → IsReadingIn plain signed text (reads d) → IsIdentifier d.called
 identifier_read text d (is_read {ps = ps} is declared few right) =
     declared_named (tokens_of ps) d declared (subst IsSpelledCut is (cut_spelled 0 0 text))
 
 -- dots stand behind the last parameter
-pub all_fixed_read : (text : List ℕ) (d : Declaration) → IsReading text (reads d) → FixesAll d.signature
+pub all_fixed_read : (text : List ℕ) (d : Declaration) → IsReadingIn plain signed text (reads d) → FixesAll d.signature
 all_fixed_read text d (is_read {ps = ps} is declared few right) = declared_fixes (tokens_of ps) d declared
 
 -- and the signature has no fault
-pub right_read : (text : List ℕ) (d : Declaration) → IsReading text (reads d) → SignatureHasNoFault d.signature
+pub right_read : (text : List ℕ) (d : Declaration) → IsReadingIn plain signed text (reads d) → SignatureHasNoFault d.signature
 right_read text d (is_read is declared few right) = right

@@ -1,5 +1,14 @@
+pub mod Saying
+pub mod Never
 pub mod Completes
-pub mod Rest
+pub mod Fixed
+pub mod Shapes
+pub mod Lists
+pub mod PlainRest
+pub mod PlainSound
+pub mod WideRest
+pub mod Rounds
+pub mod WideSound
 pub mod Sound
 pub mod Ways
 pub mod Alike
@@ -11,6 +20,8 @@ pub mod Written
 pub mod Spoken
 pub mod SpokenNumbers
 pub mod SpokenTexts
+pub mod Widened
 pub mod Readings
 pub mod Identifiers
 mod Rows
+mod WideRows

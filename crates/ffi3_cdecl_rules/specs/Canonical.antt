@@ -6,7 +6,8 @@ use Rattle.ffi3_type_rules.specs.Tree.{Tree, Trees, void, scalar, left_out, stru
 use Rattle.ffi3_cdecl_rules.specs.Tokens.{Token, unsigned, type_word, sign_word, int128_word, void_word, struct_word}
 use Rattle.ffi3_cdecl_rules.specs.Tokens.{name, number, open_round, close_round, open_curly, close_curly, open_square}
 use Rattle.ffi3_cdecl_rules.specs.Tokens.{close_square, comma, semicolon, star, dots, signed, const_word, short_word}
-use Rattle.ffi3_cdecl_rules.specs.Tokens.{int_word, long_word, char_word, is_letter, goes_on_word, word_of}
+use Rattle.ffi3_cdecl_rules.specs.Tokens.{int_word, long_word, char_word, union_word, enum_word}
+use Rattle.ffi3_cdecl_rules.specs.Tokens.{complex_word, attribute_word, other_keyword, is_letter, goes_on_word, word_of}
 use Rattle.ffi3_type_rules.specs.Signature.{Signature}
 
 -- a scalar, in front of other tokens
@@ -103,9 +104,14 @@ spelled short_word = codes "short"
 spelled int_word = codes "int"
 spelled long_word = codes "long"
 spelled int128_word = codes "__int128"
-spelled char_word = codes "char"
+spelled (char_word c) = codes "char"
 spelled void_word = codes "void"
 spelled struct_word = codes "struct"
+spelled union_word = codes "union"
+spelled enum_word = codes "enum"
+spelled complex_word = codes "_Complex"
+spelled attribute_word = codes "__attribute__"
+spelled other_keyword = codes "while"
 spelled (name bytes) = bytes
 spelled (number n) = decimal n
 spelled open_round = codes "("

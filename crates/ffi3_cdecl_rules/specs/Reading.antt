@@ -1,22 +1,26 @@
 -- What a text is read as: a declaration of a function whose signature has no fault, or the first fault: of token, of grammar, of number, of signature, in this order over the whole text.
-use Rattle.std.specs.Prelude.{◌≡◌, ℕ, Bool, false, cond, List, [], ◌∷◌, ◌++◌, length, Option, Some, None, nat_le}
-use Rattle.ffi3_cdecl_rules.specs.Tokens.{Token, number, Placed, tokens, bad_at, cut, TOO_GREAT}
-use Rattle.ffi3_cdecl_rules.specs.Grammar.{Declaration, IsDeclaration}
+use Rattle.std.specs.Prelude.{◌≡◌, ⊤, ℕ, Bool, false, cond, List, [], ◌∷◌, ◌++◌, length, Option, Some, None, nat_le}
+use Rattle.ffi3_cdecl_rules.specs.Tokens.{Dialect, plain, Sign, signed, Token, name, number, found, wide_word_at, Placed, tokens}
+use Rattle.ffi3_cdecl_rules.specs.Tokens.{bad_at, cut_in, cut, TOO_GREAT}
+use Rattle.ffi3_cdecl_rules.specs.Grammar.{Declaration, IsDeclarationIn}
 use Rattle.ffi3_type_rules.specs.Signature.{SignatureFault, SignatureHasNoFault, IsFirstSignatureFault}
 
 -- a declaration begins so
+abbrev pub IsViableIn : Dialect → List Token → Type 0
+IsViableIn r start =
+    (more : List Token) × (d : Declaration) × IsDeclarationIn r (start ++ more) d
+
 abbrev pub IsViable : List Token → Type 0
-IsViable start =
-    (more : List Token) × (d : Declaration) × IsDeclaration (start ++ more) d
+IsViable start = IsViableIn plain start
 
 -- What stands behind a beginning is unexpected: a token that no declaration has there, or the end of the text where it is no declaration yet.
-abbrev pub IsNotExpected : List Token → List Token → Type 0
-IsNotExpected start [] = (d : Declaration) → ¬ IsDeclaration start d
-IsNotExpected start (x ∷ xs) = ¬ IsViable (start ++ x ∷ [])
+abbrev pub IsNotExpected : Dialect → List Token → List Token → Type 0
+IsNotExpected r start [] = (d : Declaration) → ¬ IsDeclarationIn r start d
+IsNotExpected r start (x ∷ xs) = ¬ IsViableIn r (start ++ x ∷ [])
 
-pub record IsUnexpected (start rest : List Token) : Type 0 where
-  pub viable : IsViable start
-  pub not_expected : IsNotExpected start rest
+pub record IsUnexpected (r : Dialect) (start rest : List Token) : Type 0 where
+  pub viable : IsViableIn r start
+  pub not_expected : IsNotExpected r start rest
 
 abbrev pub tokens_of : List Placed → List Token
 tokens_of [] = []
@@ -43,19 +47,38 @@ pub data Outcome : Type 0 where
   bad_number : ℕ → Outcome
   bad_signature : SignatureFault → Outcome
 
-pub data IsReading (text : List ℕ) : Outcome → Type 0 where
-  has_bad_token : {at : ℕ} → cut text ≡ bad_at at → IsReading text (bad_token at)
+pub data IsReadingIn (r : Dialect) (c : Sign) (text : List ℕ) : Outcome → Type 0 where
+  has_bad_token : {at : ℕ} → cut_in r c text ≡ bad_at at → IsReadingIn r c text (bad_token at)
   has_unexpected : (start rest : List Placed)
-      → cut text ≡ tokens (start ++ rest) → IsUnexpected (tokens_of start) (tokens_of rest)
-      → IsReading text (unexpected (begins_at (length text) rest))
+      → cut_in r c text ≡ tokens (start ++ rest) → IsUnexpected r (tokens_of start) (tokens_of rest)
+      → IsReadingIn r c text (unexpected (begins_at (length text) rest))
   has_bad_number : {ps : List Placed} {at : ℕ} {d : Declaration}
-      → cut text ≡ tokens ps → IsDeclaration (tokens_of ps) d → first_too_great ps ≡ Some at
-      → IsReading text (bad_number at)
+      → cut_in r c text ≡ tokens ps → IsDeclarationIn r (tokens_of ps) d → first_too_great ps ≡ Some at
+      → IsReadingIn r c text (bad_number at)
   is_read : {ps : List Placed} {d : Declaration}
-      → cut text ≡ tokens ps → IsDeclaration (tokens_of ps) d → first_too_great ps ≡ None
+      → cut_in r c text ≡ tokens ps → IsDeclarationIn r (tokens_of ps) d → first_too_great ps ≡ None
       → SignatureHasNoFault d.signature
-      → IsReading text (reads d)
+      → IsReadingIn r c text (reads d)
   has_bad_signature : {ps : List Placed} {d : Declaration} {f : SignatureFault}
-      → cut text ≡ tokens ps → IsDeclaration (tokens_of ps) d → first_too_great ps ≡ None
+      → cut_in r c text ≡ tokens ps → IsDeclarationIn r (tokens_of ps) d → first_too_great ps ≡ None
       → IsFirstSignatureFault d.signature f
-      → IsReading text (bad_signature f)
+      → IsReadingIn r c text (bad_signature f)
+
+abbrev pub IsReading : List ℕ → Outcome → Type 0
+IsReading text o = IsReadingIn plain signed text o
+
+-- ---- texts that use no word of the wide reading as a name
+
+-- the wide reading has no word that is spelled so, as `restrict` or `while`
+abbrev pub StaysName : Token → Type 0
+StaysName (name word) =
+    (c : Sign) → wide_word_at c word 0 [] ≡ found (name word) 0
+StaysName x = ⊤
+
+abbrev pub NamesStay : List Token → Type 0
+NamesStay [] = ⊤
+NamesStay (x ∷ xs) = StaysName x × NamesStay xs
+
+abbrev pub UsesNoKeyword : List ℕ → Type 0
+UsesNoKeyword text =
+    (ps : List Placed) → cut text ≡ tokens ps → NamesStay (tokens_of ps)

@@ -1,12 +1,13 @@
 // Interfaces that handles keep.
 ghost use Rattle.std.specs.Prelude.{◌≡◌, IfOk, IfErr};
 ghost use Rattle.ffi3_type_rules.specs.Signature.{SignatureHasNoFault};
+ghost use Rattle.ffi3_capi.specs.Chars.{char_sign};
 ghost use Rattle.ffi3_capi.specs.DeclaredBy.{IsDeclaredBy, IsFaultBy};
 ghost use Rattle.ffi3_capi.specs.Placed.{IsPlaceRefusal};
 ghost use Rattle.ffi3_interface.specs.Keeping.{IsInterface, KeepsOf, Prepares, Shares};
 
 use ffi3_capi::codes::{DONE, NOT_PREPARED, OUT_OF_MEMORY};
-use ffi3_capi::declaration::declared;
+use ffi3_capi::declaration::declared_on;
 use ffi3_capi::{Declaration, FaultKind, Refusal, TextFault, fault_with, target_numbered};
 use ffi3_handle::{Handle, Kept};
 use ffi3_prepared::prepare_signature;
@@ -33,13 +34,13 @@ fn find_interface(
     target: u32,
     declaration: Declaration<'_>,
 ) -> Result<Box<Kept>, Refusal>
-    ensures ok { IfOk result (λ b. IsInterface (IsDeclaredBy declaration.entry) target b.value) }
-    ensures err { IfErr result (λ r. IsPlaceRefusal (IsFaultBy declaration.entry) target r) }
+    ensures ok { IfOk result (λ b. IsInterface (IsDeclaredBy (char_sign target) declaration.entry) target b.value) }
+    ensures err { IfErr result (λ r. IsPlaceRefusal (IsFaultBy (char_sign target) declaration.entry) target r) }
 {
     let Some(to) = target_numbered(target) else {
         return Err(Refusal::NoSuchTarget);
     };
-    let sig = match declared(alloc, declaration) {
+    let sig = match declared_on(alloc, target, declaration) {
         Ok(sig) => sig,
         Err(Some(fault)) => return Err(Refusal::Fault(fault)),
         Err(None) => return Err(Refusal::NoMemory),
@@ -58,7 +59,7 @@ pub fn prepare(
     it: &mut Handle,
     fault: &mut TextFault,
 ) -> u32
-    ensures { Prepares (IsDeclaredBy declaration.entry) (IsFaultBy declaration.entry) target it.old.kept result fault.new it.new.kept }
+    ensures { Prepares (IsDeclaredBy (char_sign target) declaration.entry) (IsFaultBy (char_sign target) declaration.entry) target it.old.kept result fault.new it.new.kept }
 {
     match find_interface(alloc, target, declaration) {
         Ok(kept) => {

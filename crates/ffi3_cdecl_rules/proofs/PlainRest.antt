@@ -1,9 +1,11 @@
--- What the grammar still wants in each state of the machine, for the declaration d.
-use Rattle.std.proofs.Common.{◌≡◌, ℕ, suc, ◌<◌, ◌⊎◌, Bool, true, false, List, [], ◌∷◌}
+-- What the grammar still wants in each state of the machine, for the declaration d, in the plain reading.
+use Rattle.std.proofs.Common.{◌≡◌, ℕ, suc, ◌<◌, ◌⊎◌, List, [], ◌∷◌, Option, None}
+use Rattle.std.specs.Prelude.{⊤}
 use Rattle.ffi3_type_rules.specs.Tree.{Scalar, Tree, void, scalar, struct_of}
-use Rattle.ffi3_cdecl_rules.specs.Tokens.{Token, name, number, open_round, close_round, open_curly, close_curly, close_square, comma, dots}
-use Rattle.ffi3_cdecl_rules.specs.Grammar.{Kind, whole, bare, nothing, MOST_OPEN, pointer_type, short_of, long_of, Head, Declaration, declared, IsIntOrNot, IsLongTail, IsSigned, IsStars, IsCounts, IsBase, IsQualified, IsMembers, IsParameters, IsParameterList, IsEnd}
-use Rattle.ffi3_cdecl_rules.specs.Machine.{Where, at_result, at_parameter, at_member, depth, onto, arrays, State, wants_type, wants_base, after_sign, after_short, after_long, after_long_long, after_struct, wants_star, sole_void, typed, named, opened, parameter_named, after_comma, after_dots, member_named, wants_count, counted, after_member, closed, ended, dead}
+use Rattle.ffi3_cdecl_rules.specs.Tokens.{plain, Token, name, number, open_round, close_round, open_curly, close_curly, close_square}
+use Rattle.ffi3_cdecl_rules.specs.Grammar.{Kind, whole, bare, nothing, MOST_OPEN, pointer_type, short_of, long_of, Declaration, IsIntOrNot, IsLongTail, IsSigned, IsStars, IsCounts, IsBase, IsQualified, IsMembers, IsEnd}
+use Rattle.ffi3_cdecl_rules.specs.Machine.{unstarred, Head, declared_by, Where, at_result, at_parameter, at_member, at_inner, depth, onto, arrays, State, wants_type, wants_base, after_sign, after_short, after_long, after_long_long, after_struct, wants_star, sole_void, typed, named, opened, parameter_named, after_comma, after_dots, member_named, wants_count, counted, after_member, closed, ended, dead}
+use Rattle.ffi3_cdecl_rules.proofs.Lists.{NextFollows, CloseFollows, ListFollows}
 
 -- no token is left
 pub data IsOver : List Token → Type 0 where
@@ -20,7 +22,7 @@ MaybeStarred F t ts = F t ts ⊎ Starred F ts
 
 -- members are there behind so many, in a struct inside n others
 pub data SomeMembers (F : Tree → List Token → Type 0) (n : ℕ) (ts : List Tree) (xs : List Token) : Type 0 where
-  some_members : {behind : List Token} {ms : List Tree} → IsMembers (suc n) xs behind ms → MaybeStarred F (struct_of (onto ts ms)) behind → SomeMembers F n ts xs
+  some_members : {behind : List Token} {ms : List Tree} → IsMembers plain (suc n) xs behind ms → MaybeStarred F (struct_of (onto ts ms)) behind → SomeMembers F n ts xs
 
 -- what follows there
 pub data MembersFollow (F : Tree → List Token → Type 0) (n : ℕ) (ts : List Tree) : List Token → Type 0 where
@@ -42,36 +44,26 @@ pub data CountFollows (F : Tree → List Token → Type 0) (n : ℕ) (ts : List 
   a_number : {xs : List Token} {k : ℕ} → SquareFollows F n ts (k ∷ ns) t xs → CountFollows F n ts ns t (number k ∷ xs)
 
 module _ (d : Declaration) where
-  pub data ListFollows (head : Head) (xs : List Token) : Type 0 where
-    list_follows : {behind : List Token} {ts : List Tree} {variadic : Bool} → IsParameterList xs behind ts variadic → IsEnd behind → declared head ts variadic ≡ d → ListFollows head xs
+  -- behind the ")" of the parameters
+  abbrev pub E : Head → List Tree → Option ℕ → List Token → Type 0
+  E head ts fixed xs = IsEnd xs × (declared_by head ts fixed ≡ d)
 
   pub data RoundFollows (head : Head) : List Token → Type 0 where
-    round : {xs : List Token} → ListFollows head xs → RoundFollows head (open_round ∷ xs)
+    round : {xs : List Token} → ListFollows plain E head xs → RoundFollows head (open_round ∷ xs)
 
   pub data NameFollows (t : Tree) : List Token → Type 0 where
-    by_function : {xs : List Token} {called : List ℕ} → RoundFollows (record { called = called; result_type = t }) xs → NameFollows t (name called ∷ xs)
-
-  pub data ParametersFollow (head : Head) (ts : List Tree) (xs : List Token) : Type 0 where
-    parameters_follow : {behind : List Token} {us : List Tree} {variadic : Bool} → IsParameters xs behind us variadic → IsEnd behind → declared head (onto ts us) variadic ≡ d → ParametersFollow head ts xs
-
-  -- behind a comma of the parameters
-  pub data NextFollows (head : Head) (ts : List Tree) : List Token → Type 0 where
-    the_dots : {xs : List Token} → IsEnd xs → declared head (onto ts []) true ≡ d → NextFollows head ts (dots ∷ close_round ∷ xs)
-    the_next : {xs : List Token} → ParametersFollow head ts xs → NextFollows head ts xs
-
-  -- behind a parameter and its name
-  pub data CloseFollows (head : Head) (ts : List Tree) : List Token → Type 0 where
-    closes : {xs : List Token} → IsEnd xs → declared head (onto ts []) false ≡ d → CloseFollows head ts (close_round ∷ xs)
-    goes_on : {xs : List Token} → NextFollows head ts xs → CloseFollows head ts (comma ∷ xs)
+    by_function : {xs : List Token} {called : List ℕ} → RoundFollows (record { called = called; result_type = t; fixed = None; round = unstarred 0 }) xs → NameFollows t (name called ∷ xs)
 
   pub data ParameterFollows (head : Head) (ts : List Tree) : List Token → Type 0 where
-    unnamed : {xs : List Token} → CloseFollows head ts xs → ParameterFollows head ts xs
-    by_parameter : {xs : List Token} {called : List ℕ} → CloseFollows head ts xs → ParameterFollows head ts (name called ∷ xs)
+    unnamed : {xs : List Token} → CloseFollows plain E head ts head.fixed xs → ParameterFollows head ts xs
+    by_parameter : {xs : List Token} {called : List ℕ} → CloseFollows plain E head ts head.fixed xs → ParameterFollows head ts (name called ∷ xs)
 
+  -- the plain reading has no list that is not kept
   abbrev pub Follows : Where → Tree → List Token → Type 0
   Follows at_result t xs = NameFollows t xs
   Follows (at_parameter head ts) t xs = ParameterFollows head (t ∷ ts) xs
   Follows (at_member ts w) t xs = MemberFollows (Follows w) (depth w) ts t xs
+  Follows (at_inner u) t xs = ⊤
 
   -- behind a base of a kind
   abbrev pub KindFollows : Kind → Where → List Token → Type 0
@@ -82,27 +74,28 @@ module _ (d : Declaration) where
       Starred (Follows (at_parameter head ts)) xs
   KindFollows nothing (at_member ts w) xs =
       Starred (Follows (at_member ts w)) xs
+  KindFollows nothing (at_inner u) xs = Starred (Follows (at_inner u)) xs
 
   abbrev pub BaseFollows : Where → List Token → Type 0
   BaseFollows w xs =
-      (behind : List Token) × (k : Kind) × IsBase (depth w) xs behind k × KindFollows k w behind
+      (behind : List Token) × (k : Kind) × IsBase plain (depth w) xs behind k × KindFollows k w behind
 
   abbrev pub TypeFollows : Where → List Token → Type 0
   TypeFollows w xs =
-      (behind : List Token) × (k : Kind) × IsQualified (depth w) xs behind k × KindFollows k w behind
+      (behind : List Token) × (k : Kind) × IsQualified plain (depth w) xs behind k × KindFollows k w behind
 
   pub data StructFollows (w : Where) : List Token → Type 0 where
     a_tag_follows : {xs : List Token} {tag : List ℕ} → Starred (Follows w) xs → StructFollows w (name tag ∷ xs)
-    members_follow : {xs behind : List Token} {ms : List Tree} → depth w < MOST_OPEN → IsMembers (suc (depth w)) xs behind ms → MaybeStarred (Follows w) (struct_of ms) behind → StructFollows w (open_curly ∷ xs)
+    members_follow : {xs behind : List Token} {ms : List Tree} → depth w < MOST_OPEN → IsMembers plain (suc (depth w)) xs behind ms → MaybeStarred (Follows w) (struct_of ms) behind → StructFollows w (open_curly ∷ xs)
 
   pub data VoidFollows (head : Head) : List Token → Type 0 where
-    void_closes : {xs : List Token} → IsEnd xs → declared head [] false ≡ d → VoidFollows head (close_round ∷ xs)
+    void_closes : {xs : List Token} → E head [] None xs → VoidFollows head (close_round ∷ xs)
     void_pointer : {xs : List Token} → Starred (Follows (at_parameter head [])) xs → VoidFollows head xs
 
   pub data EndFollows (e : Declaration) : List Token → Type 0 where
     end_follows : {xs : List Token} → IsEnd xs → e ≡ d → EndFollows e (close_round ∷ xs)
 
-  -- what is still wanted in a state
+  -- what is still wanted in a state; of those of the wide reading alone nothing is said
   abbrev pub Rest : State → List Token → Type 0
   Rest (wants_type w) xs = TypeFollows w xs
   Rest (wants_base w) xs = BaseFollows w xs
@@ -119,9 +112,9 @@ module _ (d : Declaration) where
   Rest (sole_void head) xs = VoidFollows head xs
   Rest (typed t w) xs = MaybeStarred (Follows w) t xs
   Rest (named head) xs = RoundFollows head xs
-  Rest (opened head) xs = ListFollows head xs
-  Rest (parameter_named head ts) xs = CloseFollows head ts xs
-  Rest (after_comma head ts) xs = NextFollows head ts xs
+  Rest (opened head) xs = ListFollows plain E head xs
+  Rest (parameter_named head ts) xs = CloseFollows plain E head ts head.fixed xs
+  Rest (after_comma head ts) xs = NextFollows plain E head ts head.fixed xs
   Rest (after_dots e) xs = EndFollows e xs
   Rest (member_named t ns ts w) xs = CountsFollow (Follows w) (depth w) ts ns t xs
   Rest (wants_count t ns ts w) xs = CountFollows (Follows w) (depth w) ts ns t xs
@@ -130,3 +123,4 @@ module _ (d : Declaration) where
   Rest (closed e) xs = IsEnd xs × (e ≡ d)
   Rest (ended e) xs = IsOver xs × (e ≡ d)
   Rest dead xs = ⊥
+  Rest s xs = ⊤
