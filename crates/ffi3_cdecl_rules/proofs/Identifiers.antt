@@ -117,7 +117,7 @@ passes_if : (test : ℕ → Bool) (b : ℕ) (bs : List ℕ) (is : Bool) → test
 passes_if test b bs true same rest = ap (λ (x : Bool). x && passes test bs) same ∙ rest
 passes_if test b bs false same rest = refl
 
-front_passes : (test : ℕ → Bool) (bs : List ℕ) → passes test (front test bs) ≡ true
+pub front_passes : (test : ℕ → Bool) (bs : List ℕ) → passes test (front test bs) ≡ true
 front_passes test [] = refl
 front_passes test (b ∷ bs) = passes_if test b (front test bs) (test b) refl (front_passes test bs)
 

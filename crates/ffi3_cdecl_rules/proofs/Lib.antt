@@ -23,5 +23,8 @@ pub mod SpokenTexts
 pub mod Widened
 pub mod Readings
 pub mod Identifiers
+pub mod WideNames
+pub mod PrototypeTexts
+pub mod Prototypes
 mod Rows
 mod WideRows

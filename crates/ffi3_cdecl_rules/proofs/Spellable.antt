@@ -202,14 +202,14 @@ values_spellable [] h = tt
 values_spellable (t ∷ ts) h =
     (value_spellable t (h 0 (omega arith)), values_spellable ts (λ i below. h (suc i) (omega arith)))
 
+pub spellable_result : (s : Signature) → SignatureHasNoFault s → IsSpellableResult s.result_type
+spellable_result s right = result_spellable s.result_type (result_is_right s right)
+
+pub spellable_arguments : (s : Signature) → SignatureHasNoFault s → AreSpellableValues s.arguments
+spellable_arguments s right =
+    values_spellable s.arguments (argument_is_right s right)
+
 module _ (s : Signature) (right : SignatureHasNoFault s) (all : FixesAll s) where
-  pub spellable_result : IsSpellableResult s.result_type
-  spellable_result = result_spellable s.result_type (result_is_right s right)
-
-  pub spellable_arguments : AreSpellableValues s.arguments
-  spellable_arguments =
-      values_spellable s.arguments (argument_is_right s right)
-
   may_be_variadic : (ts : List Tree) (o : Option ℕ) → s.arguments ≡ ts → s.fixed ≡ o → MayBeVariadic ts (is_some o)
   may_be_variadic [] None e f = tt
   may_be_variadic [] (Some n) e f =

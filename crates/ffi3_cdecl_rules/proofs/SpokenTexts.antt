@@ -14,11 +14,11 @@ use Rattle.ffi3_cdecl_rules.proofs.Written.{declaration_written}
 
 -- ---- each token
 
-open_round_spoken : Spoken open_round
+pub open_round_spoken : Spoken open_round
 open_round_spoken =
     record { first = 40; more = []; spelt = refl; alone = λ rest apart. refl; small = refl }
 
-close_round_spoken : Spoken close_round
+pub close_round_spoken : Spoken close_round
 close_round_spoken =
     record { first = 41; more = []; spelt = refl; alone = λ rest apart. refl; small = refl }
 
@@ -38,11 +38,11 @@ close_square_spoken : Spoken close_square
 close_square_spoken =
     record { first = 93; more = []; spelt = refl; alone = λ rest apart. refl; small = refl }
 
-comma_spoken : Spoken comma
+pub comma_spoken : Spoken comma
 comma_spoken =
     record { first = 44; more = []; spelt = refl; alone = λ rest apart. refl; small = refl }
 
-semicolon_spoken : Spoken semicolon
+pub semicolon_spoken : Spoken semicolon
 semicolon_spoken =
     record { first = 59; more = []; spelt = refl; alone = λ rest apart. refl; small = refl }
 
@@ -50,7 +50,7 @@ star_spoken : Spoken star
 star_spoken =
     record { first = 42; more = []; spelt = refl; alone = λ rest apart. refl; small = refl }
 
-dots_spoken : Spoken dots
+pub dots_spoken : Spoken dots
 dots_spoken =
     record { first = 46; more = 46 ∷ 46 ∷ []; spelt = refl; alone = λ rest apart. refl; small = refl }
 
@@ -125,7 +125,7 @@ scalar_spoken float rest h = (float_spoken, h)
 scalar_spoken double rest h = (double_spoken, h)
 scalar_spoken pointer rest h = (void_spoken, (star_spoken, h))
 
-identifier_of : (word bytes : List ℕ) → word ≡ bytes → IsIdentifierOf word bytes → Spoken (name word)
+pub identifier_of : (word bytes : List ℕ) → word ≡ bytes → IsIdentifierOf word bytes → Spoken (name word)
 identifier_of word [] e h = absurd h
 identifier_of word (b ∷ bs) e h =
     word_spoken (name word) b bs e h.0 h.1 (ap word_of (sym e) ∙ h.2) refl refl
@@ -168,14 +168,14 @@ mutual
   more_members_spoken d i (tree t ts) h rest r =
       type_spoken d t h.1 _ (member_name_spoken i h.0, counts_spoken d t h.1 _ (semicolon_spoken, more_members_spoken d (i + 1) ts h.2 rest r))
 
-value_spoken : (t : Tree) → IsSpellableValue t → (rest : List Token) → AllSpoken rest → AllSpoken (type_tokens t rest)
+pub value_spoken : (t : Tree) → IsSpellableValue t → (rest : List Token) → AllSpoken rest → AllSpoken (type_tokens t rest)
 value_spoken void h rest r = absurd h
 value_spoken (scalar s) h rest r = scalar_spoken s rest r
 value_spoken (left_out k) h rest r = absurd h
 value_spoken (structure ts) h rest r = type_spoken 0 (structure ts) h rest r
 value_spoken (array ts n) h rest r = absurd h
 
-result_spoken : (t : Tree) → IsSpellableResult t → (rest : List Token) → AllSpoken rest → AllSpoken (type_tokens t rest)
+pub result_spoken : (t : Tree) → IsSpellableResult t → (rest : List Token) → AllSpoken rest → AllSpoken (type_tokens t rest)
 result_spoken void h rest r = (void_spoken, r)
 result_spoken (scalar s) h rest r = scalar_spoken s rest r
 result_spoken (left_out k) h rest r = absurd h
@@ -192,14 +192,14 @@ more_spoken [] variadic rest h r = end_spoken variadic rest r
 more_spoken (t ∷ ts) variadic rest h r =
     (comma_spoken, value_spoken t h.0 _ (more_spoken ts variadic rest h.1 r))
 
-list_spoken : (ts : List Tree) (variadic : Bool) (rest : List Token) → AreSpellableValues ts → AllSpoken rest → AllSpoken (parameter_tokens ts variadic rest)
+pub list_spoken : (ts : List Tree) (variadic : Bool) (rest : List Token) → AreSpellableValues ts → AllSpoken rest → AllSpoken (parameter_tokens ts variadic rest)
 list_spoken [] variadic rest h r = (void_spoken, (close_round_spoken, r))
 list_spoken (t ∷ ts) variadic rest h r =
     value_spoken t h.0 _ (more_spoken ts variadic rest h.1 r)
 
 declaration_spoken : (called : List ℕ) (s : Signature) → IsIdentifier called → SignatureHasNoFault s → FixesAll s → AllSpoken (declaration_tokens called s)
 declaration_spoken called s word right all =
-    result_spoken s.result_type (spellable_result s right all) _ (identifier_of called called refl word, (open_round_spoken, list_spoken s.arguments (is_some s.fixed) (semicolon ∷ []) (spellable_arguments s right all) (semicolon_spoken, tt)))
+    result_spoken s.result_type (spellable_result s right) _ (identifier_of called called refl word, (open_round_spoken, list_spoken s.arguments (is_some s.fixed) (semicolon ∷ []) (spellable_arguments s right) (semicolon_spoken, tt)))
 
 -- ---- the whole
 

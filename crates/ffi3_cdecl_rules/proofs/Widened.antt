@@ -4,31 +4,31 @@ use Rattle.std.specs.Prelude.{⊤, ◌==◌, bytes_eq}
 use Rattle.std.proofs.lemmas.Bool.{eqb-true}
 use Rattle.std.proofs.lemmas.Slice.Eq.{bytes_eq-Decides}
 use Rattle.ffi3_type_rules.specs.Tree.{Scalar, Tree, void, scalar, array_of}
-use Rattle.ffi3_cdecl_rules.specs.Tokens.{plain, wide, Token, Sign, signed, unsigned, sign_word, const_word, short_word, int_word, long_word, int128_word, char_word, semicolon, name, number, dots, words, blank_words, word_among, word_of, is_among, is_blank, is_letter, is_digit, goes_on_word, front, with_digits, Found, blank, skipped, nothing_known, found, number_at, dots_at, marks, mark_among, comment_at, found_at, wide_found_at, Placed, Cut, tokens, bad_at, before, bytes_more, cut_from, wide_words, close_curly, attribute_word, attribute_words, assembler_words, attribute_at, are_silent, begins_string, wide_word_at}
-use Rattle.ffi3_cdecl_rules.specs.Grammar.{Kind, whole, bare, nothing, pointer_type, no_int, with_int, one_long, two_longs, IsSized, a_short, an_int, a_long, an_int128, IsSigned, sign_alone, sign_of_char, sign_of_size, IsStars, one_star, more_stars, IsCounts, no_count, a_count, specifier_number, named_by, AreSpecifiers, no_more_words, a_word, Shape, a_value, an_array, handed, pointer_shape, array_shape, member_type, Naming, opens_round, the_name, IsBase, by_word, by_size, by_sign, a_char, by_specifiers, a_void, a_tag, a_union, an_enum, a_name, a_struct, a_tagged_struct, IsQualified, unqualified, constant, itself, pointer_to, IsSuffixes, no_suffix, known_array, IsDeclarator, a_pointer, a_named, unnamed, a_member, one_declared, then_members, IsMembers, last_member, next_member, of_a_base, IsParameter, without_name, with_name, a_declared_one, IsParameters, last_parameter, last_before_dots, before_types, next_parameter, IsParameterList, no_parameters, only_void, some_parameters, a_result, no_result, Function, IsFunction, returns_pointer, a_function_here, IsEnd, no_semicolon, one_semicolon, Declaration, IsDeclarationIn, declares, declares_by, char_of, must_be_named, may_be_named, declared}
+use Rattle.ffi3_cdecl_rules.specs.Tokens.{plain, wide, Token, Sign, signed, unsigned, sign_word, const_word, short_word, int_word, long_word, int128_word, char_word, semicolon, name, number, open_round, dots, words, blank_words, word_among, word_of, is_among, is_blank, is_letter, is_digit, goes_on_word, front, with_digits, Found, blank, skipped, nothing_known, found, number_at, dots_at, marks, mark_among, comment_at, found_at, wide_found_at, Placed, Cut, tokens, bad_at, before, bytes_more, cut_from, wide_words, close_curly, attribute_word, attribute_words, assembler_words, attribute_at, are_silent, begins_string, wide_word_at}
+use Rattle.ffi3_cdecl_rules.specs.Grammar.{Kind, whole, bare, nothing, pointer_type, no_int, with_int, one_long, two_longs, IsSized, a_short, an_int, a_long, an_int128, IsSigned, sign_alone, sign_of_char, sign_of_size, IsStars, one_star, more_stars, IsCounts, no_count, a_count, specifier_number, named_by, AreSpecifiers, no_more_words, a_word, Shape, a_value, an_array, handed, pointer_shape, array_shape, member_type, Naming, opens_round, the_name, IsBase, by_word, by_size, by_sign, a_char, by_specifiers, a_void, a_tag, a_union, an_enum, a_name, a_struct, a_tagged_struct, IsQualified, unqualified, constant, itself, pointer_to, IsSuffixes, no_suffix, known_array, IsDeclarator, a_pointer, a_named, unnamed, a_member, one_declared, then_members, IsMembers, last_member, next_member, of_a_base, IsParameter, without_name, with_name, a_declared_one, IsParameters, last_parameter, last_before_dots, before_types, next_parameter, IsParameterList, no_parameters, only_void, some_parameters, IsResult, a_result, no_result, Function, IsFunction, returns_pointer, a_function_here, IsEnd, no_semicolon, one_semicolon, Declaration, IsDeclarationIn, declares, declares_by, char_of, must_be_named, may_be_named, declared}
 use Rattle.ffi3_cdecl_rules.specs.Reading.{tokens_of, is_too_great, first_too_great, IsReadingIn, reads, is_read, StaysName, NamesStay, UsesNoKeyword}
 use Rattle.ffi3_cdecl_rules.proofs.Spoken.{letter_no_blank}
 
 module _ (char_sign : Sign) where
   -- ---- tokens without `const`, where `char` is signed or not
 
-  abbrev is_const : Token → Bool
+  abbrev pub is_const : Token → Bool
   is_const const_word = true
   is_const x = false
 
-  abbrev as_wide : Token → Token
+  abbrev pub as_wide : Token → Token
   as_wide (char_word g) = char_word char_sign
   as_wide x = x
 
-  abbrev without_const : List Token → List Token
+  abbrev pub without_const : List Token → List Token
   without_const [] = []
   without_const (x ∷ xs) =
       cond (is_const x) (without_const xs) (as_wide x ∷ without_const xs)
 
-  abbrev place_as_wide : Placed → Placed
+  abbrev pub place_as_wide : Placed → Placed
   place_as_wide p = record { at = p.at; token = as_wide p.token }
 
-  abbrev places_without_const : List Placed → List Placed
+  abbrev pub places_without_const : List Placed → List Placed
   places_without_const [] = []
   places_without_const (p ∷ ps) =
       cond (is_const p.token) (places_without_const ps) (place_as_wide p ∷ places_without_const ps)
@@ -37,7 +37,7 @@ module _ (char_sign : Sign) where
   without_first true p ps xs e = e
   without_first false p ps xs e = ap (λ ts. p.token ∷ ts) e
 
-  same_tokens : (ps : List Placed) → tokens_of (places_without_const ps) ≡ without_const (tokens_of ps)
+  pub same_tokens : (ps : List Placed) → tokens_of (places_without_const ps) ≡ without_const (tokens_of ps)
   same_tokens [] = refl
   same_tokens (p ∷ ps) =
       without_first (is_const p.token) (place_as_wide p) (places_without_const ps) (without_const (tokens_of ps)) (same_tokens ps)
@@ -55,7 +55,7 @@ module _ (char_sign : Sign) where
   first_few true at rest e = absurd (cc)
   first_few false at rest e = (refl, e)
 
-  few : (ps : List Placed) → first_too_great ps ≡ None → first_too_great (places_without_const ps) ≡ None
+  pub few : (ps : List Placed) → first_too_great ps ≡ None → first_too_great (places_without_const ps) ≡ None
   few [] e = refl
   few (p ∷ ps) e =
       let parts = first_few (is_too_great p.token) p.at (first_too_great ps) e in
@@ -187,11 +187,11 @@ module _ (char_sign : Sign) where
 
   -- ---- the tokens of a text
 
-  abbrev wider_cut : Cut → Cut
+  abbrev pub wider_cut : Cut → Cut
   wider_cut (tokens ps) = tokens (places_without_const ps)
   wider_cut (bad_at at) = bad_at at
 
-  abbrev IsFine : Cut → Type 0
+  abbrev pub IsFine : Cut → Type 0
   IsFine (tokens ps) = NamesStay (tokens_of ps)
   IsFine (bad_at at) = ⊥
 
@@ -217,7 +217,7 @@ module _ (char_sign : Sign) where
   fine_behind (found x n) at (tokens ps) fine = fine
   fine_behind (found x n) at (bad_at there) fine = absurd fine
 
-  cut_wider : (at inside : ℕ) (bs : List ℕ) → IsFine (cut_from plain signed at inside bs) → cut_from wide char_sign at inside bs ≡ wider_cut (cut_from plain signed at inside bs)
+  pub cut_wider : (at inside : ℕ) (bs : List ℕ) → IsFine (cut_from plain signed at inside bs) → cut_from wide char_sign at inside bs ≡ wider_cut (cut_from plain signed at inside bs)
   cut_wider at inside [] fine = refl
   cut_wider at zero (b ∷ bs) fine =
       let f : Found = found_at b bs in
@@ -399,7 +399,7 @@ module _ (char_sign : Sign) where
         next_member_of (qualified_wider q) (λ l. stars_before s (a_named w.1)) w.2 (members_wider ms)
     members_wider (of_a_base p q ms) = absurd (plain_is_not_wide p)
 
-  parameter_wider : {before after : List Token} {t : Tree} → opens_round (without_const after) ≡ false → IsParameter plain before after t → IsParameter wide (without_const before) (without_const after) t
+  pub parameter_wider : {before after : List Token} {t : Tree} → opens_round (without_const after) ≡ false → IsParameter plain before after t → IsParameter wide (without_const before) (without_const after) t
   parameter_wider e (without_name p (itself q)) =
       a_declared_one refl (whole_wider (qualified_wider q)) (unnamed e no_suffix) refl
   parameter_wider e (without_name p (pointer_to q s)) =
@@ -418,7 +418,7 @@ module _ (char_sign : Sign) where
   parameters_wider (next_parameter p ps) =
       next_parameter (parameter_wider refl p) (parameters_wider ps)
 
-  list_wider : {before after : List Token} {ts : List Tree} {f : Option ℕ} → IsParameterList plain before after ts f → IsParameterList wide (without_const before) (without_const after) ts f
+  pub list_wider : {before after : List Token} {ts : List Tree} {f : Option ℕ} → IsParameterList plain before after ts f → IsParameterList wide (without_const before) (without_const after) ts f
   list_wider no_parameters = no_parameters
   list_wider only_void = only_void
   list_wider (some_parameters ps) = some_parameters (parameters_wider ps)
@@ -431,13 +431,18 @@ module _ (char_sign : Sign) where
   function_of called t ts f =
       record { called = called; result_type = t; parameters = ts; fixed = f }
 
+  -- a result of the plain reading, before parameters of the wide one
+  pub function_wider : {before middle after : List Token} {called : List ℕ} {t : Tree} {us : List Tree} {f : Option ℕ} → IsResult plain before (name called ∷ open_round ∷ middle) t → IsParameterList wide (without_const middle) after us f → IsEnd after → IsDeclarationIn wide (without_const before) (declared called t us f)
+  function_wider {called = called} {t = t} {us = us} {f = f} (a_result (itself q)) l e =
+      declares_by {f = function_of called t us f} refl (whole_wider (qualified_wider q)) (a_function_here the_name refl l) e
+  function_wider {called = called} {us = us} {f = f} (a_result (pointer_to q s)) l e =
+      function_by {f = function_of called pointer_type us f} (qualified_wider q) (λ k. stars_function s (a_function_here the_name refl l)) e
+  function_wider {called = called} {us = us} {f = f} (no_result q) l e =
+      declares_by {f = function_of called void us f} refl (nothing_wider (qualified_wider q)) (a_function_here the_name refl l) e
+
   declaration_wider : {ts : List Token} {d : Declaration} → IsDeclarationIn plain ts d → IsDeclarationIn wide (without_const ts) d
-  declaration_wider (declares {called = called} {result = t} {ts = us} {fixed = f} p (a_result (itself q)) l e) =
-      declares_by {f = function_of called t us f} refl (whole_wider (qualified_wider q)) (a_function_here the_name refl (list_wider l)) (end_wider e)
-  declaration_wider (declares {called = called} {ts = us} {fixed = f} p (a_result (pointer_to q s)) l e) =
-      function_by {f = function_of called pointer_type us f} (qualified_wider q) (λ k. stars_function s (a_function_here the_name refl (list_wider l))) (end_wider e)
-  declaration_wider (declares {called = called} {ts = us} {fixed = f} p (no_result q) l e) =
-      declares_by {f = function_of called void us f} refl (nothing_wider (qualified_wider q)) (a_function_here the_name refl (list_wider l)) (end_wider e)
+  declaration_wider (declares p result l e) =
+      function_wider result (list_wider l) (end_wider e)
   declaration_wider (declares_by p q f e) = absurd (plain_is_not_wide p)
 
   -- WHAT IS READ IN THE PLAIN READING IS READ ALIKE IN THE WIDE ONE

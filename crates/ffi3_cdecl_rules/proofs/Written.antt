@@ -72,7 +72,7 @@ mutual
   more_members_written d i (tree t ts) h rest m =
       next_member m (more_members_written d (i + 1) ts h.2 rest (a_member refl (member_type_written d t h.1 _) (counts_written d t h.1 _)))
 
-value_written : (t : Tree) → IsSpellableValue t → (rest : List Token) → IsType plain 0 (type_tokens t rest) rest t
+pub value_written : (t : Tree) → IsSpellableValue t → (rest : List Token) → IsType plain 0 (type_tokens t rest) rest t
 value_written void h rest = absurd h
 value_written (scalar s) h rest = scalar_written 0 s rest
 value_written (left_out k) h rest = absurd h
@@ -80,7 +80,7 @@ value_written (structure ts) h rest =
     struct_written ts h.0 (members_written 1 ts h.1 rest)
 value_written (array ts n) h rest = absurd h
 
-result_written : (t : Tree) → IsSpellableResult t → (rest : List Token) → IsResult plain (type_tokens t rest) rest t
+pub result_written : (t : Tree) → IsSpellableResult t → (rest : List Token) → IsResult plain (type_tokens t rest) rest t
 result_written void h rest = no_result (unqualified a_void)
 result_written (scalar s) h rest = a_result (scalar_written 0 s rest)
 result_written (left_out k) h rest = absurd h
@@ -106,7 +106,7 @@ parameters_written [] variadic rest h p = last_written variadic rest p
 parameters_written (u ∷ ts) {before = xs} {t = t} variadic rest h p =
     subst (λ f. IsParameters plain xs rest (t ∷ u ∷ ts) f) (one_more variadic (suc (length ts))) (next_parameter p (parameters_written ts variadic rest h.1 (without_name refl (value_written u h.0 (more_parameter_tokens ts variadic rest)))))
 
-list_written : (ts : List Tree) (variadic : Bool) (rest : List Token) → AreSpellableValues ts → MayBeVariadic ts variadic → IsParameterList plain (parameter_tokens ts variadic rest) rest ts (dots_behind variadic (length ts))
+pub list_written : (ts : List Tree) (variadic : Bool) (rest : List Token) → AreSpellableValues ts → MayBeVariadic ts variadic → IsParameterList plain (parameter_tokens ts variadic rest) rest ts (dots_behind variadic (length ts))
 list_written [] true rest h v = absurd v
 list_written [] false rest h v = only_void
 list_written (t ∷ ts) variadic rest h v =
@@ -119,4 +119,4 @@ fixed_is (Some n) count all = ap Some (sym (all n refl))
 
 pub declaration_written : (called : List ℕ) (s : Signature) → SignatureHasNoFault s → FixesAll s → IsDeclaration (declaration_tokens called s) (record { called = called; signature = s })
 declaration_written called s right all =
-    subst (λ o. IsDeclaration (declaration_tokens called s) (record { called = called; signature = record { result_type = s.result_type; arguments = s.arguments; fixed = o } })) (fixed_is s.fixed (length s.arguments) all) (declares refl (result_written s.result_type (spellable_result s right all) (name called ∷ open_round ∷ parameter_tokens s.arguments (is_some s.fixed) (semicolon ∷ []))) (list_written s.arguments (is_some s.fixed) (semicolon ∷ []) (spellable_arguments s right all) (spellable_dots s right all)) one_semicolon)
+    subst (λ o. IsDeclaration (declaration_tokens called s) (record { called = called; signature = record { result_type = s.result_type; arguments = s.arguments; fixed = o } })) (fixed_is s.fixed (length s.arguments) all) (declares refl (result_written s.result_type (spellable_result s right) (name called ∷ open_round ∷ parameter_tokens s.arguments (is_some s.fixed) (semicolon ∷ []))) (list_written s.arguments (is_some s.fixed) (semicolon ∷ []) (spellable_arguments s right) (spellable_dots s right all)) one_semicolon)

@@ -5,3 +5,4 @@ pub mod Machine
 pub mod OnePass
 pub mod Canonical
 pub mod Laws
+pub mod Prototype
