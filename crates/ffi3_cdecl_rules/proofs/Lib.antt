@@ -23,5 +23,10 @@ pub mod SpokenTexts
 pub mod Widened
 pub mod Readings
 pub mod Identifiers
+pub mod Followed
+pub mod Expecting
+pub mod Tracking
+pub mod Told
 mod Rows
 mod WideRows
+mod ToldRows

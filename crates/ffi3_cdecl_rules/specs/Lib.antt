@@ -5,3 +5,7 @@ pub mod Machine
 pub mod OnePass
 pub mod Canonical
 pub mod Laws
+pub mod Expected
+pub mod Reasons
+pub mod Telling
+pub mod FaultLaws
