@@ -26,5 +26,10 @@ pub mod Identifiers
 pub mod WideNames
 pub mod PrototypeTexts
 pub mod Prototypes
+pub mod Followed
+pub mod Expecting
+pub mod Tracking
+pub mod Told
 mod Rows
 mod WideRows
+mod ToldRows

@@ -23,11 +23,11 @@ module _ (r : Dialect) (g : Sign) where
 
   -- ---- beginnings
 
-  viable_lives : (start : List Token) → IsViableIn r start → is_dead (after r begun start) ≡ false
+  pub viable_lives : (start : List Token) → IsViableIn r start → is_dead (after r begun start) ≡ false
   viable_lives start v =
       live r (after r begun start) v.0 v.1 (subst (λ s. finish s ≡ Some v.1) (after-append r begun start v.0) (accepted r v.2))
 
-  lives_viable : (start : List Token) → is_dead (after r begun start) ≡ false → IsViableIn r start
+  pub lives_viable : (start : List Token) → is_dead (after r begun start) ≡ false → IsViableIn r start
   lives_viable start e =
       let c : Completion r (after r begun start) = completion r (after r begun start) e in
       (c.0, c.1, declaration_of r c.1 (start ++ c.0) (subst (λ s. finish s ≡ Some c.1) (sym (after-append r begun start c.0)) c.2))

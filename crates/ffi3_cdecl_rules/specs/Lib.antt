@@ -6,3 +6,7 @@ pub mod OnePass
 pub mod Canonical
 pub mod Laws
 pub mod Prototype
+pub mod Expected
+pub mod Reasons
+pub mod Telling
+pub mod FaultLaws
