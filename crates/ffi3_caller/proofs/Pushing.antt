@@ -26,7 +26,7 @@ use Rattle.ffi3_machine.specs.State.{State, image_of, linked_stack, stack_at}
 use Rattle.ffi3_pieces.specs.Passing.{by_exchange, passing}
 use Rattle.ffi3_pieces.specs.Stored.{IsPlace, SameAt}
 use Rattle.ffi3_pieces.proofs.Alike.{AreAlike, arguments_owned, arguments_filled, address_owned, count_held}
-use Rattle.ffi3_pieces.proofs.Lawful.{call_places, each_first, each_rest, each_map, machine_places}
+use Rattle.ffi3_marshal.proofs.Lawful.{call_places, each_first, each_rest, each_map, machine_places}
 use Rattle.ffi3_pieces.proofs.Outcomes.{own_result_kept}
 use Rattle.ffi3_pieces.proofs.Passing.{stubs_there}
 use Rattle.ffi3_pieces.proofs.Ranges.{range_length}

@@ -17,21 +17,13 @@ use Rattle.ffi3_place_rules.specs.Standard.{Standard, plan_of, frame_of}
 use Rattle.ffi3_place_rules.specs.Sound.{AreApart, IsNoneOf, IsSound, argument_locs, piece_locs}
 use Rattle.ffi3_place_rules.proofs.Elements.{drop_read, argument_read}
 use Rattle.ffi3_type_rules.specs.declared.limits.TheConstants.{STACK}
+use Rattle.ffi3_marshal.proofs.Arguments.{place_read, ready_length}
 use Rattle.ffi3_machine.specs.State.{State}
 use Rattle.ffi3_pieces.specs.Stored.{IsPlace, IsWritable, Stays, WroteWithin}
 use Rattle.ffi3_pieces.specs.Standing.{place_uses, all_uses, PlaceKeepsUnused, PlaceLies, PlaceStands, AllKeepUnused, AllStand, IsReady, AreReady}
 use Rattle.ffi3_pieces.proofs.Composing.{stays_none, stays_then, wrote_nothing, wrote_then}
 use Rattle.ffi3_pieces.proofs.Copying.{place_keeps_after, place_keeps_then, place_stays}
-use Rattle.ffi3_pieces.proofs.Lawful.{each_first, each_rest, apart_rest, apart_across, across_none, all_ready, all_apart}
-
-pub place_read : {X : Type 0} (xs : List X) (i : ℕ) (x : X) → slice_get xs i ≡ Some x → drop i xs ≡ x ∷ drop (i + 1) xs
-place_read xs i x is = drop_read xs i x (slice_get_within xs i x is) (sym (get_or_from_slice_get xs i x x is))
-
-pub ready_length : (target : Target) (room : ℕ) (ts : List Tree) (ps : List Place) → AreReady target room ts ps → length ps ≡ length ts
-ready_length target room [] [] h = refl
-ready_length target room [] (p ∷ ps) h = absurd h
-ready_length target room (t ∷ ts) [] h = absurd h
-ready_length target room (t ∷ ts) (p ∷ ps) h = ap suc (ready_length target room ts ps h.1)
+use Rattle.ffi3_marshal.proofs.Lawful.{each_first, each_rest, apart_rest, apart_across, across_none, all_ready, all_apart}
 
 ready_drop : (target : Target) (room j : ℕ) (ts : List Tree) (ps : List Place) → AreReady target room ts ps → AreReady target room (drop j ts) (drop j ps)
 ready_drop target room zero ts ps h = h
@@ -119,21 +111,6 @@ module _ (base : ℕ) (target : Target) (room : ℕ) (ts : List Tree) (ps : List
         stays = subst (λ us. Stays base (all_uses us (drop j ps)) first b) (sym types) (subst (λ qs. Stays base (all_uses (t ∷ drop (j + 1) ts) qs) first b) (sym places) (stays_then base (all_uses (drop (j + 1) ts) (drop (j + 1) ps)) (place_uses t p) first a b before.stays stays));
         within = wrote_then base (base + room) first a b before.within within;
       }
-
-pub lies_more : (n m : ℕ) (t : Tree) (p : Place) → n ≤ m → PlaceLies n t p → PlaceLies m t p
-lies_more n m t (Direct pieces) h lies = all_more n m h (piece_locs pieces) lies
-  where
-    all_more : (n m : ℕ) → n ≤ m → (ls : List Loc) → AllByRecursion (IsPlace n) ls → AllByRecursion (IsPlace m) ls
-    all_more n m h [] all = tt
-    all_more n m h (G r ∷ ls) all = (all.0, all_more n m h ls all.1)
-    all_more n m h (F r ∷ ls) all = (all.0, all_more n m h ls all.1)
-    all_more n m h (S k w ∷ ls) all = ((omega (arith, h, all.0.0), all.0.1, all.0.2), all_more n m h ls all.1)
-lies_more n m t (ByRef at copy) h lies = (one_more n m h at lies.0, omega (arith, h, lies.1))
-  where
-    one_more : (n m : ℕ) → n ≤ m → (l : Loc) → IsPlace n l → IsPlace m l
-    one_more n m h (G r) lies = lies
-    one_more n m h (F r) lies = lies
-    one_more n m h (S k w) lies = (omega (arith, h, lies.0), lies.1, lies.2)
 
 -- what the laws say of the argument at j
 pub lawful_argument : (std : Standard) (s : Signature) → IsSound std s → SignatureHasNoFault s → (base : ℕ) (target : Target) (vs : List ValueTree) → AllByRecursion (IsWritable target) (argument_locs (plan_of std s)) → all_fit (trees_of s.arguments) (values_of vs) ≡ true → (j : ℕ) (t : Tree) (p : Place) (v : ValueTree) → j < length s.arguments → t ≡ tree_at s.arguments j → slice_get (plan_of std s).places j ≡ Some p → v ≡ get_or vs j void_value → AtArgument base target (frame_of std s) s.arguments (plan_of std s).places vs j t p v

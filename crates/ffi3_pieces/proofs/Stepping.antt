@@ -14,25 +14,15 @@ use Rattle.ffi3_place_rules.specs.Sound.{Apart, AreApart, IsNoneOf, IsPieceOf, p
 use Rattle.ffi3_place_rules.proofs.Words.{same_bytes}
 use Rattle.ffi3_place_rules.proofs.Elements.{drop_read}
 use Rattle.ffi3_place_rules.proofs.Tests.{each_at}
+use Rattle.ffi3_marshal.proofs.Composing.{apart_sym}
+use Rattle.ffi3_marshal.proofs.Stepping.{each_drop, each_loc, each_read}
 use Rattle.ffi3_machine.specs.State.{State}
 use Rattle.ffi3_pieces.specs.Stored.{IsByteOf, IsPlace, byte_of, word_in, KeepsUnused, SameAt, Stays, WroteWithin, PieceStands, IsStored}
 use Rattle.ffi3_pieces.specs.Runs.{goes_by_run}
-use Rattle.ffi3_pieces.proofs.Composing.{apart_sym, same_byte, stays_none, stays_then, wrote_nothing, wrote_then}
+use Rattle.ffi3_pieces.proofs.Composing.{same_byte, stays_none, stays_then, wrote_nothing, wrote_then}
 use Rattle.std.proofs.lemmas.List.{drop_all}
 
 -- ---- lists
-
-pub each_read : {X : Type 0} (P : X → Type 0) (xs : List X) (i : ℕ) (x : X) → i < length xs → x ≡ get_or xs i x → AllByRecursion P xs → P x
-each_read P xs i x h e all = each_at P xs i x h (sym e) all
-
-pub each_drop : {X : Type 0} (P : X → Type 0) (j : ℕ) (xs : List X) → AllByRecursion P xs → AllByRecursion P (drop j xs)
-each_drop P zero xs h = h
-each_drop P (suc j) [] h = h
-each_drop P (suc j) (x ∷ xs) h = each_drop P j xs h.1
-
-pub each_loc : (P : Loc → Type 0) (ps : List Piece) → AllByRecursion P (piece_locs ps) → AllByRecursion (λ p. P p.loc) ps
-each_loc P [] h = tt
-each_loc P (p ∷ ps) h = (h.0, each_loc P ps h.1)
 
 apart_drop : (j : ℕ) (ps : List Piece) → AreApart (piece_locs ps) → AreApart (piece_locs (drop j ps))
 apart_drop zero ps h = h

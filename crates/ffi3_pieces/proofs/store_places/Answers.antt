@@ -12,9 +12,10 @@ use Rattle.ffi3_cif.specs.Runs.{AreRunsOf, pieces_of}
 use Rattle.ffi3_pieces.specs.Passing.{passing}
 use Rattle.ffi3_pieces.specs.Stored.{IsWritable}
 use Rattle.ffi3_pieces.specs.Standing.{AllStand, place_uses}
-use Rattle.ffi3_pieces.proofs.Lawful.{all_ready, apart_first, written_by_law}
+use Rattle.ffi3_marshal.proofs.Lawful.{all_ready, apart_first, written_by_law}
 use Rattle.ffi3_pieces.proofs.Owning.{owned, filled}
-use Rattle.ffi3_pieces.proofs.Arguments.{AllStored, none_yet, lawful_argument, lies_more, argument_step, stored_at_end}
+use Rattle.ffi3_marshal.proofs.Arguments.{lies_more}
+use Rattle.ffi3_pieces.proofs.Arguments.{AllStored, none_yet, lawful_argument, argument_step, stored_at_end}
 use Rattle.ffi3_pieces.proofs.store_places.Goals as goal
 
 pub loop-i-init : goal.loop-i-init
