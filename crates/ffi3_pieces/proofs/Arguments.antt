@@ -1,26 +1,23 @@
 -- One more argument beside those that stand.
 use Rattle.std.specs.Prelude.{true, slice_get, Some}
-use Rattle.std.proofs.Common.{◌≡◌, ℕ, suc, zero, ◌+◌, ◌<◌, ◌≤◌, List, [], ◌∷◌, ◌++◌, get_or, drop, length, subst, sym, ◌∙◌, ap, refl, arith}
+use Rattle.std.proofs.Common.{◌≡◌, ℕ, suc, zero, ◌+◌, ◌<◌, ◌≤◌, List, [], ◌∷◌, ◌++◌, get_or, drop, length, subst, sym, ◌∙◌, ap, arith}
 use Rattle.std.specs.List.{AllByRecursion}
 use Rattle.std.proofs.lemmas.List.{drop_all, drop_more}
-use Rattle.std.proofs.lemmas.Option.{get_or_from_slice_get, slice_get_within}
 use Rattle.ffi3_type_rules.specs.declared.Target.{Target}
 use Rattle.ffi3_type_rules.specs.Tree.{Tree, tree_at, trees_of}
 use Rattle.ffi3_type_rules.specs.Signature.{Signature, SignatureHasNoFault}
 use Rattle.ffi3_type_rules.specs.Value.{ValueTree, void_value, all_fit, values_of}
 use Rattle.ffi3_type_rules.proofs.ValueElements.{fitting_lengths}
 use Rattle.ffi3_place_rules.specs.declared.Loc.{Loc}
-use Rattle.ffi3_place_rules.specs.declared.Loc.TheVariants.{G, F, S}
 use Rattle.ffi3_place_rules.specs.declared.Place.{Place}
-use Rattle.ffi3_place_rules.specs.declared.Place.TheVariants.{Direct, ByRef}
 use Rattle.ffi3_place_rules.specs.Standard.{Standard, plan_of, frame_of}
-use Rattle.ffi3_place_rules.specs.Sound.{AreApart, IsNoneOf, IsSound, argument_locs, piece_locs}
-use Rattle.ffi3_place_rules.proofs.Elements.{drop_read, argument_read}
+use Rattle.ffi3_place_rules.specs.Sound.{AreApart, IsNoneOf, IsSound, argument_locs}
+use Rattle.ffi3_place_rules.proofs.Elements.{argument_read}
 use Rattle.ffi3_type_rules.specs.declared.limits.TheConstants.{STACK}
 use Rattle.ffi3_marshal.proofs.Arguments.{place_read, ready_length}
 use Rattle.ffi3_machine.specs.State.{State}
-use Rattle.ffi3_pieces.specs.Stored.{IsPlace, IsWritable, Stays, WroteWithin}
-use Rattle.ffi3_pieces.specs.Standing.{place_uses, all_uses, PlaceKeepsUnused, PlaceLies, PlaceStands, AllKeepUnused, AllStand, IsReady, AreReady}
+use Rattle.ffi3_pieces.specs.Stored.{IsWritable, Stays, WroteWithin}
+use Rattle.ffi3_pieces.specs.Standing.{place_uses, all_uses, PlaceKeepsUnused, PlaceStands, AllKeepUnused, AllStand, IsReady, AreReady}
 use Rattle.ffi3_pieces.proofs.Composing.{stays_none, stays_then, wrote_nothing, wrote_then}
 use Rattle.ffi3_pieces.proofs.Copying.{place_keeps_after, place_keeps_then, place_stays}
 use Rattle.ffi3_marshal.proofs.Lawful.{each_first, each_rest, apart_rest, apart_across, across_none, all_ready, all_apart}

@@ -1,26 +1,22 @@
 -- The copy of an argument by reference.
-use Rattle.std.proofs.Common.{◌≡◌, ◌⊎◌, inl, inr, ℕ, suc, zero, ◌+◌, ◌-◌, ◌*◌, ◌<◌, ◌≤◌, List, [], ◌∷◌, get_or, length, subst, ◌∙◌, ap, refl, arith}
+use Rattle.std.proofs.Common.{◌≡◌, inl, inr, ℕ, suc, zero, ◌+◌, ◌-◌, ◌*◌, ◌<◌, ◌≤◌, List, get_or, length, subst, ◌∙◌, ap, arith}
 use Rattle.std.specs.Prelude.{◌/◌}
 use Rattle.std.specs.List.{AllByRecursion}
 use Rattle.std.proofs.lemmas.Bool.{cases_lt}
-use Rattle.std.proofs.lemmas.List.{ext_get_or}
 use Rattle.ffi3_type_rules.specs.Tree.{Tree}
 use Rattle.ffi3_type_rules.specs.Layout.{size_of}
 use Rattle.ffi3_type_rules.specs.Value.{ValueTree, value_in, IsWritten}
 use Rattle.ffi3_type_rules.proofs.Parts.{index_part, length_part, same_part}
 use Rattle.ffi3_place_rules.specs.declared.Loc.{Loc}
-use Rattle.ffi3_place_rules.specs.declared.Loc.TheVariants.{G, F, S}
+use Rattle.ffi3_place_rules.specs.declared.Loc.TheVariants.{S}
 use Rattle.ffi3_place_rules.specs.declared.Place.{Place}
 use Rattle.ffi3_place_rules.specs.declared.Place.TheVariants.{Direct, ByRef}
-use Rattle.ffi3_place_rules.specs.Sound.{Apart, IsNoneOf, PlaceHasAll, stack_words, stack_words_for}
+use Rattle.ffi3_place_rules.specs.Sound.{IsNoneOf, PlaceHasAll, stack_words, stack_words_for}
 use Rattle.ffi3_type_rules.specs.declared.limits.TheConstants.{STACK}
 use Rattle.ffi3_machine.specs.State.{State, stored, stack_at}
-use Rattle.ffi3_pieces.specs.Stored.{stack_byte, KeepsPadding, SameAt, Stays, IsWordPut}
-use Rattle.ffi3_pieces.specs.Standing.{place_uses, CopyStands, IsCopied, PlaceKeepsUnused, PlaceStands}
-use Rattle.ffi3_pieces.proofs.Ranges.{range_length}
-use Rattle.ffi3_pieces.proofs.Putting.{stored_inside, stored_outside, stored_within}
-use Rattle.ffi3_marshal.proofs.Composing.{apart_sym}
-use Rattle.ffi3_pieces.proofs.Composing.{stays_then, wrote_then}
+use Rattle.ffi3_pieces.specs.Stored.{stack_byte, KeepsPadding, Stays}
+use Rattle.ffi3_pieces.specs.Standing.{place_uses, CopyStands, PlaceKeepsUnused, PlaceStands}
+use Rattle.ffi3_pieces.proofs.Putting.{stored_inside, stored_outside}
 use Rattle.ffi3_pieces.proofs.Stepping.{all_keep_after, all_keep_then, all_stand_stays, same_word_in}
 
 -- ---- stack words

@@ -1,7 +1,6 @@
 -- What the core of transfers leaves in the image of a machine, and so in the machine.
 use Rattle.std.specs.Prelude.{Bool, true, false, if◌then◌else◌, slice_set}
-use Rattle.std.proofs.Common.{◌≡◌, ℕ, ◌+◌, ◌-◌, ◌*◌, ◌<◌, ◌≤◌, inl, inr, List, [], ◌∷◌, ◌++◌, take, drop, get_or, length, refl, ap, sym, ◌∙◌, subst, arith, append_assoc}
-use Rattle.std.specs.Prelude.{◌/◌}
+use Rattle.std.proofs.Common.{◌≡◌, ℕ, ◌+◌, ◌-◌, ◌<◌, ◌≤◌, inl, inr, List, [], ◌∷◌, ◌++◌, take, drop, get_or, length, refl, ap, sym, ◌∙◌, subst, arith, append_assoc}
 use Rattle.std.specs.Int.{w64, from_le_bytes}
 use Rattle.std.specs.List.{replace_range}
 use Rattle.std.proofs.lemmas.Bool.{cases_lt}
@@ -11,7 +10,7 @@ use Rattle.ffi3_type_rules.specs.declared.limits.TheConstants.{STACK}
 use Rattle.ffi3_type_rules.specs.Isa.{isa_of}
 use Rattle.ffi3_type_rules.specs.Tree.{Tree}
 use Rattle.ffi3_type_rules.specs.Layout.{size_of}
-use Rattle.ffi3_type_rules.specs.Value.{ValueTree, IsPadding, IsWritten, part, value_in}
+use Rattle.ffi3_type_rules.specs.Value.{ValueTree, IsWritten, part, value_in}
 use Rattle.ffi3_type_rules.proofs.Parts.{index_part, length_part}
 use Rattle.ffi3_place_rules.specs.declared.Loc.{Loc}
 use Rattle.ffi3_place_rules.specs.declared.Loc.TheVariants.{G, F, S}
@@ -21,13 +20,13 @@ use Rattle.ffi3_place_rules.specs.declared.Res.TheVariants.{Nothing, Direct as D
 use Rattle.ffi3_place_rules.specs.Image.{byte_at, word_at}
 use Rattle.ffi3_place_rules.specs.Isa.{is_zero_register}
 use Rattle.ffi3_place_rules.specs.Holds.{FillsAs, OwnsHidden}
-use Rattle.ffi3_place_rules.specs.Sound.{place_size, stack_words_for}
+use Rattle.ffi3_place_rules.specs.Sound.{stack_words_for}
 use Rattle.ffi3_place_rules.proofs.Words.{same_bytes}
 use Rattle.ffi3_marshal.specs.Stored as core
 use Rattle.ffi3_marshal.specs.Read as read
 use Rattle.ffi3_marshal.specs.Standing as standing
-use Rattle.ffi3_machine.specs.State.{State, stack_at, stored, with_floating, with_general}
-use Rattle.ffi3_pieces.specs.Stored.{AreBytesOf, IsPieceLoaded, IsPlace, IsPut, IsSet, IsSetAndFilled, IsWordPut, IsWritable, KeepsPadding, SameAt, Stays, WroteWithin, byte_of, stack_byte, word_in}
+use Rattle.ffi3_machine.specs.State.{State, stack_at, stored, with_general}
+use Rattle.ffi3_pieces.specs.Stored.{AreBytesOf, IsPieceLoaded, IsPlace, IsPut, IsSet, IsSetAndFilled, IsWordPut, IsWritable, KeepsPadding, SameAt, Stays, WroteWithin, byte_of, word_in}
 use Rattle.ffi3_pieces.specs.Standing.{HiddenStands, IsCopied}
 use Rattle.ffi3_pieces.specs.Lent.{image_passed}
 

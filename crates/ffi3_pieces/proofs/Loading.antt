@@ -1,23 +1,11 @@
 -- A piece that is stored over what is read from its place.
-use Rattle.std.proofs.Common.{◌≡◌, ℕ, ◌+◌, ◌-◌, ◌^◌, ◌<◌, ◌≤◌, inl, inr, List, ◌++◌, map, replicate, take, drop, get_or, length, ap, sym, ◌∙◌, arith}
-use Rattle.std.specs.Int.{w64, to_le_bytes, from_le_bytes}
-use Rattle.std.specs.List.{replace_range, range_with_len}
-use Rattle.std.proofs.lemmas.List.FromFn.{get_or-map-range_with_len, length-map-range_with_len}
-use Rattle.std.proofs.lemmas.Nat.{from_le_bytes-to_le_bytes_8}
+use Rattle.std.proofs.Common.{◌≡◌, ℕ, ◌+◌, ◌-◌, ◌≤◌, inl, inr, List, length, ap, ◌∙◌, arith}
 use Rattle.std.proofs.lemmas.Bool.{cases_lt}
-use Rattle.std.proofs.lemmas.List.{get_or-take, get_or-drop, get_or_append_left, get_or-append_right, get_or_past, get_or-replicate, length-take-le}
 use Rattle.ffi3_type_rules.specs.Tree.{Tree}
 use Rattle.ffi3_type_rules.specs.Value.{ValueTree, IsWritten}
-use Rattle.ffi3_place_rules.specs.declared.Loc.{Loc}
-use Rattle.ffi3_place_rules.specs.declared.Loc.TheVariants.{S}
 use Rattle.ffi3_place_rules.specs.declared.Piece.{Piece}
-use Rattle.ffi3_type_rules.specs.declared.limits.TheConstants.{STACK}
-use Rattle.ffi3_machine.specs.State.{State, stack_at}
-use Rattle.ffi3_place_rules.specs.Sound.{IsWithin, place_size}
-use Rattle.ffi3_place_rules.proofs.Words.{same_number}
-use Rattle.ffi3_type_rules.proofs.Parts.{index_part, length_part}
-use Rattle.ffi3_pieces.specs.Stored.{byte_of, word_in, AreBytesOf, IsPieceLoaded, IsSetAndFilled, IsStored}
-use Rattle.ffi3_pieces.proofs.Ranges.{in_range, below_range, above_range, range_length}
+use Rattle.ffi3_machine.specs.State.{State}
+use Rattle.ffi3_pieces.specs.Stored.{byte_of, IsPieceLoaded, IsSetAndFilled, IsStored}
 use Rattle.ffi3_pieces.proofs.Reading.{piece_held}
 
 -- what stood there is read, the value is written over it, and the piece is put back

@@ -1,22 +1,16 @@
 -- Bytes that are stored on the stack.
-use Rattle.std.specs.Prelude.{◌≢◌, ◌^◌, Bool, true, false, if◌then◌else◌, ◌==◌, min, slice_set, refl}
-use Rattle.std.proofs.Common.{◌≡◌, ℕ, ◌+◌, ◌-◌, ◌<◌, ◌≤◌, ◌⊎◌, inl, inr, List, [], ◌∷◌, ◌++◌, map, take, drop, get_or, length, ap, sym, ◌∙◌, subst, arith}
+use Rattle.std.specs.Prelude.{◌^◌, Bool, true, false, if◌then◌else◌, ◌==◌, min, refl}
+use Rattle.std.proofs.Common.{◌≡◌, ℕ, ◌+◌, ◌-◌, ◌<◌, ◌≤◌, ◌⊎◌, inl, inr, List, map, get_or, length, ap, ◌∙◌, arith}
 use Rattle.std.specs.Int.{w64, to_le_bytes, from_le_bytes}
 use Rattle.std.specs.List.{range_with_len}
 use Rattle.std.proofs.lemmas.List.FromFn.{get_or-map-range_with_len}
 use Rattle.std.proofs.lemmas.Bool.{cases_lt}
-use Rattle.std.proofs.lemmas.List.{get_or-set_same, get_or-set_other, get_or_append_left, get_or-append_right, get_or-drop, ext_get_or}
+use Rattle.std.proofs.lemmas.List.{ext_get_or}
 use Rattle.std.proofs.lemmas.Nat.{from_le_bytes-to_le_bytes_8}
-use Rattle.ffi3_place_rules.specs.declared.Loc.{Loc}
-use Rattle.ffi3_place_rules.specs.declared.Loc.TheVariants.{G, F, S}
-use Rattle.ffi3_place_rules.specs.Sound.{IsNoneOf, IsWhole, IsWithin}
+use Rattle.ffi3_place_rules.specs.declared.Loc.TheVariants.{S}
 use Rattle.ffi3_type_rules.specs.declared.limits.TheConstants.{STACK}
-use Rattle.ffi3_type_rules.specs.Isa.{isa_of}
-use Rattle.ffi3_place_rules.specs.Isa.{is_zero_register}
-use Rattle.ffi3_machine.specs.State.{State, with_general, with_floating, stored, lowered}
-use Rattle.ffi3_pieces.specs.Stored.{stack_byte, byte_of, SameAt, Stays, WroteOnly, WroteWithin, HasBytes, HasLow, IsPut, IsSet, IsWordPut, word_in}
-use Rattle.ffi3_place_rules.specs.declared.Piece.{Piece}
-use Rattle.ffi3_type_rules.proofs.Parts.{index_part, length_part}
+use Rattle.ffi3_machine.specs.State.{State, stored, lowered}
+use Rattle.ffi3_pieces.specs.Stored.{stack_byte, byte_of, WroteOnly, WroteWithin, word_in}
 use Rattle.ffi3_pieces.proofs.Ranges.{in_range, below_range, above_range, range_length}
 
 -- ---- words

@@ -13,7 +13,6 @@ use Rattle.ffi3_place_rules.specs.Holds.{FillsAs, leaf_bytes}
 use Rattle.ffi3_place_rules.specs.Sound.{Apart, AreApart, IsNoneOf, IsPieceOf, piece_locs, place_size}
 use Rattle.ffi3_place_rules.proofs.Words.{same_bytes}
 use Rattle.ffi3_place_rules.proofs.Elements.{drop_read}
-use Rattle.ffi3_place_rules.proofs.Tests.{each_at}
 use Rattle.ffi3_marshal.proofs.Composing.{apart_sym}
 use Rattle.ffi3_marshal.proofs.Stepping.{each_drop, each_loc, each_read}
 use Rattle.ffi3_machine.specs.State.{State}

@@ -1,6 +1,6 @@
 -- A machine as the image of what a call passes. Its stack is the whole region, so that it begins at the lowest address. (This library's own: the standards' images begin at the stack pointer.)
-use Rattle.std.specs.Prelude.{◌≡◌, ℕ, ◌+◌, ◌≤◌, ◌⊎◌, inl, inr, false, refl}
-use Rattle.std.proofs.Common.{◌∙◌, sym, subst, arith}
+use Rattle.std.specs.Prelude.{◌≡◌, ℕ, ◌+◌, ◌≤◌, ◌⊎◌, false, refl}
+use Rattle.std.proofs.Common.{inl, inr, ◌∙◌, sym, subst, arith}
 use Rattle.ffi3_type_rules.specs.Isa.{isa_of}
 use Rattle.ffi3_place_rules.specs.Isa.{is_zero_register}
 use Rattle.ffi3_type_rules.specs.declared.limits.TheConstants.{STACK}

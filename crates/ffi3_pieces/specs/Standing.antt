@@ -1,7 +1,6 @@
 -- Arguments that stand at their places in a machine, and the places that they use, the copy of an argument by reference included.
-use Rattle.std.specs.Prelude.{◌≡◌, ℕ, ◌+◌, ◌-◌, ◌≤◌, ⊤, List, [], ◌∷◌, ◌++◌, length}
+use Rattle.std.specs.Prelude.{◌≡◌, ℕ, ◌+◌, ◌-◌, ◌≤◌, ⊤, List, [], ◌∷◌, length}
 use Rattle.std.specs.List.{AllByRecursion}
-use Rattle.ffi3_type_rules.specs.declared.Target.{Target}
 use Rattle.ffi3_type_rules.specs.Tree.{Tree}
 use Rattle.ffi3_type_rules.specs.Layout.{size_of}
 use Rattle.ffi3_type_rules.specs.Value.{ValueTree, value_in}
@@ -11,11 +10,11 @@ use Rattle.ffi3_place_rules.specs.declared.Place.{Place}
 use Rattle.ffi3_place_rules.specs.declared.Place.TheVariants.{Direct, ByRef}
 use Rattle.ffi3_place_rules.specs.declared.Res.{Res}
 use Rattle.ffi3_place_rules.specs.declared.Res.TheVariants.{Nothing, Direct as DirectRes, Hidden}
-use Rattle.ffi3_place_rules.specs.Sound.{PlaceHasAll, piece_locs, place_locs, stack_words_for}
+use Rattle.ffi3_place_rules.specs.Sound.{stack_words_for}
 use Rattle.ffi3_type_rules.specs.declared.limits.TheConstants.{STACK}
 pub use Rattle.ffi3_marshal.specs.Standing.{AreReady, IsReady, PlaceLies, all_uses, place_uses}
 use Rattle.ffi3_machine.specs.State.{State, stack_at}
-use Rattle.ffi3_pieces.specs.Stored.{IsPlace, word_in, IsWritable, KeepsPadding, KeepsUnused, PieceStands, Stays}
+use Rattle.ffi3_pieces.specs.Stored.{IsPlace, word_in, KeepsPadding, KeepsUnused, PieceStands, Stays}
 use Rattle.ffi3_pieces.specs.Stored.{WroteWithin}
 
 -- pieces have the leaves of the value, and what fills the rest of their places is right
