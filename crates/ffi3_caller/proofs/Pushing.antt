@@ -29,7 +29,7 @@ use Rattle.ffi3_pieces.proofs.Alike.{AreAlike, arguments_owned, arguments_filled
 use Rattle.ffi3_marshal.proofs.Lawful.{call_places, each_first, each_rest, each_map, machine_places}
 use Rattle.ffi3_pieces.proofs.Outcomes.{own_result_kept}
 use Rattle.ffi3_pieces.proofs.Passing.{stubs_there}
-use Rattle.ffi3_pieces.proofs.Ranges.{range_length}
+use Rattle.ffi3_marshal.proofs.Ranges.{range_length}
 use Rattle.ffi3_pieces.proofs.Tables.{each_with, one_of_each, preserved_not_called, preserved_not_returned, reserved_are_places, reserved_not_called, reserved_not_link, reserved_not_returned}
 use Rattle.ffi3_caller.specs.Called.{HasComeBack, IsCarried, IsLeft, IsPassedBack, IsUntouched, SlotIsCalled, at_frame}
 

@@ -15,11 +15,9 @@ use Rattle.ffi3_type_rules.proofs.Parts.{index_part, length_part}
 use Rattle.ffi3_place_rules.specs.declared.Loc.{Loc}
 use Rattle.ffi3_place_rules.specs.declared.Loc.TheVariants.{G, F, S}
 use Rattle.ffi3_place_rules.specs.declared.Piece.{Piece}
-use Rattle.ffi3_place_rules.specs.declared.Res.{Res}
-use Rattle.ffi3_place_rules.specs.declared.Res.TheVariants.{Nothing, Direct as DirectRes, Hidden}
 use Rattle.ffi3_place_rules.specs.Image.{byte_at, word_at}
 use Rattle.ffi3_place_rules.specs.Isa.{is_zero_register}
-use Rattle.ffi3_place_rules.specs.Holds.{FillsAs, OwnsHidden}
+use Rattle.ffi3_place_rules.specs.Holds.{FillsAs}
 use Rattle.ffi3_place_rules.specs.Sound.{stack_words_for}
 use Rattle.ffi3_place_rules.proofs.Words.{same_bytes}
 use Rattle.ffi3_marshal.specs.Stored as core
@@ -27,7 +25,7 @@ use Rattle.ffi3_marshal.specs.Read as read
 use Rattle.ffi3_marshal.specs.Standing as standing
 use Rattle.ffi3_machine.specs.State.{State, stack_at, stored, with_general}
 use Rattle.ffi3_pieces.specs.Stored.{AreBytesOf, IsPieceLoaded, IsPlace, IsPut, IsSet, IsSetAndFilled, IsWordPut, IsWritable, KeepsPadding, SameAt, Stays, WroteWithin, byte_of, word_in}
-use Rattle.ffi3_pieces.specs.Standing.{HiddenStands, IsCopied}
+use Rattle.ffi3_pieces.specs.Standing.{IsCopied}
 use Rattle.ffi3_pieces.specs.Lent.{image_passed}
 
 -- ---- writes
@@ -79,7 +77,7 @@ module _ (base start : ℕ) (at_base : base ≡ STACK + start) where
     same_there (F r) h = h
     same_there (S n w) h = λ k below. sym (byte_there new (S n w) k) ∙ h k below ∙ byte_there old (S n w) k
 
-    pub stays_there : (ls : List Loc) → new.sp ≡ old.sp → core.Stays start ls (image_passed old) (image_passed new) → Stays base ls old new
+    stays_there : (ls : List Loc) → new.sp ≡ old.sp → core.Stays start ls (image_passed old) (image_passed new) → Stays base ls old new
     stays_there ls sp s = record { sp = sp; size = s.size; others = λ l none. same_there l (s.others l none) }
 
     pub put_there : (l : Loc) (bytes : List ℕ) → new.sp ≡ old.sp → ((room : ℕ) → IsPlace room l → WroteWithin base (base + room) old new) → core.IsPut start l bytes (image_passed old) (image_passed new) → IsPut base l bytes old new
@@ -161,13 +159,6 @@ module _ (base start : ℕ) (at_base : base ≡ STACK + start) where
     here = λ o c. is.here o c ∙ byte_there m p.loc (o - p.off);
     others = is.others;
   }
-
-  pub hidden_there : (m : State) (res : Res) → OwnsHidden (image_passed m) start res → HiddenStands base m res
-  hidden_there m Nothing h = tt
-  hidden_there m (DirectRes pieces) h = tt
-  hidden_there m (Hidden at buffer) h =
-      let address : STACK + start + buffer ≡ base + buffer = omega (arith, at_base) in
-      sym (word_there m at) ∙ h ∙ address
 
   -- a place in so many bytes of the stack
   pub is_there : (m : State) (l : Loc) → start ≤ length m.stack → IsPlace (length m.stack - start) l → read.IsThere (image_passed m) start l

@@ -1,25 +1,20 @@
 -- Bytes that are stored on the stack.
 use Rattle.std.specs.Prelude.{◌^◌, Bool, true, false, if◌then◌else◌, ◌==◌, min, refl}
-use Rattle.std.proofs.Common.{◌≡◌, ℕ, ◌+◌, ◌-◌, ◌<◌, ◌≤◌, ◌⊎◌, inl, inr, List, map, get_or, length, ap, ◌∙◌, arith}
-use Rattle.std.specs.Int.{w64, to_le_bytes, from_le_bytes}
-use Rattle.std.specs.List.{range_with_len}
-use Rattle.std.proofs.lemmas.List.FromFn.{get_or-map-range_with_len}
+use Rattle.std.proofs.Common.{◌≡◌, ℕ, ◌+◌, ◌-◌, ◌<◌, ◌≤◌, ◌⊎◌, inl, inr, List, get_or, length, ap, ◌∙◌, arith}
+use Rattle.std.specs.Int.{w64, to_le_bytes}
 use Rattle.std.proofs.lemmas.Bool.{cases_lt}
-use Rattle.std.proofs.lemmas.List.{ext_get_or}
-use Rattle.std.proofs.lemmas.Nat.{from_le_bytes-to_le_bytes_8}
 use Rattle.ffi3_place_rules.specs.declared.Loc.TheVariants.{S}
 use Rattle.ffi3_type_rules.specs.declared.limits.TheConstants.{STACK}
+use Rattle.ffi3_marshal.proofs.Puts.{eight_bytes}
+use Rattle.ffi3_marshal.proofs.Ranges.{in_range, below_range, above_range, range_length}
 use Rattle.ffi3_machine.specs.State.{State, stored, lowered}
 use Rattle.ffi3_pieces.specs.Stored.{stack_byte, byte_of, WroteOnly, WroteWithin, word_in}
-use Rattle.ffi3_pieces.proofs.Ranges.{in_range, below_range, above_range, range_length}
 
 -- ---- words
 
 -- the eight bytes of a place on the stack make the number
 pub word_there : (base n v : ℕ) (m : State) → v < 2 ^ 64 → ((k : ℕ) → k < 8 → byte_of base m (S n 8) k ≡ get_or (to_le_bytes w64 v) k 0) → word_in base m (S n 8) ≡ v
-word_there base n v m h here =
-    let bytes : map (byte_of base m (S n 8)) (range_with_len 0 8) ≡ to_le_bytes w64 v = ext_get_or 0 (map (byte_of base m (S n 8)) (range_with_len 0 8)) (to_le_bytes w64 v) refl (λ k below. get_or-map-range_with_len (byte_of base m (S n 8)) 0 8 k k 0 below (omega arith) ∙ here k below) in
-    ap (from_le_bytes w64) bytes ∙ from_le_bytes-to_le_bytes_8 v h
+word_there base n v m h here = eight_bytes (byte_of base m (S n 8)) v h here
 
 -- ---- the stack
 
