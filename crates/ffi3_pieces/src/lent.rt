@@ -1,7 +1,8 @@
 // A machine that is lent to the core of transfers, which reads and writes what a call passes.
-ghost use Rattle.std.specs.Prelude.{◌≡◌, ℕ, ◌+◌, ◌<◌, ◌≤◌, false, length, refl};
+ghost use Rattle.std.specs.Prelude.{◌≡◌, ℕ, ◌+◌, ◌-◌, ◌<◌, ◌≤◌, false, length, refl};
 ghost use Rattle.std.proofs.Common.{◌∙◌};
 ghost use Rattle.ffi3_type_rules.specs.Value.{part};
+ghost use Rattle.ffi3_type_rules.specs.declared.limits.TheConstants.{STACK, STACK_TOP};
 ghost use Rattle.ffi3_type_rules.specs.Isa.{isa_of};
 ghost use Rattle.ffi3_place_rules.specs.Isa.{is_zero_register};
 ghost use Rattle.ffi3_marshal.specs.Stored.{stored, with_floating, with_general};
@@ -9,7 +10,7 @@ ghost use Rattle.ffi3_pieces.specs.Passing.{passing};
 ghost use Rattle.ffi3_pieces.specs.Lent.{ChangesWithin, image_passed};
 
 use crate::registers::{pass_floating, pass_general, passed_floating, passed_general};
-use ffi3_machine::Machine;
+use ffi3_machine::{Machine, StackBase};
 use ffi3_marshal::{ReadImage, WriteImage};
 use ffi3_type_rules::limits::{STACK, STACK_TOP};
 
@@ -98,6 +99,17 @@ impl<'a> WriteImage for Lent<'a> {
     ghost wrote_then = { λ low high a b c first then. (then.0 ∙ first.0, changes_then low high a.machine.now b.machine.now c.machine.now first.1 then.1) };
 
     ghost still_takes = { λ low high k a b wrote takes. still_written low high k a.machine.now b.machine.now wrote.1 takes };
+}
+
+/// How far the address `base` lies above the lowest of the stack.
+pub(crate) fn offset_of(machine: &Machine, base: StackBase) -> u64
+    ensures at { base ≡ STACK + result }
+    ensures room { length (passing machine.now).stack - result ≡ STACK_TOP - base }
+    ensures within { result ≤ length (passing machine.now).stack }
+{
+    // its contract tells what is true of every machine
+    let _m = machine.sp();
+    base.address() - STACK
 }
 
 // How many bytes the stack has.

@@ -29,7 +29,7 @@ use ffi3_place::{Abi, Ext, Loc, Piece, Pieces, Place, Res};
 use ffi3_type_rules::limits::{LARGEST_TYPE, STACK};
 use ffi3_types::CheckedType;
 use ffi3_values::{Value, Values, write_bytes};
-use lent::Lent;
+use lent::{Lent, offset_of};
 pub use load::{load_piece, own_word, place_bytes, place_word};
 pub use registers::{by_exchange, pass_floating, pass_general, passed_floating, passed_general};
 use running::store_runs;
@@ -45,9 +45,7 @@ pub fn put(machine: &mut Machine, base: StackBase, at: Loc, bytes: &[u8])
     requires few { length bytes.now ≤ place_size at }
     ensures { IsPut base at bytes.now (passing machine.old) (passing machine.new) }
 {
-    // its contract tells what is true of every machine
-    let _m = machine.sp();
-    let start = base.address() - STACK;
+    let start = offset_of(machine, base);
     let mut lent = Lent { machine };
     ffi3_marshal::put(&mut lent, start, at, bytes);
 }
@@ -59,9 +57,7 @@ pub fn put_word(machine: &mut Machine, base: StackBase, at: Loc, word: u64)
     requires whole { IsWhole at }
     ensures { IsWordPut base at word (passing machine.old) (passing machine.new) }
 {
-    // its contract tells what is true of every machine
-    let _m = machine.sp();
-    let start = base.address() - STACK;
+    let start = offset_of(machine, base);
     let mut lent = Lent { machine };
     ffi3_marshal::put_word(&mut lent, start, at, word);
 }
@@ -74,9 +70,7 @@ pub fn set_piece(machine: &mut Machine, base: StackBase, piece: Piece, bytes: &[
     requires fits { IsWithin (length bytes.now) piece }
     ensures { IsSet base piece bytes.now (passing machine.old) (passing machine.new) }
 {
-    // its contract tells what is true of every machine
-    let _m = machine.sp();
-    let start = base.address() - STACK;
+    let start = offset_of(machine, base);
     let mut lent = Lent { machine };
     ffi3_marshal::set_piece(&mut lent, start, piece, bytes);
 }
@@ -96,9 +90,7 @@ fn fill_piece(
     requires sized { length bytes.now ≡ size_of ty.now }
     ensures { IsSetAndFilled base ty.now (value_in ty.now bytes.now) bytes.now piece (passing machine.old) (passing machine.new) }
 {
-    // its contract tells what is true of every machine
-    let _m = machine.sp();
-    let start = base.address() - STACK;
+    let start = offset_of(machine, base);
     let mut lent = Lent { machine };
     ffi3_marshal::fill_piece(&mut lent, start, piece, ty, bytes);
 }

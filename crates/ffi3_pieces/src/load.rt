@@ -5,19 +5,16 @@ ghost use Rattle.ffi3_pieces.specs.Passing.{passing};
 ghost use Rattle.ffi3_place_rules.specs.Sound.{IsWithin};
 ghost use Rattle.ffi3_pieces.specs.Stored.{AreBytesOf, IsPieceLoaded, IsPlace, word_in};
 
-use crate::lent::Shown;
+use crate::lent::{Shown, offset_of};
 use ffi3_machine::{Machine, StackBase};
 use ffi3_place::{Loc, Piece};
-use ffi3_type_rules::limits::STACK;
 
 /// The bytes of a place, and zeros behind them where it has fewer than eight. Stack places count from the address `base`.
 pub fn place_bytes(machine: &Machine, base: StackBase, at: Loc) -> [u8; 8]
     requires { IsPlace (STACK_TOP - base) at }
     ensures { AreBytesOf base (passing machine.now) at result }
 {
-    // its contract tells what is true of every machine
-    let _m = machine.sp();
-    let start = base.address() - STACK;
+    let start = offset_of(machine, base);
     let shown = Shown { machine };
     ffi3_marshal::place_bytes(&shown, start, at)
 }
@@ -27,9 +24,7 @@ pub fn place_word(machine: &Machine, base: StackBase, at: Loc) -> u64
     requires { IsPlace (STACK_TOP - base) at }
     ensures { result ≡ word_in base (passing machine.now) at }
 {
-    // its contract tells what is true of every machine
-    let _m = machine.sp();
-    let start = base.address() - STACK;
+    let start = offset_of(machine, base);
     let shown = Shown { machine };
     ffi3_marshal::place_word(&shown, start, at)
 }
@@ -53,9 +48,7 @@ pub fn load_piece(machine: &Machine, base: StackBase, piece: &Piece, out: &mut [
     requires within { IsWithin (length out.old) piece.now }
     ensures { IsPieceLoaded base (passing machine.now) piece.now out.old out.new }
 {
-    // its contract tells what is true of every machine
-    let _m = machine.sp();
-    let start = base.address() - STACK;
+    let start = offset_of(machine, base);
     let shown = Shown { machine };
     ffi3_marshal::read_piece(&shown, start, piece, out);
 }
