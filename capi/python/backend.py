@@ -25,7 +25,7 @@ def _metadata(project: dict[str, str]) -> str:
 
 
 def _files() -> list[Path]:
-    return sorted(path for path in (HERE / "ffi3").iterdir() if path.suffix in (".py", ".html"))
+    return sorted(path for path in (HERE / "ffi3").iterdir() if path.suffix in (".py", ".html", ".typed"))
 
 
 def build_wheel(wheel_directory, config_settings=None, metadata_directory=None) -> str:
