@@ -1,5 +1,5 @@
 -- Which token a token of the code is.
-use Rattle.std.specs.Prelude.{Option, Some, None}
+use Rattle.std.specs.Prelude.{Option, Some, None, Bool, true, false}
 use Rattle.ffi3_cdecl_rules.specs.Tokens as cut
 use Rattle.ffi3_type_rules.specs.Tree as types
 use Rattle.ffi3_cdecl.specs.declared.token.Dialect.{Dialect}
@@ -72,3 +72,16 @@ found_of f.Blank = cut.blank
 found_of (f.Skipped more) = cut.skipped more
 found_of f.Nothing = cut.nothing_known
 found_of (f.Token x more) = cut.found (token_of x) more
+
+-- which mark it is
+abbrev pub is_close_round : cut.Token → Bool
+is_close_round cut.close_round = true
+is_close_round x = false
+
+abbrev pub is_close_square : cut.Token → Bool
+is_close_square cut.close_square = true
+is_close_square x = false
+
+abbrev pub is_semicolon : cut.Token → Bool
+is_semicolon cut.semicolon = true
+is_semicolon x = false

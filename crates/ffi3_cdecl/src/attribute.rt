@@ -7,7 +7,7 @@ use crate::bytes::{blank_length, is_letter, word_length};
 use crate::token::is;
 
 /// Where a byte of a bracket stands: outside of quotes, between them, or there behind a backslash.
-#[derive(Clone, Copy, Debug)]
+#[derive(Clone, Copy)]
 pub enum Quoted {
     Outside,
     Between,

@@ -15,7 +15,7 @@ use crate::said::Kind;
 use crate::settled::{bracket_or_end, list_with_room};
 use crate::state::{Head, Member, Settled, State, Where, Wide};
 use crate::step::{MOST_OPEN, has_room, step_closing};
-use crate::token::{Dialect, Token};
+use crate::token::{Dialect, Token, is_close_round};
 use ffi3_types::{Bytes, FfiType, NoMemory};
 use std::alloc::Global;
 use std::mem;
@@ -190,12 +190,14 @@ fn itself_ends(k: Kind, head: Head, types: Gathered, token: Token<'_>) -> Result
 }
 
 /// A bracket's end, where so many stand round it.
+#[tactic(auto, using(crate::proofs::Marks::itself_goes, crate::proofs::Marks::itself_dies))]
 fn itself_in_bracket(k: Kind, n: u32, head: Head, types: Gathered, token: Token<'_>) -> State
     ensures { state_of result ≡ itself_or_bracket (kind_of k) (suc n) (head_of head) types (token_of token.entry) }
 {
-    match token {
-        Token::CloseRound => State::Wide(Wide::ParameterItself(k, n, head, types)),
-        _ => State::Dead,
+    if is_close_round(token) {
+        State::Wide(Wide::ParameterItself(k, n, head, types))
+    } else {
+        State::Dead
     }
 }
 
@@ -243,12 +245,14 @@ pub fn step_itself(
 }
 
 /// `void` in so many brackets and one: the end of one.
+#[tactic(auto, using(crate::proofs::Marks::nothing_goes, crate::proofs::Marks::nothing_dies))]
 fn nothing_in_bracket(n: u32, u: Box<Settled>, token: Token<'_>) -> State
     ensures { state_of result ≡ nothing_or_bracket (suc n) (settled_of (box_value u)) (token_of token.entry) }
 {
-    match token {
-        Token::CloseRound => State::Wide(Wide::InnerNothing(n, u)),
-        _ => State::Dead,
+    if is_close_round(token) {
+        State::Wide(Wide::InnerNothing(n, u))
+    } else {
+        State::Dead
     }
 }
 

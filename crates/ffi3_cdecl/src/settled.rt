@@ -13,7 +13,7 @@ use crate::round::Round;
 use crate::said::Kind;
 use crate::state::{Settled, State, Where, Wide, declarator, step_type};
 use crate::step::{MOST_OPEN, has_room_inside, step_closing};
-use crate::token::{Dialect, Token};
+use crate::token::{Dialect, Token, is_close_round, is_close_square, is_semicolon};
 use ffi3_types::{FfiType, NoMemory};
 use std::alloc::Global;
 
@@ -78,12 +78,14 @@ fn inner_ends(u: Box<Settled>, token: Token<'_>) -> State
 }
 
 /// Behind the function's declarator.
+#[tactic(auto, using(crate::proofs::Marks::function_goes, crate::proofs::Marks::function_dies))]
 fn function_ends(d: Declaration, token: Token<'_>) -> State
     ensures { state_of result ≡ function_ends d (token_of token.entry) }
 {
-    match token {
-        Token::Semicolon => State::Ended(d),
-        _ => State::Dead,
+    if is_semicolon(token) {
+        State::Ended(d)
+    } else {
+        State::Dead
     }
 }
 
@@ -127,12 +129,14 @@ pub fn bracket_or_end(alloc: Global, u: Settled, token: Token<'_>) -> Result<Sta
 }
 
 /// A token where a bracket is open, and so many round it.
+#[tactic(auto, using(crate::proofs::Marks::bracket_goes, crate::proofs::Marks::bracket_dies))]
 fn closing_bracket(alloc: Global, u: Settled, n: u32, token: Token<'_>) -> Result<State, NoMemory>
     ensures { IfOk result (λ s. state_of s ≡ bracket_or_end (suc n) (settled_of u) (token_of token.entry)) }
 {
-    match token {
-        Token::CloseRound => closed_bracket(alloc, u, n),
-        _ => Ok(State::Dead),
+    if is_close_round(token) {
+        Ok(closed_bracket(alloc, u, n)?)
+    } else {
+        Ok(State::Dead)
     }
 }
 
@@ -172,12 +176,14 @@ pub fn step_square(u: Box<Settled>, token: Token<'_>) -> State
 }
 
 /// A token behind a number in it.
+#[tactic(auto, using(crate::proofs::Marks::filled_goes, crate::proofs::Marks::filled_dies))]
 pub fn step_filled(u: Box<Settled>, token: Token<'_>) -> State
     ensures { state_of result ≡ step_filled (settled_of (box_value u)) (token_of token.entry) }
 {
-    match token {
-        Token::CloseSquare => State::Wide(Wide::Settled(u)),
-        _ => State::Dead,
+    if is_close_square(token) {
+        State::Wide(Wide::Settled(u))
+    } else {
+        State::Dead
     }
 }
 
@@ -219,11 +225,13 @@ pub fn step_list_comma(r: Dialect, u: Box<Settled>, token: Token<'_>) -> State
 }
 
 /// A token behind the dots in it.
+#[tactic(auto, using(crate::proofs::Marks::dots_go, crate::proofs::Marks::dots_die))]
 pub fn step_list_dots(u: Box<Settled>, token: Token<'_>) -> State
     ensures { state_of result ≡ step_list_dots (settled_of (box_value u)) (token_of token.entry) }
 {
-    match token {
-        Token::CloseRound => State::Wide(Wide::Settled(u)),
-        _ => State::Dead,
+    if is_close_round(token) {
+        State::Wide(Wide::Settled(u))
+    } else {
+        State::Dead
     }
 }

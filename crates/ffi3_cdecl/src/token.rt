@@ -2,7 +2,7 @@
 ghost use Rattle.std.specs.Prelude.{◌≡◌, ◌<◌, ◌≤◌, ◌+◌, ◌-◌, take, true, length, get_or, drop, ◌∷◌, bytes_eq};
 ghost use Rattle.std.specs.Prelude.{◌++◌};
 ghost use Rattle.ffi3_cdecl_rules.specs.Tokens.{word_among, words, word_of, mark_among, marks, dots_at, found, front, goes_on_word, is_digit, number_at, found_at, blank_words, more_words, wide_words, is_among, wide_word, wide_word_at, comment_at, wide_found_at, found_in};
-ghost use Rattle.ffi3_cdecl.specs.TokenOf.{dialect_of, sign_of, token_of, mark_of, found_of};
+ghost use Rattle.ffi3_cdecl.specs.TokenOf.{dialect_of, sign_of, token_of, mark_of, found_of, is_close_round, is_close_square, is_semicolon};
 
 use crate::bytes::{
     comment_length, digits_length, is_blank, is_digit, is_letter, line_length, number, word_length,
@@ -17,7 +17,7 @@ pub enum Dialect {
 }
 
 /// A type that one word names.
-#[derive(Clone, Copy, Debug, PartialEq, Eq)]
+#[derive(Clone, Copy)]
 pub enum TypeWord {
     U8,
     S8,
@@ -39,7 +39,7 @@ pub enum Sign {
 }
 
 /// A word or a mark of a declaration.
-#[derive(Clone, Copy, Debug)]
+#[derive(Clone, Copy)]
 pub enum Token<'a> {
     Type(TypeWord),
     Sign(Sign),
@@ -73,6 +73,36 @@ pub enum Token<'a> {
     Dots,
 }
 
+/// Whether it is a ")". A caller that asks so has two ways out, and not one for each token.
+pub fn is_close_round(token: Token<'_>) -> bool
+    ensures { result ≡ is_close_round (token_of token.entry) }
+{
+    match token {
+        Token::CloseRound => true,
+        _ => false,
+    }
+}
+
+/// Whether it is a "]". A caller that asks so has two ways out, and not one for each token.
+pub fn is_close_square(token: Token<'_>) -> bool
+    ensures { result ≡ is_close_square (token_of token.entry) }
+{
+    match token {
+        Token::CloseSquare => true,
+        _ => false,
+    }
+}
+
+/// Whether it is a ";". A caller that asks so has two ways out, and not one for each token.
+pub fn is_semicolon(token: Token<'_>) -> bool
+    ensures { result ≡ is_semicolon (token_of token.entry) }
+{
+    match token {
+        Token::Semicolon => true,
+        _ => false,
+    }
+}
+
 /// What mark of one byte it is.
 fn mark(b: u8) -> Option<Token<'static>>
     ensures { mark_of result ≡ mark_among b marks }
@@ -92,7 +122,7 @@ fn mark(b: u8) -> Option<Token<'static>>
 }
 
 /// What stands at a byte.
-#[derive(Clone, Copy, Debug)]
+#[derive(Clone, Copy)]
 pub enum Found<'a> {
     Blank,
     /// What is passed over, and how many bytes more it takes.

@@ -91,16 +91,20 @@ module _ (version : ℕ) (d : Data) (path : JsonPath) (x : Read Signature) (same
       IfOk-weaker z (λ s. x ≡ read s) (λ s. read_signature version d path ≡ read s) (λ s h. same ∙ h) ok
 
   pub reads_rightly : (z : Result Signature ScriptFault) → IfOk z (λ s. x ≡ read s) → IfOk z SignatureHasNoFault
-  reads_rightly z ok = IfOk-weaker z _ _ (λ s h. read_is_right version d path s (same ∙ h)) ok
+  reads_rightly z ok =
+      IfOk-weaker z (λ s. x ≡ read s) SignatureHasNoFault (λ s h. read_is_right version d path s (same ∙ h)) ok
 
   pub reads_by_order : (z : Result Signature ScriptFault) → IfOk z (λ s. x ≡ read s) → IfOk z (IsSignature version d path)
-  reads_by_order z ok = IfOk-weaker z _ _ (λ s h. signature_is_read version d path s (same ∙ h)) ok
+  reads_by_order z ok =
+      IfOk-weaker z (λ s. x ≡ read s) (IsSignature version d path) (λ s h. signature_is_read version d path s (same ∙ h)) ok
 
   pub tells_signature : (z : Result Signature ScriptFault) → IfErr z (Reports (λ p r. x ≡ fault p r)) → IfErr z (Reports (λ p r. read_signature version d path ≡ fault p r))
-  tells_signature z err = IfErr-weaker z _ _ (λ e t. tells_part (read_signature version d path) x (λ p r h. same ∙ h) e t) err
+  tells_signature z err =
+      IfErr-weaker z (Reports (λ p r. x ≡ fault p r)) (Reports (λ p r. read_signature version d path ≡ fault p r)) (λ e t. tells_part (read_signature version d path) x (λ p r h. same ∙ h) e t) err
 
   pub tells_by_order : (z : Result Signature ScriptFault) → IfErr z (Reports (λ p r. x ≡ fault p r)) → IfErr z (Reports (IsNoSignature version d path))
-  tells_by_order z err = IfErr-weaker z _ _ (λ e t. tells_more {P = λ p r. x ≡ fault p r} {Q = IsNoSignature version d path} (λ p r h. signature_is_refused version d path p r (same ∙ h)) e t) err
+  tells_by_order z err =
+      IfErr-weaker z (Reports (λ p r. x ≡ fault p r)) (Reports (IsNoSignature version d path)) (λ e t. tells_more {P = λ p r. x ≡ fault p r} {Q = IsNoSignature version d path} (λ p r h. signature_is_refused version d path p r (same ∙ h)) e t) err
 
 -- ---- a declaration
 
