@@ -12,3 +12,4 @@ pub mod Lives
 pub mod Comments
 pub mod Following
 pub mod Attributes
+pub mod Reaching
