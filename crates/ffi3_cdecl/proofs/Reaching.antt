@@ -1,9 +1,9 @@
 -- What is reached and told, one byte, one word and one kind at a time.
-use Rattle.std.proofs.Common.{◌≡◌, ℕ, zero, suc, ◌+◌, ◌-◌, ◌<◌, ◌≤◌, Bool, true, false, List, [], ◌∷◌, ◌++◌, length, get_or, drop, take, map, ap, sym, refl, subst, ◌∙◌, arith}
+use Rattle.std.proofs.Common.{◌≡◌, ℕ, zero, suc, ◌+◌, ◌-◌, ◌<◌, ◌≤◌, Bool, true, false, List, [], ◌∷◌, ◌++◌, length, get_or, drop, take, ap, sym, refl, subst, ◌∙◌, arith}
 use Rattle.std.specs.Prelude.{cond, not, ◌||◌, Option, None}
 use Rattle.std.proofs.lemmas.List.{drop_more, drop_all}
 use Rattle.ffi3_cdecl_rules.specs.Tokens.{wide, Sign, Token, complex_word, Found, blank, skipped, nothing_known, found, found_in}
-use Rattle.ffi3_cdecl_rules.specs.Machine.{State, step, is_dead}
+use Rattle.ffi3_cdecl_rules.specs.Machine.{State, is_dead}
 use Rattle.ffi3_cdecl_rules.specs.OnePass.{keeping}
 use Rattle.ffi3_cdecl_rules.specs.Expected as rules
 use Rattle.ffi3_cdecl_rules.specs.Expected.{every_kind, a_word}

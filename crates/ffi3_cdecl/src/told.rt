@@ -169,7 +169,13 @@ fn end_there(alloc: Global, c: Sign, bytes: &[u8], stop: usize) -> Result<bool, 
 }
 
 /// Whether a token of this kind could stand at an offset.
-fn could(alloc: Global, c: Sign, bytes: &[u8], stop: usize, kind: Expected) -> Result<bool, NoMemory>
+fn could(
+    alloc: Global,
+    c: Sign,
+    bytes: &[u8],
+    stop: usize,
+    kind: Expected,
+) -> Result<bool, NoMemory>
     ensures { IfOk result (λ b. b ≡ could (reach (sign_of c) stop 0 nothing_reached bytes.now).state (expected_of kind)) }
 {
     match kind {

@@ -60,7 +60,11 @@ fn wants_an_inner(state: &Wide) -> bool
 fn named_base(wanted: bool, called: &[u8]) -> Track<'_>
     ensures { track_of result ≡ named_base wanted called.now }
 {
-    if wanted { Track::BehindBase(Base::Named(called)) } else { Track::Nothing }
+    if wanted {
+        Track::BehindBase(Base::Named(called))
+    } else {
+        Track::Nothing
+    }
 }
 
 /// A base, and nothing else.
@@ -141,7 +145,11 @@ fn bracket_behind_base<'a>(state: &State, track: Track<'a>) -> Track<'a>
 fn begun<'a>(state: &State, track: Track<'a>) -> Track<'a>
     ensures { track_of result ≡ cond (wants_a_type (state_of state.now)) (track_of track) no_track }
 {
-    if wants_a_type(state) { track } else { Track::Nothing }
+    if wants_a_type(state) {
+        track
+    } else {
+        Track::Nothing
+    }
 }
 
 /// Behind one token more.
