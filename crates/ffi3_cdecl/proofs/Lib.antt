@@ -13,3 +13,4 @@ pub mod Comments
 pub mod Following
 pub mod Attributes
 pub mod Reaching
+pub mod Wording

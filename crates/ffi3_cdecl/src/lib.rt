@@ -21,6 +21,7 @@ mod step;
 mod text;
 mod token;
 mod told;
+mod told_text;
 mod track;
 mod words;
 
@@ -33,4 +34,5 @@ pub use ffi3_types::NoMemory;
 pub use text::decl_text;
 pub use token::Sign;
 pub use told::{Reason, Told, tell};
+pub use told_text::told_text;
 pub use track::Base;
