@@ -20,6 +20,7 @@ static struct ffi3_fault fault;
 static struct ffi3_call whole;
 static struct ffi3_piece pieces[MOST];
 static struct ffi3_layout layout;
+static struct ffi3_checked checked;
 static struct ffi3_type type;
 static struct ffi3_leaf leaves[MOST];
 static size_t offsets[MOST];
@@ -133,6 +134,11 @@ static void arguments(void)
                         sizeof values) == FFI3_OK, "arguments");
 }
 
+static void check_text(void)
+{
+    must(ffi3_check_text(FFI3_AMD64, text, length, &checked) == FFI3_OK, "check_text");
+}
+
 static void tell_fault(void)
 {
     struct ffi3_fault bad = {FFI3_BAD_TOKEN, 0, 8, 0};
@@ -195,6 +201,7 @@ int main(int number, char **words)
     tell("ffi3_place", place);
     tell("ffi3_place_nodes", place_nodes);
     tell("ffi3_layout of the result", lay_out);
+    tell("ffi3_check_text", check_text);
     tell("ffi3_layout_nodes of the result", layout_nodes);
     tell("ffi3_offsets_nodes of the result", offsets_nodes);
     tell("ffi3_check_layout of the result", check_layout);

@@ -5,6 +5,7 @@
 ghost use Rattle.std.specs.Prelude.{◌≡◌, ◌⊎◌, None, length};
 ghost use Rattle.ffi3_capi.specs.Chars.{char_sign, layout_sign};
 ghost use Rattle.ffi3_capi.specs.Faults.{Declares, IsFaultOf};
+ghost use Rattle.ffi3_capi.specs.CheckedText.{ChecksText};
 ghost use Rattle.ffi3_capi.specs.ByNodes.{AreNodesOf, IsFaultOfNodes};
 ghost use Rattle.ffi3_capi.specs.Placed.{Places};
 ghost use Rattle.ffi3_capi.specs.Laid.{LaysOut};
@@ -23,7 +24,7 @@ ghost use Rattle.ffi3_interface.specs.Transfers.{Collects, Gives, Loads, Stores}
 ghost use Rattle.ffi3_interface.specs.Listing.{TellsMoves};
 
 use ffi3_capi::{
-    Declaration, EachArgument, EntryArguments, LaidLeaf, LaidType, Node, PlacedCall, PlacedPiece,
+    CheckedText, Declaration, EachArgument, EntryArguments, LaidLeaf, LaidType, Node, PlacedCall, PlacedPiece,
     Registers, ReturnedResult, TextFault, WholeType,
 };
 use ffi3_handle::Handle;
@@ -77,6 +78,19 @@ pub extern "C" fn ffi3_layout(
     ensures { LaysOut (Declares layout_sign text.now) (IsFaultOf layout_sign text.now) value leaves.old result layout.new leaves.new }
 {
     ffi3_capi::layout(alloc, Declaration::Text(text), value, layout, leaves)
+}
+
+/// Whether the text declares a function, and what is told of a place that is unexpected.
+#[unsafe(no_mangle)]
+pub extern "C" fn ffi3_check_text(
+    alloc: Global,
+    target: u32,
+    text: &[u8],
+    checked: &mut CheckedText,
+) -> u32
+    ensures { ChecksText target text.now result checked.new }
+{
+    ffi3_capi::check_text(alloc, target, text, checked)
 }
 
 /// The layout of the type that the nodes are, and its leaves.

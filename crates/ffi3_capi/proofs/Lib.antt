@@ -8,3 +8,4 @@ pub mod Offsets
 pub mod Differing
 pub mod Results
 pub mod OneByOne
+pub mod Checking

@@ -3,6 +3,7 @@
 #![tactic(auto)]
 
 mod bytes;
+mod checking;
 pub mod codes;
 pub mod declaration;
 mod each;
@@ -21,6 +22,7 @@ mod status;
 mod text;
 mod whole;
 
+pub use checking::{CheckedText, check_text};
 pub use declaration::Declaration;
 pub use each::{EachArgument, EachArguments, Seen, see, tell_each};
 pub use entry::{EntryArguments, Found, Unread, arguments, find_arguments};

@@ -34,5 +34,5 @@ pub use ffi3_types::NoMemory;
 pub use text::decl_text;
 pub use token::Sign;
 pub use told::{Reason, Told, tell};
-pub use told_text::told_text;
+pub use told_text::{lines_at, told_words};
 pub use track::Base;

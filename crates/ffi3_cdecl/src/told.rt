@@ -1,5 +1,5 @@
 // What is told of a place where a text is no declaration, in the wide reading.
-ghost use Rattle.std.specs.Prelude.{◌≡◌, IfOk, ◌<◌, get_or};
+ghost use Rattle.std.specs.Prelude.{◌≡◌, IfOk, ◌<◌, ◌≤◌, get_or, length};
 ghost use Rattle.ffi3_cdecl_rules.specs.Tokens.{wide, complex_word};
 ghost use Rattle.ffi3_cdecl_rules.specs.Reading.{IsReadingIn, unexpected};
 ghost use Rattle.ffi3_cdecl_rules.specs.Expected.{every_kind, a_word, the_end};
@@ -58,7 +58,7 @@ fn nothing_reached() -> Reached<'static>
 
 /// One token more.
 fn reaching<'a>(alloc: Global, q: Reached<'a>, token: Token<'a>) -> Result<Reached<'a>, NoMemory>
-    ensures { IfOk result (λ p. reached_of p ≡ reaching (reached_of q) (token_of token.entry)) }
+    ensures { IfOk result (λ p. reached_of p ≡ reaching (reached_of q.entry) (token_of token.entry)) }
 {
     let Reached { state, track } = q;
     let track = tracked(&state, track, token);
@@ -222,7 +222,8 @@ fn kind_number(i: usize) -> Expected
 /// The kinds that could stand at an offset: four at most, the first of them.
 #[tactic(auto, using(crate::proofs::Reaching::kind_told, crate::proofs::Reaching::kind_not_told, crate::proofs::Reaching::enough_told, crate::proofs::Reaching::all_told))]
 fn kinds(alloc: Global, c: Sign, bytes: &[u8], stop: usize) -> Result<Vec<Expected>, NoMemory>
-    ensures { IfOk result (λ v. kinds_of v.items ≡ expected (reach (sign_of c) stop 0 nothing_reached bytes.now).state) }
+    ensures value { IfOk result (λ v. kinds_of v.items ≡ expected (reach (sign_of c) stop 0 nothing_reached bytes.now).state) }
+    ensures few { IfOk result (λ v. length v.items ≤ 4) }
 {
     let mut told = Vec::new(alloc);
     for i in 0..15usize {
@@ -238,7 +239,7 @@ fn kinds(alloc: Global, c: Sign, bytes: &[u8], stop: usize) -> Result<Vec<Expect
 }
 
 /// Why the token at an offset is unexpected.
-fn reason<'a>(
+fn reason_there<'a>(
     alloc: Global,
     c: Sign,
     bytes: &'a [u8],
@@ -289,6 +290,7 @@ pub fn tell<'a>(
 ) -> Result<Told<'a>, NoMemory>
     ensures computed { IfOk result (λ t. told_of t ≡ tell (sign_of char_sign) text.now at) }
     ensures told { IfOk result (λ t. IsReadingIn wide (sign_of char_sign) text.now (unexpected at) → IsTold (sign_of char_sign) text.now at (told_of t)) }
+    ensures few { IfOk result (λ t. length t.expected.items ≤ 4) }
 {
     let bytes = text.as_bytes();
     let expected = kinds(alloc, char_sign, bytes, at)?;
@@ -304,7 +306,7 @@ pub fn tell<'a>(
             let Some(taken) = more.checked_add(1) else {
                 return Err(AllocError);
             };
-            let reason = reason(alloc, char_sign, bytes, at, token)?;
+            let reason = reason_there(alloc, char_sign, bytes, at, token)?;
             Ok(Told {
                 taken,
                 reason,

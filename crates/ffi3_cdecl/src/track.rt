@@ -69,7 +69,7 @@ fn named_base(wanted: bool, called: &[u8]) -> Track<'_>
 
 /// A base, and nothing else.
 fn base_alone(track: Track<'_>) -> Track<'_>
-    ensures { track_of result ≡ base_alone (track_of track) }
+    ensures { track_of result ≡ base_alone (track_of track.entry) }
 {
     match track {
         Track::BehindBase(base) => Track::BehindBase(base),
@@ -79,7 +79,7 @@ fn base_alone(track: Track<'_>) -> Track<'_>
 
 /// A tag behind its word.
 fn tag_behind<'a>(track: Track<'a>, tag: &'a [u8]) -> Track<'a>
-    ensures { track_of result ≡ tag_behind (track_of track) tag.now }
+    ensures { track_of result ≡ tag_behind (track_of track.entry) tag.now }
 {
     match track {
         Track::BehindStruct => Track::BehindBase(Base::Struct(tag)),
@@ -91,7 +91,7 @@ fn tag_behind<'a>(track: Track<'a>, tag: &'a [u8]) -> Track<'a>
 
 /// A name in a state of the wide reading.
 fn name_in_wide<'a>(state: &Wide, track: Track<'a>, called: &'a [u8]) -> Track<'a>
-    ensures { track_of result ≡ name_behind_base (wide_of state.now) (track_of track) called.now }
+    ensures { track_of result ≡ name_behind_base (wide_of state.now) (track_of track.entry) called.now }
 {
     match state {
         Wide::WantsTag(_) => tag_behind(track, called),
@@ -105,7 +105,7 @@ fn name_in_wide<'a>(state: &Wide, track: Track<'a>, called: &'a [u8]) -> Track<'
 
 /// A name.
 fn name_behind_base<'a>(state: &State, track: Track<'a>, called: &'a [u8]) -> Track<'a>
-    ensures { track_of result ≡ name_behind_base (state_of state.now) (track_of track) called.now }
+    ensures { track_of result ≡ name_behind_base (state_of state.now) (track_of track.entry) called.now }
 {
     match state {
         State::AfterStruct(_) => tag_behind(track, called),
@@ -121,7 +121,7 @@ fn name_behind_base<'a>(state: &State, track: Track<'a>, called: &'a [u8]) -> Tr
 
 /// A "(" in a state of the wide reading.
 fn bracket_in_wide<'a>(state: &Wide, track: Track<'a>) -> Track<'a>
-    ensures { track_of result ≡ bracket_behind_base (wide_of state.now) (track_of track) }
+    ensures { track_of result ≡ bracket_behind_base (wide_of state.now) (track_of track.entry) }
 {
     match state {
         Wide::AfterStructTag(_) => base_alone(track),
@@ -133,7 +133,7 @@ fn bracket_in_wide<'a>(state: &Wide, track: Track<'a>) -> Track<'a>
 
 /// A "(".
 fn bracket_behind_base<'a>(state: &State, track: Track<'a>) -> Track<'a>
-    ensures { track_of result ≡ bracket_behind_base (state_of state.now) (track_of track) }
+    ensures { track_of result ≡ bracket_behind_base (state_of state.now) (track_of track.entry) }
 {
     match state {
         State::Wide(wide) => bracket_in_wide(wide, track),
@@ -143,7 +143,7 @@ fn bracket_behind_base<'a>(state: &State, track: Track<'a>) -> Track<'a>
 
 /// A word that a tag follows, where a type may stand.
 fn begun<'a>(state: &State, track: Track<'a>) -> Track<'a>
-    ensures { track_of result ≡ cond (wants_a_type (state_of state.now)) (track_of track) no_track }
+    ensures { track_of result ≡ cond (wants_a_type (state_of state.now)) (track_of track.entry) no_track }
 {
     if wants_a_type(state) {
         track
@@ -154,7 +154,7 @@ fn begun<'a>(state: &State, track: Track<'a>) -> Track<'a>
 
 /// Behind one token more.
 pub fn tracked<'a>(state: &State, track: Track<'a>, token: Token<'a>) -> Track<'a>
-    ensures { track_of result ≡ tracked (state_of state.now) (track_of track) (token_of token.entry) }
+    ensures { track_of result ≡ tracked (state_of state.now) (track_of track.entry) (token_of token.entry) }
 {
     match token {
         Token::Struct => begun(state, Track::BehindStruct),
