@@ -29,7 +29,7 @@ static struct ffi3_arguments found;
 static struct ffi3_reason reason;
 static struct ffi3_move moves[MOST];
 static unsigned char values[1 << 12], result[1 << 12], stack[1 << 13];
-static char name[64];
+static char name[64], lines[256];
 
 static void must(int holds, const char *what)
 {
@@ -139,6 +139,11 @@ static void check_text(void)
     must(ffi3_check_text(FFI3_AMD64, text, length, &checked) == FFI3_OK, "check_text");
 }
 
+static void tell_lines(void)
+{
+    must(ffi3_fault_lines(FFI3_AMD64, "int f(int x y)", 14, lines, sizeof lines) != 0, "fault_lines");
+}
+
 static void tell_fault(void)
 {
     struct ffi3_fault bad = {FFI3_BAD_TOKEN, 0, 8, 0};
@@ -207,6 +212,7 @@ int main(int number, char **words)
     tell("ffi3_check_layout of the result", check_layout);
     tell("ffi3_arguments", arguments);
     tell("ffi3_fault_text", tell_fault);
+    tell("ffi3_fault_lines", tell_lines);
     tell("ffi3_register_name", register_name);
     ffi3_release(&interface);
     return 0;

@@ -686,6 +686,21 @@ uint32_t ffi3_moves(struct ffi3_interface *interface, uint32_t list, size_t *cou
  */
 size_t ffi3_fault_text(const struct ffi3_fault *fault, char *text, size_t capacity);
 
+/* size_t ffi3_fault_lines(uint32_t TARGET, const char *TEXT, size_t LENGTH, char *LINES, size_t CAPACITY)
+ *
+ * Why the LENGTH bytes at TEXT declare no function for calls by the standard TARGET, in lines for a person, each with
+ * its newline: the fault; and of one that has a place in the text the line that has it, and a "^" below the place:
+ *
+ *     at 12: unexpected 'y', expected ')', ',', '(' or '['
+ *     int f(int x y)
+ *                 ^
+ *
+ * Answers how long they are, without the terminating NUL; they are written, with that NUL, only where CAPACITY is
+ * greater. Answers 0 where the text declares a function, where no standard has the number, and where malloc refused;
+ * only then may LINES be as it was though it had room.
+ */
+size_t ffi3_fault_lines(uint32_t target, const char *text, size_t length, char *lines, size_t capacity);
+
 /* size_t ffi3_register_name(uint32_t TARGET, uint32_t PLACE, uint32_t NUMBER, char *NAME, size_t CAPACITY)
  *
  * The name of register NUMBER, as "rdi", "x0", "fa0": a general one where PLACE is FFI3_GENERAL, a floating one where

@@ -225,6 +225,24 @@ static int is_nothing_told(const struct ffi3_checked *told)
         && !told->expected[2] && !told->expected[3];
 }
 
+// The lines of a fault of this kind, with no room for their end and with the very room.
+static void check_lines(uint32_t target, const char *text, size_t length, uint32_t kind)
+{
+    size_t wanted = ffi3_fault_lines(target, text, length, NULL, 0);
+    int has_place = kind == FFI3_BAD_TOKEN || kind == FFI3_UNEXPECTED || kind == FFI3_BAD_NUMBER;
+    check((wanted != 0) == (kind != FFI3_NO_FAULT), "lines of a fault", text, length);
+    for (size_t room = wanted; room <= wanted + 1; room++) {
+        char *lines = block(room);
+        size_t told = ffi3_fault_lines(target, text, length, lines, room);
+        check(told == wanted && (room > wanted ? strlen(lines) == wanted : is_untouched(lines, room)), "lines", text,
+              length);
+        if (wanted && room > wanted)
+            check(lines[wanted - 1] == '\n' && (wanted > 2 && lines[wanted - 2] == '^') == has_place
+                      && (!has_place || !strncmp(lines, "at ", 3)), "last line", text, length);
+        release(lines, room);
+    }
+}
+
 // One call of ffi3_check_text, whose fault is that of ffi3_place.
 static void check_text(uint32_t target, const char *text, size_t length)
 {
@@ -243,6 +261,8 @@ static void check_text(uint32_t target, const char *text, size_t length)
                   && !memcmp(&told->fault, &call->fault, sizeof call->fault)
                   && (told->fault.kind == FFI3_UNEXPECTED ? is_told_place(told, length) : is_nothing_told(told)),
               "check", text, length);
+    if (!due)
+        check_lines(target, text, length, told->fault.kind);
     check(!told->reserved[0] && !told->reserved[1] && !told->reserved[2] && !told->reserved[3], "reserved words", text,
           length);
     free(call);
@@ -481,6 +501,8 @@ static void try_refused(const char *line, size_t length)
         read_each((uint32_t)due % 5, &(struct nodes){.line = line, .length = length}, 4096, 64, 4096);
         calls = calls > counted ? calls : counted, counted = 0;
         check_text((uint32_t)due % 5, line, length);
+        calls = calls > counted ? calls : counted, counted = 0;
+        ffi3_fault_lines((uint32_t)due % 5, line, length, NULL, 0);
     } while (due <= (calls > counted ? calls : counted));
     due = 0;
 }

@@ -119,6 +119,8 @@ static void ask(struct work *work, const char *text, size_t length, uint32_t tar
     uint32_t checked = ffi3_check_text(target, text, length, &work->checked);
     add(work, &checked, sizeof checked);
     add(work, &work->checked, sizeof work->checked);
+    size_t lines = ffi3_fault_lines(target, text, length, (char *)work->values, VALUES);
+    add(work, work->values, lines);
     uint32_t each = ffi3_arguments_each(target, text, length, &work->held, work->bytes, sizeof work->bytes,
                                         &work->found, work->each, ARGUMENTS, work->values, VALUES);
     add_each(work, each);

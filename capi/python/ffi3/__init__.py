@@ -27,8 +27,8 @@ import sys
 try:
     from .library import (FRAME_AT, HIDDEN, MOVES, RESULT, TARGETS, VERSION, Argument, Call, Error, Interface, Layout,
                           Move, NoAddress, NotInStack, Piece, ShortStack, Sizes, Type, Unexpected, VersionError,
-                          arguments, arguments_each, arguments_nodes, check_layout, layout, layout_nodes, place,
-                          place_nodes, result, result_nodes, scalars, unexpected, version)
+                          arguments, arguments_each, arguments_nodes, check_layout, fault_lines, layout, layout_nodes,
+                          place, place_nodes, result, result_nodes, scalars, unexpected, version)
 except (OSError, ImportError) as error:
     if sys.argv[:1] != ["-m"]:
         raise
@@ -36,5 +36,5 @@ except (OSError, ImportError) as error:
 
 __all__ = ["FRAME_AT", "HIDDEN", "MOVES", "RESULT", "TARGETS", "VERSION", "Argument", "Call", "Error", "Interface",
            "Layout", "Move", "NoAddress", "NotInStack", "Piece", "ShortStack", "Sizes", "Type", "Unexpected",
-           "VersionError", "arguments", "arguments_each", "arguments_nodes", "check_layout", "layout", "layout_nodes",
-           "place", "place_nodes", "result", "result_nodes", "scalars", "unexpected", "version"]
+           "VersionError", "arguments", "arguments_each", "arguments_nodes", "check_layout", "fault_lines", "layout",
+           "layout_nodes", "place", "place_nodes", "result", "result_nodes", "scalars", "unexpected", "version"]

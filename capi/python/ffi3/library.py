@@ -325,6 +325,7 @@ def _load() -> ctypes.CDLL:
         ("collect", uint32, [kept, registers, text, size, text, size, reason]),
         ("give", uint32, [kept, text, size, registers, text, size, reason]),
         ("fault_text", size, [ctypes.POINTER(_Fault), text, size]),
+        ("fault_lines", size, [uint32, text, size, text, size]),
         ("register_name", size, [uint32, uint32, uint32, text, size]),
     ):
         exported = getattr(library, f"ffi3_{function}")
@@ -434,6 +435,18 @@ def unexpected(target: str, declaration: str | bytes) -> Unexpected | None:
         return None
     expected = tuple(_EXPECTED[kind - 1] for kind in told.expected[:told.count])
     return Unexpected(told.fault.offset, told.length, _REASONS[told.reason], expected)
+
+
+def fault_lines(target: str, declaration: str | bytes) -> str:
+    """Why a text declares no function, in lines for a person: the fault, and where it has a place in the text that line
+    with a "^" below the place. Nothing where the text declares one."""
+    number, text, capacity = _target(target), _bytes_of(declaration), 256
+    while True:
+        lines = ctypes.create_string_buffer(capacity)
+        length = _library.ffi3_fault_lines(number, text, len(text), lines, capacity)
+        if length < capacity:
+            return lines.raw[:length].decode(errors="replace")
+        capacity = length + 1
 
 
 _Pairs = tuple[tuple[int, int], ...]  # of nodes their kinds and counts, as C has them

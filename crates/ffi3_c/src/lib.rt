@@ -17,6 +17,7 @@ ghost use Rattle.ffi3_capi.specs.Each.{ReadsEach};
 ghost use Rattle.ffi3_capi.specs.Returned.{ReadsResult};
 ghost use Rattle.ffi3_capi.specs.Filled.{filled, with_end};
 ghost use Rattle.ffi3_capi.specs.FaultText.{fault_text};
+ghost use Rattle.ffi3_capi.specs.FaultLines.{TellsLines};
 ghost use Rattle.ffi3_capi.specs.Registers.{register_name};
 ghost use Rattle.ffi3_interface.specs.Keeping.{Prepares, Shares};
 ghost use Rattle.ffi3_interface.specs.Numbers.{TellsSizes};
@@ -24,8 +25,8 @@ ghost use Rattle.ffi3_interface.specs.Transfers.{Collects, Gives, Loads, Stores}
 ghost use Rattle.ffi3_interface.specs.Listing.{TellsMoves};
 
 use ffi3_capi::{
-    CheckedText, Declaration, EachArgument, EntryArguments, LaidLeaf, LaidType, Node, PlacedCall, PlacedPiece,
-    Registers, ReturnedResult, TextFault, WholeType,
+    CheckedText, Declaration, EachArgument, EntryArguments, LaidLeaf, LaidType, Node, PlacedCall,
+    PlacedPiece, Registers, ReturnedResult, TextFault, WholeType,
 };
 use ffi3_handle::Handle;
 use ffi3_interface::{InterfaceSizes, Reason, ToldMove};
@@ -376,6 +377,19 @@ pub extern "C" fn ffi3_fault_text(alloc: Global, fault: &TextFault, text: &mut [
     ensures { ((result ≡ length (fault_text fault.now)) × (text.new ≡ filled (with_end (fault_text fault.now)) text.old)) ⊎ ((result ≡ 0) × (text.new ≡ text.old)) }
 {
     ffi3_capi::fault_text(alloc, fault, text)
+}
+
+/// The lines of what is wrong with a text.
+#[unsafe(no_mangle)]
+pub extern "C" fn ffi3_fault_lines(
+    alloc: Global,
+    target: u32,
+    text: &[u8],
+    lines: &mut [u8],
+) -> usize
+    ensures { TellsLines target text.now lines.old result lines.new }
+{
+    ffi3_capi::fault_lines(alloc, target, text, lines)
 }
 
 /// The name of a register.

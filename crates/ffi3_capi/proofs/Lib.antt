@@ -8,4 +8,5 @@ pub mod Offsets
 pub mod Differing
 pub mod Results
 pub mod OneByOne
-pub mod Checking
+pub mod Checks
+pub mod InLines

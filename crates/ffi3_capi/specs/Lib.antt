@@ -17,3 +17,4 @@ pub mod Returned
 pub mod Each
 pub mod Chars
 pub mod CheckedText
+pub mod FaultLines

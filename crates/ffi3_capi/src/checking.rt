@@ -18,8 +18,7 @@ use crate::status::Refusal;
 use ffi3_cdecl::{Base, DeclFault, Expected, Reason, Sign, Told, read_wide_decl, tell};
 use ffi3_types::NoMemory;
 use std::alloc::Global;
-use std::mem;
-use std::str;
+use std::{mem, str};
 
 /// Whether a text declares a function, and what is told of a place that is unexpected: C's `struct ffi3_checked`.
 #[repr(C)]
@@ -86,6 +85,7 @@ fn reason_number(why: Option<Reason<'_>>) -> u32
 }
 
 /// Kind `i` of those that are told, by number.
+#[tactic(auto, using(crate::proofs::Checks::number_there, crate::proofs::Checks::no_number_there))]
 fn number_at(kinds: &[Expected], i: usize) -> u32
     ensures { result ≡ slice_index_or (map expected_number (kinds_of kinds.now)) i 0 }
 {
@@ -108,7 +108,7 @@ fn four_numbers(kinds: &[Expected]) -> [u32; 4]
 }
 
 /// What is told of a place that is unexpected.
-#[tactic(auto, using(crate::proofs::Checking::kinds_count))]
+#[tactic(auto, using(crate::proofs::Checks::kinds_count))]
 fn told_at(at: u64, told: &Told<'_>) -> CheckedText
     requires { length told.now.expected.items ≤ 4 }
     ensures { result ≡ told_at at (told_of told.now) }
@@ -148,13 +148,8 @@ fn refuse(told: &mut CheckedText, refusal: Refusal) -> u32
 }
 
 /// What is told of the place where the text is unexpected.
-#[tactic(auto, using(crate::proofs::Checking::unexpected_there))]
-fn find_unexpected(
-    alloc: Global,
-    sign: Sign,
-    text: &str,
-    at: u64,
-) -> Result<CheckedText, NoMemory>
+#[tactic(auto, using(crate::proofs::Checks::unexpected_there))]
+fn find_unexpected(alloc: Global, sign: Sign, text: &str, at: u64) -> Result<CheckedText, NoMemory>
     ensures { IfOk result (λ u. IsUtf8 text.now → IsReadingIn wide (sign_of sign) text.now (unexpected at) → IsUnexpectedIn (sign_of sign) text.now u) }
 {
     let told = tell(alloc, sign, text, at as usize)?;
@@ -162,14 +157,8 @@ fn find_unexpected(
 }
 
 /// The same for a caller's struct.
-#[tactic(auto, using(crate::proofs::Checking::place_told, crate::proofs::Checking::no_memory))]
-fn tell_place(
-    alloc: Global,
-    target: u32,
-    text: &str,
-    at: u64,
-    told: &mut CheckedText,
-) -> u32
+#[tactic(auto, using(crate::proofs::Checks::place_told, crate::proofs::Checks::no_memory))]
+fn tell_place(alloc: Global, target: u32, text: &str, at: u64, told: &mut CheckedText) -> u32
     ensures { IsUtf8 text.now → IsSome (slice_get targets target) → IsReadingIn wide (char_sign target) text.now (unexpected at) → ChecksText target text.now result told.new }
 {
     match find_unexpected(alloc, char_sign(target), text, at) {
@@ -182,7 +171,7 @@ fn tell_place(
 }
 
 /// What is told of a fault of the text.
-#[tactic(auto, using(crate::proofs::Checking::bad_token_told, crate::proofs::Checking::bad_number_told, crate::proofs::Checking::signature_told, crate::proofs::Checking::no_memory))]
+#[tactic(auto, using(crate::proofs::Checks::bad_token_told, crate::proofs::Checks::bad_number_told, crate::proofs::Checks::signature_told, crate::proofs::Checks::no_memory))]
 fn tell_fault(
     alloc: Global,
     target: u32,
@@ -221,7 +210,7 @@ fn check(alloc: Global, target: u32, text: &str, told: &mut CheckedText) -> u32
 
 /// Whether the text declares a function for a call on the target of this number; otherwise the fault, and of a place
 /// that is unexpected what stands there, why it does not fit, and what could have stood there: for a caller's struct.
-#[tactic(auto, using(crate::proofs::Checking::no_target, crate::proofs::Checking::no_text))]
+#[tactic(auto, using(crate::proofs::Checks::no_target, crate::proofs::Checks::no_text))]
 pub fn check_text(alloc: Global, target: u32, text: &[u8], told: &mut CheckedText) -> u32
     ensures { ChecksText target text.now result told.new }
 {

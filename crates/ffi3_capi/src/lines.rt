@@ -18,10 +18,10 @@ use crate::text::kind_text;
 use ffi3_cdecl::{DeclFault, lines_at, read_wide_decl, tell, told_words};
 use ffi3_types::{Bytes, NoMemory};
 use std::alloc::{AllocError, Global};
-use std::mem;
-use std::str;
+use std::{mem, str};
 
 /// A line with the offset of a place.
+#[tactic(auto, using(crate::proofs::InLines::is_place_line))]
 fn place_line(alloc: Global, at: u64, words: &[u8]) -> Result<Bytes, NoMemory>
     ensures { IfOk result (λ line. line ≡ place_line at words.now) }
 {
@@ -41,6 +41,7 @@ fn lines_with(alloc: Global, text: &str, at: u64, words: &[u8]) -> Result<Bytes,
 }
 
 /// The lines of a place that is unexpected.
+#[tactic(auto, using(crate::proofs::InLines::lines_unexpected))]
 fn unexpected_lines(alloc: Global, target: u32, text: &str, at: u64) -> Result<Bytes, NoMemory>
     ensures { IfOk result (λ lines. IsUtf8 text.now → IsSome (slice_get targets target) → IsReadingIn wide (char_sign target) text.now (unexpected at) → AreFaultLines target text.now lines) }
 {
@@ -69,6 +70,7 @@ fn fault_line(alloc: Global, fault: TextFault) -> Result<Bytes, NoMemory>
 }
 
 /// The lines of a fault.
+#[tactic(auto, using(crate::proofs::InLines::lines_bad_token, crate::proofs::InLines::lines_bad_number, crate::proofs::InLines::lines_of_signature))]
 fn lines_of(alloc: Global, target: u32, text: &str, fault: &DeclFault) -> Result<Bytes, NoMemory>
     ensures { IfOk result (λ lines. IsUtf8 text.now → IsSome (slice_get targets target) → Tells (IsReadingIn wide (char_sign target) text.now) fault.now → AreFaultLines target text.now lines) }
 {
@@ -82,6 +84,7 @@ fn lines_of(alloc: Global, target: u32, text: &str, fault: &DeclFault) -> Result
 }
 
 /// The lines of what is wrong with a text.
+#[tactic(auto, using(crate::proofs::InLines::no_lines))]
 fn lines_in(alloc: Global, target: u32, text: &str) -> Result<Bytes, NoMemory>
     ensures { IfOk result (λ lines. IsUtf8 text.now → IsSome (slice_get targets target) → AreFaultLines target text.now lines) }
 {
@@ -95,6 +98,7 @@ fn lines_in(alloc: Global, target: u32, text: &str) -> Result<Bytes, NoMemory>
 }
 
 /// The same of bytes that may be no text, and of any number of a target.
+#[tactic(auto, using(crate::proofs::InLines::no_lines_of_none, crate::proofs::InLines::line_of_no_text))]
 fn find_lines(alloc: Global, target: u32, text: &[u8]) -> Result<Bytes, NoMemory>
     ensures { IfOk result (λ lines. AreFaultLines target text.now lines) }
 {
@@ -110,6 +114,7 @@ fn find_lines(alloc: Global, target: u32, text: &[u8]) -> Result<Bytes, NoMemory
 /// The lines of a text's fault, for an array of the caller: they are written with a terminating NUL, if all of that has
 /// room there. Answers how long they are, or 0 where there is no fault, or where memory was refused and nothing is
 /// written.
+#[tactic(auto, using(crate::proofs::InLines::lines_told, crate::proofs::InLines::no_lines_told))]
 pub fn fault_lines(alloc: Global, target: u32, text: &[u8], array: &mut [u8]) -> usize
     ensures { TellsLines target text.now array.old result array.new }
 {

@@ -1,6 +1,6 @@
 -- What is told of a text that is checked.
 use Rattle.std.proofs.Common.{◌≡◌, ℕ, List, [], ◌∷◌, length, map, ap, sym, subst, refl, ◌∙◌, zero, suc}
-use Rattle.std.specs.Prelude.{IsUtf8, IsSome, None, slice_get}
+use Rattle.std.specs.Prelude.{IsUtf8, IsSome, Some, None, slice_get, slice_index_or}
 use Rattle.ffi3_type_rules.specs.Fault.{Fault, bad_typedef, left_out_type, too_large, too_deep}
 use Rattle.ffi3_type_rules.specs.Tree.{Tree, void, scalar, left_out, structure, array, long_double, complex, vector}
 use Rattle.ffi3_type_rules.specs.Signature.{Signature, SignatureFault, too_many, bad_type, bad_fixed, bad_argument_type}
@@ -9,7 +9,7 @@ use Rattle.ffi3_cdecl_rules.specs.Tokens.{wide, Sign}
 use Rattle.ffi3_cdecl_rules.specs.Reading.{bad_token, unexpected, bad_number, bad_signature, IsReadingIn}
 use Rattle.ffi3_cdecl_rules.specs.Reasons.{Told, IsTold}
 use Rattle.ffi3_cdecl.specs.declared.expected.Expected.{Expected}
-use Rattle.ffi3_cdecl.specs.ToldOf.{kinds_of}
+use Rattle.ffi3_cdecl.specs.ToldOf.{expected_of, kinds_of}
 use Rattle.ffi3_capi.specs.declared.codes.TheConstants.{DONE, NOT_DECLARED}
 use Rattle.ffi3_capi.specs.declared.checking.CheckedText.{CheckedText}
 use Rattle.ffi3_capi.specs.declared.fault.TextFault.{TextFault}
@@ -20,11 +20,24 @@ use Rattle.ffi3_capi.specs.Chars.{char_sign}
 use Rattle.ffi3_capi.specs.Faults.{kind_number, fault_with, fault_at, signature_fault, left_out_kind, IsFaultOf, misread, not_text, Declares}
 use Rattle.ffi3_capi.specs.Placed.{targets}
 use Rattle.ffi3_capi.specs.Refused.{status_of, fault_in}
-use Rattle.ffi3_capi.specs.CheckedText.{told_at, nothing_beside, IsUnexpectedIn, IsCheckRefusal, ChecksText, declares, is_unexpected, refused}
+use Rattle.ffi3_capi.specs.CheckedText.{expected_number, told_at, nothing_beside, IsUnexpectedIn, IsCheckRefusal, ChecksText, declares, is_unexpected, refused}
 
 pub kinds_count : (kinds : List Expected) → length kinds ≡ length (kinds_of kinds)
 kinds_count [] = refl
 kinds_count (k ∷ kinds) = ap suc (kinds_count kinds)
+
+-- kind i of those that are told, by number
+pub number_there : (kinds : List Expected) (i : ℕ) (k : Expected) → slice_get kinds i ≡ Some k → expected_number (expected_of k) ≡ slice_index_or (map expected_number (kinds_of kinds)) i 0
+number_there [] i k e = cc
+number_there (j ∷ kinds) zero k e =
+    let same : k ≡ j = cc in ap (λ h. expected_number (expected_of h)) same
+number_there (j ∷ kinds) (suc i) k e = number_there kinds i k e
+
+pub no_number_there : (kinds : List Expected) (i : ℕ) → slice_get kinds i ≡ None → 0 ≡ slice_index_or (map expected_number (kinds_of kinds)) i 0
+no_number_there [] zero e = refl
+no_number_there [] (suc i) e = refl
+no_number_there (j ∷ kinds) zero e = cc
+no_number_there (j ∷ kinds) (suc i) e = no_number_there kinds i e
 
 pub unexpected_there : (c : Sign) (text : List ℕ) (at : ℕ) (t : Told) (u : CheckedText) → u ≡ told_at at t → (IsReadingIn wide c text (unexpected at) → IsTold c text at t) → IsUtf8 text → IsReadingIn wide c text (unexpected at) → IsUnexpectedIn c text u
 unexpected_there c text at t u is told utf8 there = record {
