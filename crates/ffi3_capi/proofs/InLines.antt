@@ -1,5 +1,5 @@
 -- The lines of a text's fault.
-use Rattle.std.proofs.Common.{◌≡◌, ℕ, List, [], ◌∷◌, ◌++◌, length, ap, sym, subst, refl, ◌∙◌, append_assoc}
+use Rattle.std.proofs.Common.{◌≡◌, ℕ, List, [], ◌∷◌, ◌++◌, length, ap, sym, subst, ◌∙◌, append_assoc}
 use Rattle.std.specs.Prelude.{IsUtf8, IsSome, None, slice_get, codes}
 use Rattle.std.specs.Fmt.{decimal}
 use Rattle.ffi3_type_rules.specs.Signature.{Signature, SignatureFault}

@@ -2,18 +2,21 @@
 use Rattle.std.proofs.Common.{◌≡◌, ℕ, zero, suc, ◌+◌, ◌-◌, ◌<◌, ◌≤◌, Bool, true, false, List, [], ◌∷◌, ◌++◌, length, get_or, drop, take, ap, sym, refl, subst, ◌∙◌, arith}
 use Rattle.std.specs.Prelude.{cond, not, ◌||◌, Option, None}
 use Rattle.std.proofs.lemmas.List.{drop_more, drop_all}
-use Rattle.ffi3_cdecl_rules.specs.Tokens.{wide, Sign, Token, complex_word, Found, blank, skipped, nothing_known, found, found_in}
+use Rattle.ffi3_cdecl_rules.specs.Tokens.{wide, Sign, Token, type_word, sign_word, const_word, short_word, int_word, long_word, int128_word, char_word, void_word, struct_word, union_word, enum_word, complex_word, attribute_word, other_keyword, name, number, open_round, close_round, open_curly, close_curly, open_square, close_square, comma, semicolon, star, dots, Found, blank, skipped, nothing_known, found, found_in}
 use Rattle.ffi3_cdecl_rules.specs.Machine.{State, is_dead}
 use Rattle.ffi3_cdecl_rules.specs.OnePass.{keeping}
 use Rattle.ffi3_cdecl_rules.specs.Expected as rules
 use Rattle.ffi3_cdecl_rules.specs.Expected.{every_kind, a_word}
 use Rattle.ffi3_cdecl_rules.specs.Reading.{unexpected, IsReadingIn}
 use Rattle.ffi3_cdecl_rules.specs.Reasons as reasons
-use Rattle.ffi3_cdecl_rules.specs.Reasons.{IsTold}
-use Rattle.ffi3_cdecl_rules.specs.Telling.{lives, could, those, expected, one_lives, specifier_words, reason_at, told_at_end, Reached, reaching, reach, reach_found, nothing_reached, told_found, told_behind, tell}
+use Rattle.ffi3_cdecl_rules.specs.Reasons.{Base, IsTold}
+use Rattle.ffi3_cdecl_rules.specs.Telling.{lives, could, those, expected, one_lives, specifier_words, Track, behind_base, tracked, sized, reason_of_base, reason_by, reason_at, told_at_end, Reached, reaching, reach, reach_found, nothing_reached, told_found, told_behind, tell}
 use Rattle.ffi3_cdecl_rules.proofs.Told.{kept_count, told}
 use Rattle.ffi3_cdecl.specs.declared.expected.Expected.{Expected}
-use Rattle.ffi3_cdecl.specs.ToldOf.{expected_of, kinds_of}
+use Rattle.ffi3_cdecl.specs.declared.track.Base.{Base as CodeBase}
+use Rattle.ffi3_cdecl.specs.declared.track.Track.{Track as CodeTrack}
+use Rattle.ffi3_cdecl.specs.declared.track.Track.TheVariants as tracks
+use Rattle.ffi3_cdecl.specs.ToldOf.{expected_of, kinds_of, track_of}
 
 -- ---- bytes
 
@@ -62,6 +65,56 @@ reach_end c bs at inside stop q h =
 
 pub kept_lives : (s t : State) (x : Token) → t ≡ keeping wide s x → not (is_dead t) ≡ lives s x
 kept_lives s t x e = ap (λ r. not (is_dead r)) e ∙ ap not (kept_count s x)
+
+-- what is reached with one token more
+pub reached_with : (s t : State) (y z : Track) (x : Token) → s ≡ keeping wide t x → z ≡ tracked t y x → record { state = s; track = z } ≡ reaching (record { state = t; track = y }) x
+reached_with s t y z x e f = λ i. record { state = e i; track = f i }
+
+-- the state of what is reached, and what is kept beside it
+pub state_reached : (s : State) (y : Track) (q : Reached) → record { state = s; track = y } ≡ q → s ≡ q.state
+state_reached s y q e = ap (λ (r : Reached). r.state) e
+
+pub reason_by_base : (s : State) (b : Base) (q : Reached) (x : Token) (l : Bool) → record { state = s; track = behind_base b } ≡ q → l ≡ lives (sized s) x → reason_of_base l b ≡ reason_by q.state q.track x
+reason_by_base s b q x l e f =
+    ap (λ m. reason_of_base m b) f ∙ ap (λ (r : Reached). reason_by r.state r.track x) e
+
+-- where no base was read last
+pub reason_without_base : (s : State) (t : CodeTrack) (q : Reached) (x : Token) → record { state = s; track = track_of t } ≡ q → ((b : CodeBase) → t ≡ tracks.BehindBase b → ⊥) → None ≡ reason_by q.state q.track x
+reason_without_base s tracks.Nothing q x e none = ap (λ (r : Reached). reason_by r.state r.track x) e
+reason_without_base s tracks.BehindStruct q x e none = ap (λ (r : Reached). reason_by r.state r.track x) e
+reason_without_base s tracks.BehindUnion q x e none = ap (λ (r : Reached). reason_by r.state r.track x) e
+reason_without_base s tracks.BehindEnum q x e none = ap (λ (r : Reached). reason_by r.state r.track x) e
+reason_without_base s (tracks.BehindBase b) q x e none = absurd (none b refl)
+
+-- a token that is no attribute and no keyword
+pub reason_of_others : (s : State) (y : Track) (x : Token) → (x ≡ attribute_word → ⊥) → (x ≡ other_keyword → ⊥) → reason_at s y x ≡ reason_by s y x
+reason_of_others s y (type_word t) a k = refl
+reason_of_others s y (sign_word g) a k = refl
+reason_of_others s y const_word a k = refl
+reason_of_others s y short_word a k = refl
+reason_of_others s y int_word a k = refl
+reason_of_others s y long_word a k = refl
+reason_of_others s y int128_word a k = refl
+reason_of_others s y (char_word g) a k = refl
+reason_of_others s y void_word a k = refl
+reason_of_others s y struct_word a k = refl
+reason_of_others s y union_word a k = refl
+reason_of_others s y enum_word a k = refl
+reason_of_others s y complex_word a k = refl
+reason_of_others s y attribute_word a k = absurd (a refl)
+reason_of_others s y other_keyword a k = absurd (k refl)
+reason_of_others s y (name called) a k = refl
+reason_of_others s y (number n) a k = refl
+reason_of_others s y open_round a k = refl
+reason_of_others s y close_round a k = refl
+reason_of_others s y open_curly a k = refl
+reason_of_others s y close_curly a k = refl
+reason_of_others s y open_square a k = refl
+reason_of_others s y close_square a k = refl
+reason_of_others s y comma a k = refl
+reason_of_others s y semicolon a k = refl
+reason_of_others s y star a k = refl
+reason_of_others s y dots a k = refl
 
 -- ---- one word after another
 
@@ -139,9 +192,18 @@ kinds_length : (told : List Expected) → length (kinds_of told) ≡ length told
 kinds_length [] = refl
 kinds_length (t ∷ told) = ap suc (kinds_length told)
 
+length_push : (told : List Expected) (k : Expected) → length (told ++ k ∷ []) ≡ suc (length told)
+length_push [] k = refl
+length_push (t ∷ told) k = ap suc (length_push told k)
+
+pub one_more_is_few : (told new : List Expected) (k : Expected) → length told < 4 → new ≡ told ++ k ∷ [] → length new ≤ 4
+one_more_is_few told new k few e =
+    subst (λ n. n ≤ 4) (sym (ap length e ∙ length_push told k)) few
+
 -- where four are told, and where there is no further kind
-pub enough_told : (s : State) (told : List Expected) (i : ℕ) → length told ≡ 4 → with_those s told i ≡ those s every_kind → kinds_of told ≡ expected s
-enough_told s told i four e =
+pub enough_told : (s : State) (told : List Expected) (i : ℕ) → 4 ≤ length told → length told ≤ 4 → with_those s told i ≡ those s every_kind → kinds_of told ≡ expected s
+enough_told s told i enough few e =
+    let four : length told ≡ 4 = omega (arith, enough, few) in
     let n : length (kinds_of told) ≡ 4 = kinds_length told ∙ four in
     sym (take_front (kinds_of told) (those s (drop i every_kind))) ∙ ap (λ m. take m (with_those s told i)) n ∙ ap (take 4) e
 

@@ -1,5 +1,5 @@
 -- What is told by the code.
-use Rattle.std.specs.Prelude.{ℕ, List, map, Option, option_map}
+use Rattle.std.specs.Prelude.{List, map, Option, option_map}
 use Rattle.ffi3_cdecl_rules.specs.Expected as rules
 use Rattle.ffi3_cdecl_rules.specs.Reasons as reasons
 use Rattle.ffi3_cdecl_rules.specs.Telling as telling

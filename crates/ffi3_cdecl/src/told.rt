@@ -9,7 +9,7 @@ ghost use Rattle.ffi3_cdecl.specs.TokenOf.{token_of, sign_of};
 ghost use Rattle.ffi3_cdecl.specs.StateOf.{state_of};
 ghost use Rattle.ffi3_cdecl.specs.ToldOf.{expected_of, kinds_of, reached_of, reason_or_not, told_of};
 
-use crate::expected::{Expected, sample};
+use crate::expected::Expected;
 use crate::read::{finished, is_dead, step};
 use crate::state::{State, Where};
 use crate::token::{Dialect, Found, Sign, Token, TypeWord, found_in};
@@ -57,6 +57,7 @@ fn nothing_reached() -> Reached<'static>
 }
 
 /// One token more.
+#[tactic(auto, using(crate::proofs::Reaching::reached_with))]
 fn reaching<'a>(alloc: Global, q: Reached<'a>, token: Token<'a>) -> Result<Reached<'a>, NoMemory>
     ensures { IfOk result (λ p. reached_of p ≡ reaching (reached_of q.entry) (token_of token.entry)) }
 {
@@ -104,6 +105,7 @@ fn lives(alloc: Global, state: State, token: Token<'_>) -> Result<bool, NoMemory
 }
 
 /// Whether the token could stand at an offset.
+#[tactic(auto, using(crate::proofs::Reaching::state_reached))]
 fn lives_there(
     alloc: Global,
     c: Sign,
@@ -119,7 +121,7 @@ fn lives_there(
 }
 
 /// Whether one of the words of lists that name types could, from this number on.
-#[tactic(auto, using(crate::proofs::Reaching::word_lives, crate::proofs::Reaching::word_dead))]
+#[tactic(auto, using(crate::proofs::Reaching::word_lives, crate::proofs::Reaching::word_dead, crate::proofs::Reaching::words_end))]
 fn words_there(alloc: Global, c: Sign, bytes: &[u8], stop: usize) -> Result<bool, NoMemory>
     ensures { IfOk result (λ b. b ≡ one_lives (reach (sign_of c) stop 0 nothing_reached bytes.now).state specifier_words) }
 {
@@ -152,6 +154,7 @@ fn specifier_word(i: usize) -> Token<'static>
 }
 
 /// Whether a type may stand at an offset.
+#[tactic(auto, using(crate::proofs::Reaching::state_reached))]
 fn type_there(alloc: Global, c: Sign, bytes: &[u8], stop: usize) -> Result<bool, NoMemory>
     ensures { IfOk result (λ b. b ≡ wants_a_type (reach (sign_of c) stop 0 nothing_reached bytes.now).state) }
 {
@@ -160,6 +163,7 @@ fn type_there(alloc: Global, c: Sign, bytes: &[u8], stop: usize) -> Result<bool,
 }
 
 /// Whether the text may end there.
+#[tactic(auto, using(crate::proofs::Reaching::state_reached))]
 fn end_there(alloc: Global, c: Sign, bytes: &[u8], stop: usize) -> Result<bool, NoMemory>
     ensures { IfOk result (λ b. b ≡ could (reach (sign_of c) stop 0 nothing_reached bytes.now).state the_end) }
 {
@@ -191,7 +195,17 @@ fn could(
             Ok(live && !wanted)
         }
         Expected::End => end_there(alloc, c, bytes, stop),
-        other => lives_there(alloc, c, bytes, stop, sample(other)),
+        Expected::Number => lives_there(alloc, c, bytes, stop, Token::Number(0)),
+        Expected::CloseRound => lives_there(alloc, c, bytes, stop, Token::CloseRound),
+        Expected::Comma => lives_there(alloc, c, bytes, stop, Token::Comma),
+        Expected::Semicolon => lives_there(alloc, c, bytes, stop, Token::Semicolon),
+        Expected::Star => lives_there(alloc, c, bytes, stop, Token::Star),
+        Expected::CloseSquare => lives_there(alloc, c, bytes, stop, Token::CloseSquare),
+        Expected::CloseCurly => lives_there(alloc, c, bytes, stop, Token::CloseCurly),
+        Expected::OpenCurly => lives_there(alloc, c, bytes, stop, Token::OpenCurly),
+        Expected::OpenRound => lives_there(alloc, c, bytes, stop, Token::OpenRound),
+        Expected::OpenSquare => lives_there(alloc, c, bytes, stop, Token::OpenSquare),
+        Expected::Dots => lives_there(alloc, c, bytes, stop, Token::Dots),
     }
 }
 
@@ -220,7 +234,7 @@ fn kind_number(i: usize) -> Expected
 }
 
 /// The kinds that could stand at an offset: four at most, the first of them.
-#[tactic(auto, using(crate::proofs::Reaching::kind_told, crate::proofs::Reaching::kind_not_told, crate::proofs::Reaching::enough_told, crate::proofs::Reaching::all_told))]
+#[tactic(auto, using(crate::proofs::Reaching::kind_told, crate::proofs::Reaching::kind_not_told, crate::proofs::Reaching::enough_told, crate::proofs::Reaching::all_told, crate::proofs::Reaching::one_more_is_few))]
 fn kinds(alloc: Global, c: Sign, bytes: &[u8], stop: usize) -> Result<Vec<Expected>, NoMemory>
     ensures value { IfOk result (λ v. kinds_of v.items ≡ expected (reach (sign_of c) stop 0 nothing_reached bytes.now).state) }
     ensures few { IfOk result (λ v. length v.items ≤ 4) }
@@ -239,6 +253,7 @@ fn kinds(alloc: Global, c: Sign, bytes: &[u8], stop: usize) -> Result<Vec<Expect
 }
 
 /// Why the token at an offset is unexpected.
+#[tactic(auto, using(crate::proofs::Reaching::reason_of_others))]
 fn reason_there<'a>(
     alloc: Global,
     c: Sign,
@@ -256,6 +271,7 @@ fn reason_there<'a>(
 }
 
 /// The same by the base that was read last.
+#[tactic(auto, using(crate::proofs::Reaching::reason_by_base, crate::proofs::Reaching::reason_without_base))]
 fn reason_of_base<'a>(
     alloc: Global,
     c: Sign,
