@@ -20,6 +20,7 @@ static struct ffi3_fault fault;
 static struct ffi3_call whole;
 static struct ffi3_piece pieces[MOST];
 static struct ffi3_layout layout;
+static struct ffi3_checked checked;
 static struct ffi3_type type;
 static struct ffi3_leaf leaves[MOST];
 static size_t offsets[MOST];
@@ -28,7 +29,7 @@ static struct ffi3_arguments found;
 static struct ffi3_reason reason;
 static struct ffi3_move moves[MOST];
 static unsigned char values[1 << 12], result[1 << 12], stack[1 << 13];
-static char name[64];
+static char name[64], lines[256];
 
 static void must(int holds, const char *what)
 {
@@ -133,6 +134,16 @@ static void arguments(void)
                         sizeof values) == FFI3_OK, "arguments");
 }
 
+static void check_text(void)
+{
+    must(ffi3_check_text(FFI3_AMD64, text, length, &checked) == FFI3_OK, "check_text");
+}
+
+static void tell_lines(void)
+{
+    must(ffi3_fault_lines(FFI3_AMD64, "int f(int x y)", 14, lines, sizeof lines) != 0, "fault_lines");
+}
+
 static void tell_fault(void)
 {
     struct ffi3_fault bad = {FFI3_BAD_TOKEN, 0, 8, 0};
@@ -195,11 +206,13 @@ int main(int number, char **words)
     tell("ffi3_place", place);
     tell("ffi3_place_nodes", place_nodes);
     tell("ffi3_layout of the result", lay_out);
+    tell("ffi3_check_text", check_text);
     tell("ffi3_layout_nodes of the result", layout_nodes);
     tell("ffi3_offsets_nodes of the result", offsets_nodes);
     tell("ffi3_check_layout of the result", check_layout);
     tell("ffi3_arguments", arguments);
     tell("ffi3_fault_text", tell_fault);
+    tell("ffi3_fault_lines", tell_lines);
     tell("ffi3_register_name", register_name);
     ffi3_release(&interface);
     return 0;

@@ -231,6 +231,53 @@ struct ffi3_layout {
 uint32_t ffi3_layout(const char *text, size_t length, uint32_t value, struct ffi3_layout *layout,
                      struct ffi3_leaf *leaves, size_t capacity);
 
+/* KINDS OF TOKEN, as ffi3_check_text tells what could have stood in a place. */
+#define FFI3_EXPECTED_TYPE 1         /* a name or a word with which a type begins */
+#define FFI3_EXPECTED_NAME 2         /* a name, where no type could stand */
+#define FFI3_EXPECTED_NUMBER 3       /* the number of an array's elements */
+#define FFI3_EXPECTED_CLOSE_ROUND 4  /* ) */
+#define FFI3_EXPECTED_COMMA 5
+#define FFI3_EXPECTED_SEMICOLON 6
+#define FFI3_EXPECTED_END 7          /* the end of the text */
+#define FFI3_EXPECTED_STAR 8
+#define FFI3_EXPECTED_CLOSE_SQUARE 9 /* ] */
+#define FFI3_EXPECTED_CLOSE_CURLY 10 /* } */
+#define FFI3_EXPECTED_OPEN_CURLY 11
+#define FFI3_EXPECTED_OPEN_ROUND 12
+#define FFI3_EXPECTED_OPEN_SQUARE 13
+#define FFI3_EXPECTED_DOTS 14        /* ... */
+#define FFI3_EXPECTED_WORD 15        /* one more of the words that name a type, as behind `unsigned` */
+
+/* REASONS why a token does not fit, where a word tells it. */
+#define FFI3_REASON_NONE 0
+#define FFI3_REASON_ATTRIBUTE 1 /* an attribute that may change how a value is passed */
+#define FFI3_REASON_KEYWORD 2   /* a keyword that stands in no prototype */
+#define FFI3_REASON_STRUCT 3    /* before it a struct stands by value, by its tag alone: its members are wanted */
+#define FFI3_REASON_UNION 4     /* so a union by its tag: write a pointer */
+#define FFI3_REASON_ENUM 5      /* so an enum: write the integer that its compiler chose */
+#define FFI3_REASON_NAMED 6     /* so a type by a name that is not known: write what it stands for */
+
+/* Whether a text declares a function; and of a fault FFI3_UNEXPECTED what stands at its offset, and what could have.
+ * All but `fault` is 0 where there is no such fault. */
+struct ffi3_checked {
+    size_t length;        /* how many bytes the token takes that stands there; 0 where the text ends */
+    uint32_t reason;      /* FFI3_REASON_NONE and so on */
+    uint32_t count;       /* how many kinds are told, four at most */
+    uint32_t expected[4]; /* the first of the kinds of which a token could stand there, FFI3_EXPECTED_TYPE and so on */
+    uint64_t reserved[4]; /* 0 */
+    struct ffi3_fault fault;
+};
+
+/* uint32_t ffi3_check_text(uint32_t TARGET, const char *TEXT, size_t LENGTH, struct ffi3_checked *CHECKED)
+ *
+ * Whether the LENGTH bytes at TEXT declare a function for calls by the standard TARGET, as ffi3_place reads them.
+ *
+ * FFI3_OK: they do; CHECKED is 0.
+ * FFI3_NOT_DECLARED: CHECKED says why.
+ * FFI3_UNKNOWN_TARGET, FFI3_OUT_OF_MEMORY: CHECKED is 0. An unknown target is told before a fault.
+ */
+uint32_t ffi3_check_text(uint32_t target, const char *text, size_t length, struct ffi3_checked *checked);
+
 /* TYPES AS DATA. A type is an array of nodes, in preorder: that of a struct counts its members, whose nodes follow it;
  * that of an array counts its elements, and the nodes of one of them follow it. Of a function the result's nodes stand
  * first, and then those of its arguments. So `double f(struct { int i; float x[2]; } a)` is
@@ -638,6 +685,21 @@ uint32_t ffi3_moves(struct ffi3_interface *interface, uint32_t list, size_t *cou
  * FFI3_NO_FAULT, and where malloc refused; only then may TEXT be as it was though it had room.
  */
 size_t ffi3_fault_text(const struct ffi3_fault *fault, char *text, size_t capacity);
+
+/* size_t ffi3_fault_lines(uint32_t TARGET, const char *TEXT, size_t LENGTH, char *LINES, size_t CAPACITY)
+ *
+ * Why the LENGTH bytes at TEXT declare no function for calls by the standard TARGET, in lines for a person, each with
+ * its newline: the fault; and of one that has a place in the text the line that has it, and a "^" below the place:
+ *
+ *     at 12: unexpected 'y', expected ')', ',', '(' or '['
+ *     int f(int x y)
+ *                 ^
+ *
+ * Answers how long they are, without the terminating NUL; they are written, with that NUL, only where CAPACITY is
+ * greater. Answers 0 where the text declares a function, where no standard has the number, and where malloc refused;
+ * only then may LINES be as it was though it had room.
+ */
+size_t ffi3_fault_lines(uint32_t target, const char *text, size_t length, char *lines, size_t capacity);
 
 /* size_t ffi3_register_name(uint32_t TARGET, uint32_t PLACE, uint32_t NUMBER, char *NAME, size_t CAPACITY)
  *

@@ -17,6 +17,7 @@ _Static_assert(sizeof(struct ffi3_layout) == 56 && sizeof(struct ffi3_registers)
 _Static_assert(sizeof(struct ffi3_arguments) == 64, "what version 0.1 has");
 _Static_assert(offsetof(struct ffi3_arguments, fault) == 40, "where version 0.1 has it");
 _Static_assert(sizeof(struct ffi3_node) == 8 && sizeof(struct ffi3_type) == 72, "what version 0.2 has");
+_Static_assert(sizeof(struct ffi3_checked) == 88 && offsetof(struct ffi3_checked, fault) == 64, "what version 0.2 has");
 _Static_assert(sizeof(struct ffi3_argument) == 32 && sizeof(struct ffi3_result) == 56, "what version 0.2 has");
 _Static_assert(sizeof(struct ffi3_interface) == 8 && sizeof(struct ffi3_sizes) == 64, "what version 0.2 has");
 _Static_assert(sizeof(struct ffi3_reason) == 24 && sizeof(struct ffi3_move) == 32, "what version 0.2 has");
@@ -205,6 +206,67 @@ static size_t lay_out(const char *text, size_t length, uint32_t value, size_t ro
     release(leaves, room * sizeof *leaves);
     free(layout);
     return wanted;
+}
+
+// Kinds are told in their order, at most four, and behind them 0; what stands there is in the text.
+static int is_told_place(const struct ffi3_checked *told, size_t length)
+{
+    int rises = told->count >= 1 && told->count <= 4;
+    for (uint32_t i = 0; i < 4; i++)
+        rises = rises && (i < told->count ? told->expected[i] > (i ? told->expected[i - 1] : 0)
+                                                && told->expected[i] <= FFI3_EXPECTED_WORD : !told->expected[i]);
+    return rises && told->fault.offset <= length && told->length <= length - told->fault.offset
+        && (told->length != 0) == (told->fault.offset < length) && told->reason <= FFI3_REASON_NAMED;
+}
+
+static int is_nothing_told(const struct ffi3_checked *told)
+{
+    return !told->length && !told->reason && !told->count && !told->expected[0] && !told->expected[1]
+        && !told->expected[2] && !told->expected[3];
+}
+
+// The lines of a fault of this kind, with no room for their end and with the very room.
+static void check_lines(uint32_t target, const char *text, size_t length, uint32_t kind)
+{
+    size_t wanted = ffi3_fault_lines(target, text, length, NULL, 0);
+    int has_place = kind == FFI3_BAD_TOKEN || kind == FFI3_UNEXPECTED || kind == FFI3_BAD_NUMBER;
+    check((wanted != 0) == (kind != FFI3_NO_FAULT), "lines of a fault", text, length);
+    for (size_t room = wanted; room <= wanted + 1; room++) {
+        char *lines = block(room);
+        size_t told = ffi3_fault_lines(target, text, length, lines, room);
+        check(told == wanted && (room > wanted ? strlen(lines) == wanted : is_untouched(lines, room)), "lines", text,
+              length);
+        if (wanted && room > wanted)
+            check(lines[wanted - 1] == '\n' && (wanted > 2 && lines[wanted - 2] == '^') == has_place
+                      && (!has_place || !strncmp(lines, "at ", 3)), "last line", text, length);
+        release(lines, room);
+    }
+}
+
+// One call of ffi3_check_text, whose fault is that of ffi3_place.
+static void check_text(uint32_t target, const char *text, size_t length)
+{
+    struct ffi3_checked *told = block(sizeof *told);
+    struct ffi3_call *call = block(sizeof *call);
+    uint32_t status = ffi3_check_text(target, text, length, told);
+    long counted_there = counted, due_there = due;
+    due = 0;
+    uint32_t placed = ffi3_place(target, text, length, call, NULL, 0);
+    due = due_there, counted = counted_there;
+    if (status == FFI3_OUT_OF_MEMORY)
+        check(due && due <= counted && !told->fault.kind && is_nothing_told(told), "check with no memory", text,
+              length);
+    else
+        check((status == FFI3_NOT_DECLARED) == (placed == FFI3_NOT_DECLARED) && status <= FFI3_NOT_DECLARED
+                  && !memcmp(&told->fault, &call->fault, sizeof call->fault)
+                  && (told->fault.kind == FFI3_UNEXPECTED ? is_told_place(told, length) : is_nothing_told(told)),
+              "check", text, length);
+    if (!due)
+        check_lines(target, text, length, told->fault.kind);
+    check(!told->reserved[0] && !told->reserved[1] && !told->reserved[2] && !told->reserved[3], "reserved words", text,
+          length);
+    free(call);
+    free(told);
 }
 
 // One call of ffi3_arguments over so many bytes of stack, each of which is 0x10, with room for so many bytes of values.
@@ -397,6 +459,7 @@ static void try_text(const char *from, size_t length, int all_rooms)
         read_arguments(target, text, length, deep + 1, room + 1);
         try_result(target, &(struct nodes){.line = text, .length = length});
         try_each(target, &(struct nodes){.line = text, .length = length});
+        check_text(target, text, length);
     }
     lay_out(text, length, FFI3_RESULT, 0, &arguments);
     for (uint32_t value = 0; value <= arguments; value++) {
@@ -436,6 +499,10 @@ static void try_refused(const char *line, size_t length)
         read_result((uint32_t)due % 5, &(struct nodes){.line = line, .length = length}, 4096, 4096);
         calls = calls > counted ? calls : counted, counted = 0;
         read_each((uint32_t)due % 5, &(struct nodes){.line = line, .length = length}, 4096, 64, 4096);
+        calls = calls > counted ? calls : counted, counted = 0;
+        check_text((uint32_t)due % 5, line, length);
+        calls = calls > counted ? calls : counted, counted = 0;
+        ffi3_fault_lines((uint32_t)due % 5, line, length, NULL, 0);
     } while (due <= (calls > counted ? calls : counted));
     due = 0;
 }

@@ -194,6 +194,24 @@ static void try_place(uint32_t target, const char *text, size_t length, int all,
     }
 }
 
+static void try_check(uint32_t target, const char *text, size_t length, int at_end)
+{
+    static char lines[1 << 17];
+    struct ffi3_checked *checked = place_in(&calls, sizeof *checked, at_end);
+    uint32_t told = ffi3_check_text(target, text, length, checked);
+    add(&told, sizeof told);
+    add(checked, sizeof *checked);
+    check(told == (checked->fault.kind ? FFI3_NOT_DECLARED : FFI3_OK), "check");
+    size_t wanted = ffi3_fault_lines(target, text, length, lines, sizeof lines);
+    add(&wanted, sizeof wanted);
+    add(lines, wanted < sizeof lines ? wanted : 0);
+    for (size_t room = wanted; room <= wanted + 2 && wanted < sizeof lines; room++) {
+        char *array = place_in(&arrays, room, at_end);
+        check(ffi3_fault_lines(target, text, length, array, room) == wanted, "lines of a fault");
+        check_array(array, lines, 1, wanted + 1, room, "lines of a fault");
+    }
+}
+
 static size_t try_layout(const char *text, size_t length, uint32_t value, int all, int at_end)
 {
     static struct ffi3_leaf whole[MUCH / sizeof(struct ffi3_leaf)];
@@ -406,6 +424,7 @@ static void try_text(const char *from, size_t length, int all)
         const char *text = lend(&texts, from, length, at_end);
         for (uint32_t target = FFI3_AMD64; target <= FFI3_APPLE + 1; target++) {
             try_place(target, text, length, all, at_end);
+            try_check(target, text, length, at_end);
             try_arguments(target, text, length, all, at_end);
             const struct function of = {1, text, NULL, length, 0};
             try_each(&of, target, all, at_end);

@@ -31,6 +31,7 @@ struct work {
     unsigned char bytes[4096]; /* of a machine's stack */
     struct ffi3_call call;
     struct ffi3_layout layout;
+    struct ffi3_checked checked;
     struct ffi3_type type;
     size_t offsets[2];
     struct ffi3_arguments found;
@@ -115,6 +116,11 @@ static void ask(struct work *work, const char *text, size_t length, uint32_t tar
         char words[64];
         add(work, words, ffi3_fault_text(&work->call.fault, words, sizeof words));
     }
+    uint32_t checked = ffi3_check_text(target, text, length, &work->checked);
+    add(work, &checked, sizeof checked);
+    add(work, &work->checked, sizeof work->checked);
+    size_t lines = ffi3_fault_lines(target, text, length, (char *)work->values, VALUES);
+    add(work, work->values, lines);
     uint32_t each = ffi3_arguments_each(target, text, length, &work->held, work->bytes, sizeof work->bytes,
                                         &work->found, work->each, ARGUMENTS, work->values, VALUES);
     add_each(work, each);

@@ -27,8 +27,8 @@ HIDDEN = "hidden"
 
 (_OK, _TOO_SMALL, _NOT_DECLARED, _UNKNOWN_TARGET, _UNKNOWN_VALUE, _OUT_OF_MEMORY, _SHORT_STACK, _NOT_IN_STACK,
  _WRONG_SIZE, _HIGH_STACK, _NOT_PREPARED, _NO_ADDRESS) = range(12)
-# Two kinds of fault that a client may want to tell apart from others.
-LEFT_OUT_LONG_DOUBLE, LAID_OUT_OTHERWISE = 6, 20
+# Kinds of fault that a client may want to tell apart from others.
+UNEXPECTED, LEFT_OUT_LONG_DOUBLE, LAID_OUT_OTHERWISE = 3, 6, 20
 _RESULT, _HIDDEN = 0xFFFFFFFF, 0xFFFFFFFE
 _NOT_VARIADIC = 0xFFFFFFFF
 _MOST_32, _MOST_64 = (1 << 32) - 1, (1 << 64) - 1
@@ -45,6 +45,8 @@ MOVES = ("store", "load", "collect", "give", "hidden")
 _MOVE_KINDS = ("bytes", "zero", "sign", "ones", "number", "address", "behind")
 _NOWHERE = 0xFFFFFFFFFFFFFFFF
 FRAME_AT = 576  # where in an exchange the frame begins
+_EXPECTED = ("type", "name", "number", ")", ",", ";", "end", "*", "]", "}", "{", "(", "[", "...", "word")
+_REASONS = (None, "attribute", "keyword", "struct", "union", "enum", "named")
 
 
 # Of the library that this module knows, as FFI3_VERSION of ffi3.h.
@@ -70,6 +72,22 @@ class Error(ValueError):
         self.kind = kind
         self.offset = offset
         self.number = number
+
+
+class Unexpected(NamedTuple):
+    """What is told of a place of a text that is unexpected, offsets and lengths in bytes.
+
+    length is how many bytes the token takes that stands there, 0 at the end of the text. reason says why it does not
+    fit, where a word tells it: an "attribute", a "keyword"; or that before it stands by value a "struct", "union" or
+    "enum" by its tag, or a type "named" otherwise, of which there are pointers alone. expected has what could have
+    stood there, the first four of all: marks by themselves, and "type", "name", "number", "end" of the text or one more
+    "word" of a type.
+    """
+
+    offset: int
+    length: int
+    reason: str | None
+    expected: tuple[str, ...]
 
 
 class ShortStack(LookupError):
@@ -207,6 +225,11 @@ class _Layout(ctypes.Structure):
     _fields_ = [*((name, ctypes.c_size_t) for name in ("size", "align", "leaves", "arguments")), ("fault", _Fault)]
 
 
+class _Checked(ctypes.Structure):
+    _fields_ = [("length", ctypes.c_size_t), ("reason", ctypes.c_uint32), ("count", ctypes.c_uint32),
+                ("expected", ctypes.c_uint32 * 4), ("reserved", ctypes.c_uint64 * 4), ("fault", _Fault)]
+
+
 class _Node(ctypes.Structure):
     _fields_ = [("kind", ctypes.c_uint32), ("count", ctypes.c_uint32)]
 
@@ -283,6 +306,7 @@ def _load() -> ctypes.CDLL:
         ("check_layout", uint32, [nodes, size, size, size, ctypes.POINTER(ctypes.c_size_t), size,
                                   ctypes.POINTER(_Fault)]),
         ("layout", uint32, [text, size, uint32, ctypes.POINTER(_Layout), ctypes.POINTER(_Leaf), size]),
+        ("check_text", uint32, [uint32, text, size, ctypes.POINTER(_Checked)]),
         ("arguments", uint32, [uint32, text, size, registers, text, size, ctypes.POINTER(_Arguments), text, size]),
         ("arguments_each", uint32, [uint32, text, size, registers, text, size, ctypes.POINTER(_Arguments),
                                     ctypes.POINTER(_Argument), size, text, size]),
@@ -301,6 +325,7 @@ def _load() -> ctypes.CDLL:
         ("collect", uint32, [kept, registers, text, size, text, size, reason]),
         ("give", uint32, [kept, text, size, registers, text, size, reason]),
         ("fault_text", size, [ctypes.POINTER(_Fault), text, size]),
+        ("fault_lines", size, [uint32, text, size, text, size]),
         ("register_name", size, [uint32, uint32, uint32, text, size]),
     ):
         exported = getattr(library, f"ffi3_{function}")
@@ -395,6 +420,33 @@ def place(target: str, declaration: str | bytes) -> Call:
     """
     text = _bytes_of(declaration)
     return _placed(target, lambda number, *into: _library.ffi3_place(number, text, len(text), *into))
+
+
+def unexpected(target: str, declaration: str | bytes) -> Unexpected | None:
+    """What is told of a text that declares no function since something in it is unexpected; None where that is not so.
+
+    place and the others raise an Error with its offset.
+    """
+    number, text, told = _target(target), _bytes_of(declaration), _Checked()
+    status = _library.ffi3_check_text(number, text, len(text), ctypes.byref(told))
+    if status == _OUT_OF_MEMORY:
+        raise MemoryError
+    if told.fault.kind != UNEXPECTED:
+        return None
+    expected = tuple(_EXPECTED[kind - 1] for kind in told.expected[:told.count])
+    return Unexpected(told.fault.offset, told.length, _REASONS[told.reason], expected)
+
+
+def fault_lines(target: str, declaration: str | bytes) -> str:
+    """Why a text declares no function, in lines for a person: the fault, and where it has a place in the text that line
+    with a "^" below the place. Nothing where the text declares one."""
+    number, text, capacity = _target(target), _bytes_of(declaration), 256
+    while True:
+        lines = ctypes.create_string_buffer(capacity)
+        length = _library.ffi3_fault_lines(number, text, len(text), lines, capacity)
+        if length < capacity:
+            return lines.raw[:length].decode(errors="replace")
+        capacity = length + 1
 
 
 _Pairs = tuple[tuple[int, int], ...]  # of nodes their kinds and counts, as C has them

@@ -5,6 +5,7 @@
 ghost use Rattle.std.specs.Prelude.{◌≡◌, ◌⊎◌, None, length};
 ghost use Rattle.ffi3_capi.specs.Chars.{char_sign, layout_sign};
 ghost use Rattle.ffi3_capi.specs.Faults.{Declares, IsFaultOf};
+ghost use Rattle.ffi3_capi.specs.CheckedText.{ChecksText};
 ghost use Rattle.ffi3_capi.specs.ByNodes.{AreNodesOf, IsFaultOfNodes};
 ghost use Rattle.ffi3_capi.specs.Placed.{Places};
 ghost use Rattle.ffi3_capi.specs.Laid.{LaysOut};
@@ -16,6 +17,7 @@ ghost use Rattle.ffi3_capi.specs.Each.{ReadsEach};
 ghost use Rattle.ffi3_capi.specs.Returned.{ReadsResult};
 ghost use Rattle.ffi3_capi.specs.Filled.{filled, with_end};
 ghost use Rattle.ffi3_capi.specs.FaultText.{fault_text};
+ghost use Rattle.ffi3_capi.specs.FaultLines.{TellsLines};
 ghost use Rattle.ffi3_capi.specs.Registers.{register_name};
 ghost use Rattle.ffi3_interface.specs.Keeping.{Prepares, Shares};
 ghost use Rattle.ffi3_interface.specs.Numbers.{TellsSizes};
@@ -23,8 +25,8 @@ ghost use Rattle.ffi3_interface.specs.Transfers.{Collects, Gives, Loads, Stores}
 ghost use Rattle.ffi3_interface.specs.Listing.{TellsMoves};
 
 use ffi3_capi::{
-    Declaration, EachArgument, EntryArguments, LaidLeaf, LaidType, Node, PlacedCall, PlacedPiece,
-    Registers, ReturnedResult, TextFault, WholeType,
+    CheckedText, Declaration, EachArgument, EntryArguments, LaidLeaf, LaidType, Node, PlacedCall,
+    PlacedPiece, Registers, ReturnedResult, TextFault, WholeType,
 };
 use ffi3_handle::Handle;
 use ffi3_interface::{InterfaceSizes, Reason, ToldMove};
@@ -77,6 +79,19 @@ pub extern "C" fn ffi3_layout(
     ensures { LaysOut (Declares layout_sign text.now) (IsFaultOf layout_sign text.now) value leaves.old result layout.new leaves.new }
 {
     ffi3_capi::layout(alloc, Declaration::Text(text), value, layout, leaves)
+}
+
+/// Whether the text declares a function, and what is told of a place that is unexpected.
+#[unsafe(no_mangle)]
+pub extern "C" fn ffi3_check_text(
+    alloc: Global,
+    target: u32,
+    text: &[u8],
+    checked: &mut CheckedText,
+) -> u32
+    ensures { ChecksText target text.now result checked.new }
+{
+    ffi3_capi::check_text(alloc, target, text, checked)
 }
 
 /// The layout of the type that the nodes are, and its leaves.
@@ -362,6 +377,19 @@ pub extern "C" fn ffi3_fault_text(alloc: Global, fault: &TextFault, text: &mut [
     ensures { ((result ≡ length (fault_text fault.now)) × (text.new ≡ filled (with_end (fault_text fault.now)) text.old)) ⊎ ((result ≡ 0) × (text.new ≡ text.old)) }
 {
     ffi3_capi::fault_text(alloc, fault, text)
+}
+
+/// The lines of what is wrong with a text.
+#[unsafe(no_mangle)]
+pub extern "C" fn ffi3_fault_lines(
+    alloc: Global,
+    target: u32,
+    text: &[u8],
+    lines: &mut [u8],
+) -> usize
+    ensures { TellsLines target text.now lines.old result lines.new }
+{
+    ffi3_capi::fault_lines(alloc, target, text, lines)
 }
 
 /// The name of a register.

@@ -8,3 +8,5 @@ pub mod Offsets
 pub mod Differing
 pub mod Results
 pub mod OneByOne
+pub mod Checks
+pub mod InLines

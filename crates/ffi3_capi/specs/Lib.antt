@@ -16,3 +16,5 @@ pub mod Entry
 pub mod Returned
 pub mod Each
 pub mod Chars
+pub mod CheckedText
+pub mod FaultLines

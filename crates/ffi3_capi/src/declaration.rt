@@ -42,7 +42,7 @@ pub fn declared(
 }
 
 /// The sign of a `char` on the target of this number, where no word says one.
-fn char_sign(target: u32) -> Sign
+pub(crate) fn char_sign(target: u32) -> Sign
     ensures { sign_of result ≡ char_sign target }
 {
     match target_numbered(target) {

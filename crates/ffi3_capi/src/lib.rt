@@ -3,6 +3,7 @@
 #![tactic(auto)]
 
 mod bytes;
+mod checking;
 pub mod codes;
 pub mod declaration;
 mod each;
@@ -10,6 +11,7 @@ mod entry;
 mod fault;
 pub mod fill;
 mod layouts;
+mod lines;
 mod natural;
 mod nodes;
 mod pieces;
@@ -21,6 +23,7 @@ mod status;
 mod text;
 mod whole;
 
+pub use checking::{CheckedText, check_text};
 pub use declaration::Declaration;
 pub use each::{EachArgument, EachArguments, Seen, see, tell_each};
 pub use entry::{EntryArguments, Found, Unread, arguments, find_arguments};
@@ -28,6 +31,7 @@ pub use fault::{FaultKind, TextFault, fault_with};
 pub use ffi3_nodes::Node;
 pub use ffi3_transfer::Registers;
 pub use layouts::{Laid, LaidLeaf, LaidType, find_layout, layout};
+pub use lines::fault_lines;
 pub use natural::check_layout;
 pub use pieces::{PlacedPiece, PlacedPieces};
 pub use placing::{PlacedCall, Placement, find_placement, place, target_numbered};

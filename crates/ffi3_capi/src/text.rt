@@ -9,7 +9,11 @@ use ffi3_types::{Bytes, NoMemory};
 use std::alloc::Global;
 
 /// The words for a kind of fault.
-fn kind_text(alloc: Global, kind: FaultKind, fault: &TextFault) -> Result<Bytes, NoMemory>
+pub(crate) fn kind_text(
+    alloc: Global,
+    kind: FaultKind,
+    fault: &TextFault,
+) -> Result<Bytes, NoMemory>
     ensures { IfOk result (λ text. text ≡ kind_text kind fault.now) }
 {
     let offset = fault.offset;

@@ -60,7 +60,7 @@ fn step_wide(alloc: Global, r: Dialect, state: Wide, token: Token<'_>) -> Result
 }
 
 /// One token further.
-fn step(alloc: Global, r: Dialect, state: State, token: Token<'_>) -> Result<State, NoMemory>
+pub fn step(alloc: Global, r: Dialect, state: State, token: Token<'_>) -> Result<State, NoMemory>
     ensures { IfOk result (λ s. state_of s ≡ keeping (dialect_of r) (state_of state) (token_of token.entry)) }
 {
     match state {
@@ -123,7 +123,7 @@ impl Pass {
 
 /// Whether no declaration can follow.
 #[tactic(auto, using(crate::proofs::Lives::wide_lives))]
-fn is_dead(state: &State) -> bool
+pub fn is_dead(state: &State) -> bool
     ensures { result ≡ is_dead (state_of state.now) }
 {
     match state {
@@ -227,7 +227,7 @@ fn finished_wide(state: Wide) -> Option<Declaration>
 }
 
 /// What is declared, where a declaration may end.
-fn finished(state: State) -> Option<Declaration>
+pub fn finished(state: State) -> Option<Declaration>
     ensures { result ≡ finish (state_of state) }
 {
     match state {

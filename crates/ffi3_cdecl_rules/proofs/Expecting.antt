@@ -1,9 +1,9 @@
 -- The kinds of token that could stand behind a beginning are computed.
-use Rattle.std.proofs.Common.{◌≡◌, ℕ, ◌<◌, Bool, true, false, List, [], ◌∷◌, ◌++◌, Option, Some, None, take, refl, ap, sym, ◌∙◌, true≢false, arith, lt-ltb}
-use Rattle.std.specs.Prelude.{⊤, cond, not, ◌&&◌, ◌||◌, is_some, ltb}
+use Rattle.std.proofs.Common.{◌≡◌, ℕ, ◌<◌, Bool, true, false, List, [], ◌∷◌, ◌++◌, Option, Some, None, refl, ap, sym, ◌∙◌, true≢false, arith, lt-ltb}
+use Rattle.std.specs.Prelude.{⊤, cond, not, ◌&&◌, ◌||◌, is_some}
 use Rattle.ffi3_type_rules.specs.Tree.{float, double}
 use Rattle.ffi3_cdecl_rules.specs.Tokens.{wide, signed, unsigned, Token, type_word, sign_word, const_word, short_word, int_word, long_word, int128_word, char_word, void_word, struct_word, union_word, enum_word, complex_word, attribute_word, other_keyword, name, number, open_round, close_round, open_curly, close_curly, open_square, close_square, comma, semicolon, star, dots}
-use Rattle.ffi3_cdecl_rules.specs.Grammar.{specifier_number, Declaration, IsDeclarationIn}
+use Rattle.ffi3_cdecl_rules.specs.Grammar.{specifier_number}
 use Rattle.ffi3_cdecl_rules.specs.Reading.{IsViableIn}
 use Rattle.ffi3_cdecl_rules.specs.Machine.{State, step, after, finish, begun, is_dead}
 use Rattle.ffi3_cdecl_rules.specs.Expected.{Expected, a_type, a_name, a_number, closing_round, a_comma, a_semicolon, the_end, a_star, closing_square, closing_curly, opening_curly, opening_round, opening_square, the_dots, a_word, every_kind, sample, is_of, CouldStand, AreThose, no_kinds, one_could, one_could_not, AreExpected}

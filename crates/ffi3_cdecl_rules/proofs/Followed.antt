@@ -1,8 +1,8 @@
 -- Which tokens lead nowhere in the wide reading, by what they are.
-use Rattle.std.proofs.Common.{◌≡◌, ℕ, zero, suc, ◌<◌, Bool, true, false, List, [], ◌∷◌, Option, Some, None, refl, ap, sym, ◌∙◌, true≢false}
+use Rattle.std.proofs.Common.{◌≡◌, ℕ, zero, suc, Bool, true, false, List, [], ◌∷◌, Option, Some, None, refl, ap, sym, ◌∙◌, true≢false}
 use Rattle.std.specs.Prelude.{⊤}
 use Rattle.ffi3_type_rules.specs.Tree.{float, double, Tree, scalar}
-use Rattle.ffi3_cdecl_rules.specs.Tokens.{wide, Dialect, Token, type_word, sign_word, const_word, short_word, int_word, long_word, int128_word, char_word, void_word, struct_word, union_word, enum_word, complex_word, attribute_word, other_keyword, name, number, open_round, close_round, open_curly, close_curly, open_square, close_square, comma, semicolon, star, dots}
+use Rattle.ffi3_cdecl_rules.specs.Tokens.{wide, Token, type_word, sign_word, const_word, short_word, int_word, long_word, int128_word, char_word, void_word, struct_word, union_word, enum_word, complex_word, attribute_word, other_keyword, name, number, open_round, close_round, open_curly, close_curly, open_square, close_square, comma, semicolon, star, dots}
 use Rattle.ffi3_cdecl_rules.specs.Grammar.{Kind, whole, bare, nothing, Declaration, named_by, passed, a_value, pointer_type, short_of, int_of, long_of}
 use Rattle.ffi3_cdecl_rules.specs.Machine.{Round, unstarred, starred, and_more, Head, Where, at_result, at_parameter, at_member, at_inner, Settled, a_parameter, an_inner, a_pointer_member, the_function, Member, plain_member, starred_member, arrays, Said, words_of, brackets_of, State, wants_type, wants_base, after_words, after_struct_tag, wants_tag, after_sign, after_short, after_long, after_long_long, after_struct, wants_star, sole_void, typed, named, opened, parameter_named, after_comma, after_dots, member_named, wants_count, counted, after_member, declarator, round_opened, function_named, closing, parameter_itself, inner_nothing, member_at, member_bound, member_bounded, settled, square_opened, square_filled, list_opened, list_void, list_comma, list_dots, wide_dots, closed, ended, dead, step_closing, member_ends, inner_ends, function_ends, settled_ends, bracket_or_end, step_settled, step_square, step_filled, itself_ends, itself_or_bracket, step_itself, nothing_or_bracket, step_inner_nothing, step_unnamed, step_declarator, step_round_opened, step_function_named, step_round_closing, step_member_at, step_member_bound, step_member_bounded, step_list_void, step_list_dots, step_typed, step_sign, step_short, step_long, step_long_long, step_struct, step_tag, step_star, step_struct_tag, step_named_by, step_words, step_sole_void, step_named, step_dots, step_wide_dots, step_member, step_count, step_counted, step_closed, step, is_dead}
 use Rattle.ffi3_cdecl_rules.specs.Telling.{wants_a_type}

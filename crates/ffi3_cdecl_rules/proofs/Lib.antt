@@ -33,3 +33,4 @@ pub mod Told
 mod Rows
 mod WideRows
 mod ToldRows
+mod TextRows

@@ -1,15 +1,15 @@
 -- What is told of a text is what the definition says.
-use Rattle.std.proofs.Common.{◌≡◌, ℕ, zero, suc, ◌+◌, ◌≤◌, Bool, true, false, List, [], ◌∷◌, ◌++◌, length, take, drop, Option, Some, None, refl, ap, sym, subst, ◌∙◌, append_assoc, append-nil, arith, true≢false}
+use Rattle.std.proofs.Common.{◌≡◌, ℕ, zero, suc, ◌+◌, ◌≤◌, List, [], ◌∷◌, ◌++◌, length, take, drop, Option, Some, None, refl, ap, sym, subst, ◌∙◌, append_assoc, append-nil, arith}
 use Rattle.std.specs.Prelude.{⊤, cond, not, ◌&&◌, ◌||◌, is_some}
 use Rattle.ffi3_type_rules.specs.Tree.{Tree}
 use Rattle.ffi3_cdecl_rules.specs.Tokens.{wide, Sign, Token, struct_word, union_word, enum_word, attribute_word, other_keyword, name, number, open_round, Found, blank, skipped, nothing_known, found, found_in, Placed, Cut, tokens, bad_at, cut_in, cut_from, before, bytes_more}
 use Rattle.ffi3_cdecl_rules.specs.Grammar.{Declaration}
-use Rattle.ffi3_cdecl_rules.specs.Reading.{IsViableIn, IsUnexpected, tokens_of, begins_at, Outcome, unexpected, IsReadingIn, has_unexpected}
+use Rattle.ffi3_cdecl_rules.specs.Reading.{IsUnexpected, tokens_of, begins_at, unexpected, IsReadingIn, has_unexpected}
 use Rattle.ffi3_cdecl_rules.specs.Machine.{State, wants_count, member_bound, step, after, begun, is_dead, finish}
 use Rattle.ffi3_cdecl_rules.specs.OnePass.{keeping}
 use Rattle.ffi3_cdecl_rules.specs.Expected.{Expected, a_type, a_name, a_number, the_end, a_word, every_kind, sample, MOST_TOLD, AreExpected}
-use Rattle.ffi3_cdecl_rules.specs.Reasons.{Reason, Base, IsReasonOf, token_length, Told, IsTold}
-use Rattle.ffi3_cdecl_rules.specs.Telling.{lives, wants_a_type, specifier_words, one_lives, could, those, expected, Track, no_track, behind_struct, behind_union, behind_enum, behind_base, named_base, name_behind_base, bracket_behind_base, tracked, sized, reason_of_base, reason_by, reason_at, told_at, told_at_end, Reached, reaching, reach_found, reach, nothing_reached, told_found, told_behind, tell}
+use Rattle.ffi3_cdecl_rules.specs.Reasons.{Reason, IsReasonOf, token_length, Told, IsTold}
+use Rattle.ffi3_cdecl_rules.specs.Telling.{lives, wants_a_type, specifier_words, one_lives, could, those, expected, Track, no_track, behind_struct, behind_union, behind_enum, behind_base, name_behind_base, bracket_behind_base, tracked, sized, reason_of_base, reason_by, reason_at, Reached, reaching, reach_found, reach, nothing_reached, told_found, told_behind, tell}
 use Rattle.ffi3_cdecl_rules.specs.FaultLaws.{FaultLaws}
 use Rattle.ffi3_cdecl_rules.proofs.Kept.{TakenToken, results, SameState, both_want_type, both_want_base, both_opened, both_comma, both_after_member, both_list, both_list_comma, both_struct, both_want_tag, both_struct_tag, both_declarator, both_round, both_itself, both_whole, both_dead, SameEnd, end_same, dead_same, step_same}
 use Rattle.ffi3_cdecl_rules.proofs.Ways.{after-append}

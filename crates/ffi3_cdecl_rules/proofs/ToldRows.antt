@@ -2,7 +2,7 @@
 use Rattle.std.proofs.Common.{◌≡◌, [], ◌∷◌, Some, None, refl}
 use Rattle.std.specs.Prelude.{codes}
 use Rattle.ffi3_cdecl_rules.specs.Tokens.{signed}
-use Rattle.ffi3_cdecl_rules.specs.Expected.{a_type, a_name, closing_round, a_comma, a_semicolon, the_end, a_star, closing_square, opening_curly, opening_round, opening_square, the_dots, a_number, closing_curly}
+use Rattle.ffi3_cdecl_rules.specs.Expected.{a_type, a_name, closing_round, a_comma, a_semicolon, the_end, a_star, closing_square, opening_curly, opening_round, opening_square, the_dots, a_number}
 use Rattle.ffi3_cdecl_rules.specs.Reasons.{a_struct_of, a_union_of, an_enum_of, a_type_named, an_attribute, a_keyword, by_value}
 use Rattle.ffi3_cdecl_rules.specs.Telling.{tell}
 

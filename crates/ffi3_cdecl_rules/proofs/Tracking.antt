@@ -1,11 +1,11 @@
 -- The base that is kept beside the state stands where it is said to.
-use Rattle.std.proofs.Common.{◌≡◌, ℕ, zero, suc, ◌+◌, ◌⊎◌, inl, inr, Bool, true, false, List, [], ◌∷◌, ◌++◌, Option, Some, None, refl, ap, sym, subst, ◌∙◌, append_assoc, true≢false}
-use Rattle.std.specs.Prelude.{⊤, cond, not, ltb}
+use Rattle.std.proofs.Common.{◌≡◌, ℕ, ◌+◌, ◌⊎◌, inl, inr, Bool, true, false, List, [], ◌∷◌, ◌++◌, None, refl, ap, sym, subst, ◌∙◌, append_assoc, true≢false}
+use Rattle.std.specs.Prelude.{⊤, cond, ltb}
 use Rattle.ffi3_type_rules.specs.Tree.{s32}
 use Rattle.ffi3_cdecl_rules.specs.Tokens.{wide, signed, Token, type_word, struct_word, union_word, enum_word, attribute_word, other_keyword, name, open_round}
 use Rattle.ffi3_cdecl_rules.specs.Grammar.{Kind, whole, bare, nothing, MOST_OPEN}
 use Rattle.ffi3_cdecl_rules.specs.Machine.{Round, unstarred, starred, brackets, bracket_inside, Where, at_result, at_parameter, at_member, at_inner, depth, State, wants_type, wants_base, after_struct, after_struct_tag, wants_tag, opened, after_comma, after_member, declarator, round_opened, list_opened, list_comma, dead, declared_name, open_bracket, step, after, begun, is_dead}
-use Rattle.ffi3_cdecl_rules.specs.Reasons.{Base, a_struct_of, a_union_of, an_enum_of, a_type_named, base_tokens, IsByValue, IsReasonOf}
+use Rattle.ffi3_cdecl_rules.specs.Reasons.{Base, base_tokens, IsByValue, IsReasonOf}
 use Rattle.ffi3_cdecl_rules.specs.Telling.{lives, wants_a_type, Track, no_track, behind_struct, behind_union, behind_enum, behind_base, named_base, base_alone, tag_behind, name_behind_base, bracket_behind_base, tracked, an_int32, sized, reason_of_base, reason_by, reason_at}
 use Rattle.ffi3_cdecl_rules.proofs.Ways.{after-append}
 use Rattle.ffi3_cdecl_rules.proofs.Readings.{lives_viable}

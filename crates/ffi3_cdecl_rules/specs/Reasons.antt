@@ -1,5 +1,5 @@
 -- Why a text is no declaration, where a word tells it, and all that is told there.
-use Rattle.std.specs.Prelude.{◌≡◌, ⊤, ℕ, suc, List, [], ◌∷◌, ◌++◌, length, drop, Option, Some, None}
+use Rattle.std.specs.Prelude.{◌≡◌, ℕ, suc, List, [], ◌∷◌, ◌++◌, length, drop, Option, Some, None}
 use Rattle.ffi3_type_rules.specs.Tree.{s32}
 use Rattle.ffi3_cdecl_rules.specs.Tokens.{wide, Sign, Token, type_word, struct_word, union_word, enum_word, name}
 use Rattle.ffi3_cdecl_rules.specs.Tokens.{attribute_word, other_keyword, Placed, tokens, cut_in, bytes_more, found_in}

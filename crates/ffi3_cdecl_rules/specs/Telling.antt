@@ -1,20 +1,21 @@
 -- What is told of an unexpected place, computed by the machine of the wide reading; it need not be believed, since that it computes what is to be told is proved.
-use Rattle.std.specs.Prelude.{ℕ, zero, suc, Bool, true, false, cond, not, ◌&&◌, ◌||◌, List, [], ◌∷◌, take, drop, Option, Some}
-use Rattle.std.specs.Prelude.{None, is_some}
+use Rattle.std.specs.Prelude.{ℕ, zero, suc, Bool, true, false, cond, not, ◌&&◌, ◌||◌, List, [], ◌∷◌, take, drop, Option}
+use Rattle.std.specs.Prelude.{Some, None, is_some}
 use Rattle.ffi3_type_rules.specs.Tree.{s32, float, double, scalar}
-use Rattle.ffi3_cdecl_rules.specs.Tokens.{wide, Sign, signed, unsigned, Token, type_word, sign_word, short_word, int_word}
-use Rattle.ffi3_cdecl_rules.specs.Tokens.{long_word, int128_word, char_word, void_word, struct_word, union_word, enum_word}
-use Rattle.ffi3_cdecl_rules.specs.Tokens.{complex_word, attribute_word, other_keyword, name, number, open_round, Found}
-use Rattle.ffi3_cdecl_rules.specs.Tokens.{blank, skipped, nothing_known, found, found_in}
+use Rattle.ffi3_cdecl_rules.specs.Tokens.{wide, Sign, signed, unsigned, Token, type_word, sign_word, short_word}
+use Rattle.ffi3_cdecl_rules.specs.Tokens.{int_word, long_word, int128_word, char_word, struct_word, union_word}
+use Rattle.ffi3_cdecl_rules.specs.Tokens.{enum_word, complex_word, attribute_word, other_keyword, name, number}
+use Rattle.ffi3_cdecl_rules.specs.Tokens.{open_round, Found, blank, skipped, nothing_known, found, found_in}
 use Rattle.ffi3_cdecl_rules.specs.Grammar.{Kind, whole}
 use Rattle.ffi3_cdecl_rules.specs.Machine.{State, wants_type, wants_base, after_struct, after_struct_tag, wants_tag}
-use Rattle.ffi3_cdecl_rules.specs.Machine.{opened, after_comma, after_member, declarator, round_opened, parameter_itself}
-use Rattle.ffi3_cdecl_rules.specs.Machine.{list_opened, list_comma, dead, unstarred, step, is_dead, finish, begun}
+use Rattle.ffi3_cdecl_rules.specs.Machine.{opened, after_comma, after_member, declarator, round_opened}
+use Rattle.ffi3_cdecl_rules.specs.Machine.{parameter_itself, list_opened, list_comma, dead, unstarred, step, is_dead}
+use Rattle.ffi3_cdecl_rules.specs.Machine.{finish, begun}
 use Rattle.ffi3_cdecl_rules.specs.OnePass.{keeping}
 use Rattle.ffi3_cdecl_rules.specs.Expected.{Expected, a_type, a_name, a_number, the_end, a_word, every_kind, sample}
 use Rattle.ffi3_cdecl_rules.specs.Expected.{MOST_TOLD}
-use Rattle.ffi3_cdecl_rules.specs.Reasons.{Base, a_struct_of, a_union_of, an_enum_of, a_type_named, Reason, an_attribute}
-use Rattle.ffi3_cdecl_rules.specs.Reasons.{a_keyword, by_value, Told}
+use Rattle.ffi3_cdecl_rules.specs.Reasons.{Base, a_struct_of, a_union_of, an_enum_of, a_type_named, Reason}
+use Rattle.ffi3_cdecl_rules.specs.Reasons.{an_attribute, a_keyword, by_value, Told}
 
 -- ---- what could stand in a state
 
