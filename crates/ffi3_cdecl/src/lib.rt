@@ -26,5 +26,5 @@ pub use declaration::Declaration;
 pub use fault::DeclFault;
 /// A want of memory: the one answer that no clause ties to a cause.
 pub use ffi3_types::NoMemory;
-pub use text::decl_text;
+pub use text::{decl_text, prototype_text};
 pub use token::Sign;
