@@ -88,7 +88,8 @@ pub fixed_is : (ts : List Tree) (n m : ℕ) (t : Tree) → 0 < n → n ≤ lengt
 fixed_is [] n m t some within e all rest = absurd (omega (arith, some, within))
 fixed_is (u ∷ us) zero m t some within e all rest = absurd (omega (arith, some))
 fixed_is (u ∷ us) (suc n) m t some within e all rest =
-    ap (λ v. type_tokens v (behind_commas (take n us) (comma ∷ dots ∷ behind_commas (slice_range (u ∷ us) (suc n) m) (close_round ∷ rest)))) e ∙ ap (λ k. type_tokens u (behind_commas (take n us) (comma ∷ dots ∷ behind_commas (slice_range (u ∷ us) (suc n) k) (close_round ∷ rest)))) all ∙ ap (λ vs. type_tokens u (behind_commas (take n us) (comma ∷ dots ∷ behind_commas vs (close_round ∷ rest)))) (rest_is (u ∷ us) (suc n))
+    let count : suc n - 1 ≡ n = omega arith in
+    ap (λ k. type_tokens t (behind_commas (take k us) (comma ∷ dots ∷ behind_commas (slice_range (u ∷ us) (suc n) m) (close_round ∷ rest)))) count ∙ ap (λ v. type_tokens v (behind_commas (take n us) (comma ∷ dots ∷ behind_commas (slice_range (u ∷ us) (suc n) m) (close_round ∷ rest)))) e ∙ ap (λ k. type_tokens u (behind_commas (take n us) (comma ∷ dots ∷ behind_commas (slice_range (u ∷ us) (suc n) k) (close_round ∷ rest)))) all ∙ ap (λ vs. type_tokens u (behind_commas (take n us) (comma ∷ dots ∷ behind_commas vs (close_round ∷ rest)))) (rest_is (u ∷ us) (suc n))
 
 -- the whole, from an empty text on
 pub prototype_is : (text called : List ℕ) (s : Signature) (t : Tree) (ts : List Tree) (fixed : Option ℕ) → text ≡ [] → t ≡ s.result_type → ts ≡ s.arguments → fixed ≡ s.fixed → text ++ text_of true (type_tokens t (name called ∷ open_round ∷ fixed_tokens ts fixed (semicolon ∷ []))) ≡ prototype_text called s
