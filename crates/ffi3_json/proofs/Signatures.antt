@@ -87,7 +87,8 @@ of_object version d path none = ap (signature_by version d path) (sym none)
 -- what is read and refused of either is so of the signature, also in the order of faults itself
 module _ (version : ℕ) (d : Data) (path : JsonPath) (x : Read Signature) (same : read_signature version d path ≡ x) where
   pub reads_signature : (z : Result Signature ScriptFault) → IfOk z (λ s. x ≡ read s) → IfOk z (λ s. read_signature version d path ≡ read s)
-  reads_signature z ok = IfOk-weaker z _ _ (λ s h. same ∙ h) ok
+  reads_signature z ok =
+      IfOk-weaker z (λ s. x ≡ read s) (λ s. read_signature version d path ≡ read s) (λ s h. same ∙ h) ok
 
   pub reads_rightly : (z : Result Signature ScriptFault) → IfOk z (λ s. x ≡ read s) → IfOk z SignatureHasNoFault
   reads_rightly z ok = IfOk-weaker z _ _ (λ s h. read_is_right version d path s (same ∙ h)) ok
