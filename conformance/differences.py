@@ -202,8 +202,9 @@ DIFFERENCES = [
         copy_of_its_own_alignment),
     Difference(
         "clang's caller of a variadic function stores a named char or short in four bytes", "apple", "clang",
-        "clang 14 extends it to an int before it lays out the stack, and so what follows it may stand elsewhere. Its own "
-        "callee reads it packed, and clang 16 stores it so.",
+        "clang 14 extends it to an int before it lays out the stack, and so what follows it may stand elsewhere; where "
+        "that is the address of a copy, who reads it may end by a signal. Its own callee reads it packed, and clang 16 "
+        "stores it so.",
         "Apple, Writing ARM64 code for Apple platforms, pass arguments to functions correctly: Function arguments may "
         "consume slots on the stack that are not multiples of 8 bytes. If the total number of bytes for stack-based "
         "arguments is not a multiple of 8 bytes, insert padding on the stack to maintain the 8-byte alignment "

@@ -17,6 +17,17 @@ __attribute__((noipa)) double weigh(struct item item, const char *label, double 
     return item.id * item.weight * scale + box.x + wide.e + a + b + tag.n + c + d + e + f + label[0];
 }
 
+#ifdef __x86_64__
+/* As a program of Windows is entered. */
+__attribute__((noipa, ms_abi)) double weigh_there(struct item item, const char *label, double scale, struct box box,
+                                                  struct wide wide, long a, long b, struct tag tag, unsigned char c,
+                                                  enum state d, float e, short f)
+{
+    __asm__ volatile("");
+    return item.id * item.weight * scale + box.x + wide.e + a + b + tag.n + c + d + e + f + label[0];
+}
+#endif
+
 __attribute__((noipa)) struct item pair(const char *format, ...)
 {
     va_list list;
@@ -39,6 +50,9 @@ int main(void)
     struct wide wide = {1, 2, 3, 4, 5};
     struct tag tag = {"hello", -9};
     double found = weigh(item, "label", 2.25, box, wide, 11, 1L << 40, tag, 200, ON, 1.5f, -3);
+#ifdef __x86_64__
+    found += weigh_there(item, "label", 2.25, box, wide, 11, 1L << 40, tag, 200, ON, 1.5f, -3);
+#endif
     found += pair("%d %f", 42, 6.5, 1, 2, 3, 4, 5, 6, 7, wide).weight + widen(1).e;
 #ifdef WITH_ZLIB
     z_stream stream;

@@ -9,14 +9,22 @@ static bool has_code_of_block(const void *closure, const void *code)
     return (uintptr_t)closure - (uintptr_t)code == BLOCK_BYTES && memcmp(code, slots_code, CODE_BYTES) == 0;
 }
 
-ffi_status ffi_prep_closure_loc(ffi_closure *closure, ffi_cif *cif, void (*fun)(ffi_cif *, void *, void **, void *),
-                                void *user_data, void *codeloc)
+/* Whether closures of an interface can be entered: the callee's part of its plan is made here. One that is not prepared
+ * yet may be so before the closure is entered. */
+static ffi_status status_of(const ffi_cif *cif)
 {
     if (!host_has_abi(cif->abi, false))
         return FFI_BAD_ABI;
     const struct plan *plan = plan_if_prepared(cif);
-    if (plan && !served_by(plan, cif))
-        return FFI_BAD_TYPEDEF;
+    return plan && !served_by(plan, cif) ? FFI_BAD_TYPEDEF : FFI_OK;
+}
+
+ffi_status ffi_prep_closure_loc(ffi_closure *closure, ffi_cif *cif, void (*fun)(ffi_cif *, void *, void **, void *),
+                                void *user_data, void *codeloc)
+{
+    ffi_status status = status_of(cif);
+    if (status != FFI_OK)
+        return status;
     entry *entry = host_entry(cif->abi);
     if (!has_code_of_block(closure, codeloc)) {
         /* In memory of the client's own: the slot's code, to the byte, in front of its data. */
@@ -39,11 +47,9 @@ ffi_status ffi_prep_closure(ffi_closure *closure, ffi_cif *cif, void (*fun)(ffi_
 
 ffi_status ffi_prep_go_closure(ffi_go_closure *closure, ffi_cif *cif, void (*fun)(ffi_cif *, void *, void **, void *))
 {
-    if (!host_has_abi(cif->abi, false))
-        return FFI_BAD_ABI;
-    const struct plan *plan = plan_if_prepared(cif);
-    if (plan && !served_by(plan, cif))
-        return FFI_BAD_TYPEDEF;
+    ffi_status status = status_of(cif);
+    if (status != FFI_OK)
+        return status;
     entry *entry = host_go_entry(cif->abi);
     memcpy(&closure->tramp, &entry, sizeof entry);
     closure->cif = cif;

@@ -5,7 +5,6 @@
 #include <stdlib.h>
 #include <string.h>
 
-#define DEEPEST 16         /* structs in structs: the library's own limit */
 #define MOST_NODES 1000000 /* of a signature */
 
 const uint8_t scalar_kinds[FFI_TYPE_LAST + 1] = {
@@ -63,6 +62,17 @@ size_t type_end(const struct ffi3_node *nodes, size_t at)
     return at;
 }
 
+bool key_put_bytes(struct key *key, const ffi_type *type)
+{
+    bool is_wide = type->alignment == 16;
+    if (type->size > UINT32_MAX || (is_wide && type->size % 16))
+        return false;
+    key_put(key, FFI3_STRUCT, 1);
+    key_put(key, FFI3_ARRAY, (uint32_t)(is_wide ? type->size / 16 : type->size));
+    key_put(key, is_wide ? FFI3_UINT128 : FFI3_UINT8, 0);
+    return true;
+}
+
 /* ---- Types as they are */
 
 /* `alignment` is a power of two. */
@@ -73,8 +83,7 @@ bool is_natural(const ffi_type *type)
     size_t size = 0, alignment = 1;
     for (ffi_type **it = type->elements; *it; it++) {
         size_t own = (*it)->alignment;
-        if ((*it)->type == FFI_TYPE_VOID || (*it)->size == 0 || own == 0 || own > 16 || (own & (own - 1)) ||
-            is_sized_otherwise(*it))
+        if ((*it)->type == FFI_TYPE_VOID || (*it)->size == 0 || !is_alignment(own) || is_sized_otherwise(*it))
             return false;
         size = rounded(size, own) + (*it)->size;
         alignment = own > alignment ? own : alignment;
@@ -121,7 +130,8 @@ static bool put_elements(struct key *key, const ffi_type *type, int depth)
 }
 
 /* Adds a type as it is, or answers false where it can't be told so: somewhere its client laid it out itself, or it
- * is of another kind. What was added then is to be taken back. */
+ * is of another kind; or structs stand in one another too deep, which is noted. What was added then is to be taken
+ * back. */
 static bool put_type(struct key *key, const ffi_type *type, int depth)
 {
     uint32_t kind = scalar_kind(type->type);
@@ -129,6 +139,8 @@ static bool put_type(struct key *key, const ffi_type *type, int depth)
         key_put(key, kind, 0);
         return true;
     }
+    if (depth >= DEEPEST && type->type == FFI_TYPE_STRUCT)
+        key->status = FFI_BAD_TYPEDEF;
     if (depth >= DEEPEST || key->status != FFI_OK)
         return false;
     if (type->type == FFI_TYPE_COMPLEX)
@@ -147,7 +159,7 @@ static void put_other(struct key *key, const ffi_type *type, ffi_abi abi, bool i
     key->length = before;
     if (host_put_long_double(key, type, abi, is_result))
         return;
-    if (!is_aggregate(type) || !host_put_stand_in(key, type, abi))
+    if (!is_aggregate(type) || !is_alignment(type->alignment) || !host_put_stand_in(key, type, abi))
         key->status = FFI_BAD_TYPEDEF;
 }
 

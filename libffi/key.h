@@ -13,6 +13,8 @@
 #define NODE_LONG_DOUBLES 0x103u /* `count` long doubles that have registers of their own: long_double.c of the host */
 #define NODES_BEFORE_TYPES 2
 
+#define DEEPEST 16 /* structs in structs: the library's own limit */
+
 /* The bit of all these kinds, and of arguments that are void: the library is told other nodes than a key has. */
 #define NODES_OF_OWN 0x100u
 
@@ -59,6 +61,10 @@ static inline void key_put(struct key *key, uint32_t kind, uint32_t count)
     key->kinds |= kind;
 }
 
+/* Adds so many bytes, with its alignment, in the place of a type of which nothing else counts. Answers false where there
+ * are none such. */
+bool key_put_bytes(struct key *key, const ffi_type *type);
+
 /* Where in nodes the type ends that begins at `at`. */
 size_t type_end(const struct ffi3_node *nodes, size_t at);
 
@@ -66,6 +72,9 @@ static inline bool is_aggregate(const ffi_type *type)
 {
     return type->type == FFI_TYPE_STRUCT || type->type == FFI_TYPE_COMPLEX;
 }
+
+/* Whether the library has types of this alignment. */
+static inline bool is_alignment(size_t it) { return it != 0 && it <= 16 && (it & (it - 1)) == 0; }
 
 /* By libffi's code of a scalar: the library's kind, or FFI3_STRUCT where it has none for it; and how many bytes. */
 extern const uint8_t scalar_kinds[FFI_TYPE_LAST + 1], scalar_sizes[FFI_TYPE_LAST + 1];

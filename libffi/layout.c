@@ -5,8 +5,6 @@
 #include <stdlib.h>
 #include <string.h>
 
-#define DEEPEST 16 /* structs in structs */
-
 /* ---- Layouts that the library told. They are kept, and readers take no lock: there are as many as there are structs
  * with members of other sizes and alignments. */
 

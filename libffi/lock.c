@@ -1,4 +1,6 @@
 #include "lock.h"
+#include <stdio.h>
+#include <stdlib.h>
 
 pthread_mutex_t library_lock = PTHREAD_MUTEX_INITIALIZER;
 pthread_mutex_t slots_lock = PTHREAD_MUTEX_INITIALIZER;
@@ -15,4 +17,10 @@ static void give_all(void)
     pthread_mutex_unlock(&library_lock);
 }
 
-__attribute__((constructor)) static void keep_over_forks(void) { pthread_atfork(take_all, give_all, give_all); }
+__attribute__((constructor)) static void keep_over_forks(void)
+{
+    if (pthread_atfork(take_all, give_all, give_all) != 0) {
+        fputs("libffi: no memory to hold its locks over forks\n", stderr);
+        abort();
+    }
+}

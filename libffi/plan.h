@@ -51,6 +51,7 @@ struct source {
     uint32_t count;
 };
 
+/* All but `served` is written before the plan is published. */
 struct plan {
     uint64_t word; /* of the signature; where it is 0, its key has these nodes */
     uint64_t hash;
@@ -58,15 +59,15 @@ struct plan {
     size_t nodes_count;
     ffi_abi abi;
     uint32_t nargs;
-    uint32_t index;   /* of the table of plans */
+    uint32_t index;     /* of the table of plans */
     uint32_t stack;     /* bytes of stack arguments, a multiple of 16 */
     uint32_t frame;     /* these with copies and the result's buffer */
     uint32_t beside;    /* goes into the exchange */
     uint32_t number_at; /* where the caller puts a number: on AMD64, how many vector registers there are */
     uint64_t number;
-    uint32_t hidden;  /* the place of the address of the result's buffer, or NO_PLACE */
-    uint32_t back;    /* the place in which the callee gives it back, or NO_PLACE */
-    uint32_t buffer;  /* the place of that buffer, where the client has none */
+    uint32_t hidden;    /* the place of the address of the result's buffer, or NO_PLACE */
+    uint32_t back;      /* the place in which the callee gives it back, or NO_PLACE */
+    uint32_t buffer;    /* the place of that buffer, where the client has none */
     uint32_t moves_count;
     uint32_t loads_count;
     struct move *moves; /* the caller's, of the arguments */

@@ -36,7 +36,9 @@ static bool is_promoted(const ffi_type *type)
 ffi_status ffi_prep_cif_var(ffi_cif *cif, ffi_abi abi, unsigned nfixedargs, unsigned ntotalargs, ffi_type *rtype,
                             ffi_type **atypes)
 {
-    for (unsigned i = nfixedargs; i < ntotalargs && host_has_abi(abi, true); i++)
+    if (!host_has_abi(abi, true))
+        return FFI_BAD_ABI;
+    for (unsigned i = nfixedargs; i < ntotalargs; i++)
         if (is_promoted(atypes[i]))
             return FFI_BAD_ARGTYPE;
     return prepare(cif, abi, nfixedargs, ntotalargs, rtype, atypes);

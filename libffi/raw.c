@@ -1,15 +1,8 @@
 /* The raw interfaces, over ffi_call: arguments in words one behind another, structs and complex numbers by address. In
  * Java's a number of 64 bits takes two words. */
+#include "key.h"
 #include <alloca.h>
-#include <ffi.h>
-#include <stdbool.h>
-#include <stdint.h>
 #include <string.h>
-
-static bool is_by_address(const ffi_type *type)
-{
-    return type->type == FFI_TYPE_STRUCT || type->type == FFI_TYPE_COMPLEX;
-}
 
 static bool is_wide(const ffi_type *type)
 {
@@ -18,7 +11,7 @@ static bool is_wide(const ffi_type *type)
 
 static size_t words_of(const ffi_type *type, bool is_java)
 {
-    if (is_by_address(type))
+    if (is_aggregate(type))
         return 1;
     return is_java && is_wide(type) ? 2 : (type->size + sizeof(ffi_raw) - 1) / sizeof(ffi_raw);
 }
@@ -34,7 +27,7 @@ static size_t size_of(const ffi_cif *cif, bool is_java)
 static void to_addresses(const ffi_cif *cif, ffi_raw *raw, void **values, bool is_java)
 {
     for (unsigned i = 0; i < cif->nargs; i++) {
-        values[i] = is_by_address(cif->arg_types[i]) ? raw->ptr : raw;
+        values[i] = is_aggregate(cif->arg_types[i]) ? raw->ptr : raw;
         raw += words_of(cif->arg_types[i], is_java);
     }
 }

@@ -1,18 +1,11 @@
 #include "shape.h"
 #include "key.h"
 
-#define DEEPEST 16        /* structs in structs */
 #define MOST_LOOKS 100000 /* at types: what may be a struct or a union is looked at twice, and so is all in it */
 
 static size_t rounded(size_t size, size_t alignment)
 {
     return alignment > 1 ? (size + alignment - 1) / alignment * alignment : size;
-}
-
-/* `length` bits from bit `at` on. */
-static uint64_t bits(size_t at, size_t length)
-{
-    return (length < 64 ? (UINT64_C(1) << length) - 1 : UINT64_MAX) << at;
 }
 
 static bool add(const ffi_type *type, size_t at, int depth, unsigned *looks, struct shape *shape);
@@ -25,7 +18,7 @@ static bool add_scalar(const ffi_type *type, size_t at, struct shape *shape)
                      : type->type == FFI_TYPE_DOUBLE     ? &shape->real8
                      : type->type == FFI_TYPE_LONGDOUBLE ? &shape->real16
                                                          : &shape->integer;
-    *kind |= bits(at, type->size);
+    *kind |= shape_bytes(at, type->size);
     shape->is_misaligned = shape->is_misaligned || rounded(at, type->alignment) != at;
     return true;
 }

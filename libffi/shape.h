@@ -15,6 +15,12 @@ struct shape {
 
 #define SHAPE_BYTES 64
 
+/* The bits of `length` bytes from byte `at` on. */
+static inline uint64_t shape_bytes(size_t at, size_t length)
+{
+    return (length < SHAPE_BYTES ? (UINT64_C(1) << length) - 1 : UINT64_MAX) << at;
+}
+
 /* The shape of a type of at most SHAPE_BYTES bytes, by its elements' own offsets: those of a struct in which no
  * alignment is over the type's own, or 0 for all, as in a union, whichever makes the size that the client has set.
  * Answers false where neither does, or where both do and are not alike: nothing is guessed. */

@@ -178,7 +178,7 @@ static void mark(struct block *block, uint32_t slot, uint32_t count, bool is_tak
 /* Under the lock: so many slots one behind another, and where their code is. */
 static char *take_slots(uint32_t count, void **code)
 {
-    struct block *block = NULL;
+    struct block *block;
     uint32_t slot = SLOTS;
     while (open_blocks && open_blocks->free == 0) {
         open_blocks->is_open = false;

@@ -1,4 +1,4 @@
-/* The type objects. Those of the scalars are read-only, as in Debian's libffi. */
+/* The type objects, read-only as in Debian's libffi. */
 #define LIBFFI_HIDE_BASIC_TYPES
 #include <ffi.h>
 
@@ -18,9 +18,10 @@ SCALAR(double, FFI_TYPE_DOUBLE, 8);
 SCALAR(pointer, FFI_TYPE_POINTER, 8);
 SCALAR(longdouble, FFI_TYPE_LONGDOUBLE, 16);
 
-#define COMPLEX(name, bytes)                                                      \
-    static ffi_type *elements_of_##name[] = {(ffi_type *)&ffi_type_##name, NULL}; \
-    FFI_API ffi_type ffi_type_complex_##name = {2 * bytes, bytes, FFI_TYPE_COMPLEX, elements_of_##name}
+#define COMPLEX(name, bytes)                                                                \
+    static ffi_type *const elements_of_##name[] = {(ffi_type *)&ffi_type_##name, NULL};     \
+    FFI_API const ffi_type ffi_type_complex_##name = {2 * bytes, bytes, FFI_TYPE_COMPLEX,   \
+                                                      (ffi_type **)elements_of_##name}
 
 COMPLEX(float, 4);
 COMPLEX(double, 8);

@@ -21,6 +21,7 @@ struct by_pragma { char c; double d; };
 typedef float four __attribute__((vector_size(16)));
 typedef int two __attribute__((vector_size(8)));
 typedef struct { char c[2 ?: 1]; } gnu;
+typedef int __attribute__((vectorcall)) called_otherwise(int);
 
 int r_packed(struct packed); //= a packed or aligned struct: i
 int r_aligned(struct aligned); //= a packed or aligned struct
@@ -45,6 +46,8 @@ int r_holds_wide(struct holds_wide); //= left out: long double, or a real of 16 
 int r_complex(long double _Complex); //= left out: complex
 int r_integers(_Complex int); //= a complex integer
 int r_prototype(); //= no prototype
+int r_called(int) __attribute__((__vectorcall__)); //= another calling convention: vectorcall
+called_otherwise r_called_by_type; //= another calling convention: vectorcall
 int r_written(struct { int a; } s); //= a struct or an enum without a tag
 int r_syntax(int) [[x]]; //= pycparser does not parse it
 int r_gnu(int a, gnu b); //= pycparser does not parse it

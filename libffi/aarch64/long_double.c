@@ -8,10 +8,9 @@
 bool host_put_long_double(struct key *key, const ffi_type *type, ffi_abi abi, bool is_result)
 {
     struct shape shape;
-    uint64_t whole = type->size < 64 ? (UINT64_C(1) << type->size) - 1 : UINT64_MAX;
     (void)abi, (void)is_result;
-    if (type->size % 16 || type->alignment != 16 || !find_shape(type, &shape) || shape.real16 != whole ||
-        (shape.integer | shape.real4 | shape.real8))
+    if (type->size % 16 || type->alignment != 16 || !find_shape(type, &shape) ||
+        shape.real16 != shape_bytes(0, type->size) || (shape.integer | shape.real4 | shape.real8))
         return false;
     key_put(key, NODE_LONG_DOUBLES, (uint32_t)(type->size / 16));
     return true;

@@ -14,18 +14,6 @@ bool host_are_alike(const struct shape *one, const struct shape *other)
     return are;
 }
 
-/* What is in memory, or copied, by its size and its alignment alone. */
-static bool put_bytes(struct key *key, const ffi_type *type)
-{
-    bool is_wide = type->alignment == 16;
-    if (type->size > UINT32_MAX || type->alignment > 16 || (is_wide && type->size % 16))
-        return false;
-    key_put(key, FFI3_STRUCT, 1);
-    key_put(key, FFI3_ARRAY, (uint32_t)(is_wide ? type->size / 16 : type->size));
-    key_put(key, is_wide ? FFI3_UINT128 : FFI3_UINT8, 0);
-    return true;
-}
-
 /* Each eightbyte of a type of at most 16 bytes is INTEGER, or SSE where no integer stands in it (psABI 3.2.3). What
  * has a misaligned scalar is in memory, and so is what has a long double beside other things: no stand-in of 16
  * bytes is. Nor has one an eightbyte that is empty, or two of SSE that are aligned to 16. */
@@ -49,9 +37,9 @@ static bool put_eightbytes(struct key *key, const ffi_type *type)
     return true;
 }
 
+/* By Microsoft's convention size and alignment decide alone, and by the psABI they do of what has over 16 bytes, which is
+ * in memory. */
 bool host_put_stand_in(struct key *key, const ffi_type *type, ffi_abi abi)
 {
-    if (type->size == 0 || type->alignment == 0 || type->alignment > 16 || (type->alignment & (type->alignment - 1)))
-        return false;
-    return is_win64(abi) || type->size > 16 ? put_bytes(key, type) : put_eightbytes(key, type);
+    return is_win64(abi) || type->size > 16 ? key_put_bytes(key, type) : put_eightbytes(key, type);
 }

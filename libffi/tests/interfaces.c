@@ -1,6 +1,6 @@
 /* Interfaces that are checked before they are used: changed ones, those of another library, those that are prepared
- * again while they are called or at once, types that several threads lay out, arguments that are void, and frames
- * larger than a thread's stack.  interfaces [LIBFFI]  links -lffi; LIBFFI is another library's file. */
+ * again while they are called or at once, types that several threads lay out, arguments that are void, limits, and
+ * frames larger than a thread's stack.  interfaces [LIBFFI]  links -lffi; LIBFFI is another library's file. */
 #define _GNU_SOURCE
 #include "expect.h"
 #include <dlfcn.h>
@@ -145,6 +145,41 @@ static void pass_voids(void)
     ffi_call(&cif, FFI_FN(last), &got, values);
     EXPECT((int)got == 42);
     EXPECT(ffi_prep_cif(&cif, FFI_DEFAULT_ABI, COUNT, &ffi_type_sint32, types) == FFI_BAD_TYPEDEF);
+}
+
+/* ---- The limits that ffi.3 names. */
+
+static ffi_status status_of(ffi_type *type)
+{
+    ffi_type *arguments[] = {type};
+    ffi_cif cif;
+    return ffi_prep_cif(&cif, FFI_DEFAULT_ABI, 1, &ffi_type_void, arguments);
+}
+
+static void keep_limits(void)
+{
+    static ffi_type *arguments[66], *words[514], levels[17], *elements[17][2];
+    static size_t offsets[513];
+    ffi_type block = {0, 0, FFI_TYPE_STRUCT, words}, over = {0, 0, FFI_TYPE_STRUCT, words};
+    ffi_cif cif;
+    for (int i = 0; i < 66; i++)
+        arguments[i] = i == 9 ? &ffi_type_void : &ffi_type_sint32;
+    EXPECT(ffi_prep_cif(&cif, FFI_DEFAULT_ABI, 65, &ffi_type_void, arguments) == FFI_OK);
+    EXPECT(ffi_prep_cif(&cif, FFI_DEFAULT_ABI, 66, &ffi_type_void, arguments) == FFI_BAD_TYPEDEF);
+    EXPECT(ffi_prep_cif_var(&cif, FFI_DEFAULT_ABI, 1, 66, &ffi_type_void, arguments) == FFI_BAD_ARGTYPE);
+    for (int i = 0; i < 512; i++)
+        words[i] = &ffi_type_uint64;
+    EXPECT(ffi_get_struct_offsets(FFI_DEFAULT_ABI, &block, offsets) == FFI_OK && block.size == 4096);
+    EXPECT(offsets[511] == 4088 && status_of(&block) == FFI_OK);
+    words[512] = &ffi_type_uint8;
+    EXPECT(ffi_get_struct_offsets(FFI_DEFAULT_ABI, &over, offsets) == FFI_BAD_TYPEDEF);
+    EXPECT(status_of(&over) == FFI_BAD_TYPEDEF);
+    for (int k = 0; k < 17; k++) {
+        elements[k][0] = k ? &levels[k - 1] : &ffi_type_sint32;
+        levels[k] = (ffi_type){0, 0, FFI_TYPE_STRUCT, elements[k]};
+    }
+    EXPECT(status_of(&levels[15]) == FFI_OK && levels[15].size == 4);
+    EXPECT(status_of(&levels[16]) == FFI_BAD_TYPEDEF);
 }
 
 /* Offsets are the same when they are asked for again, of few members and of many. */
@@ -393,6 +428,7 @@ int main(int count, char **words)
     call_while_prepared();
     lay_out_in_threads();
     pass_voids();
+    keep_limits();
     tell_offsets();
     give_nothing();
     change_types();

@@ -25,6 +25,49 @@ Of a header, as its compiler reads it:
   python3 -m ffi3 page zlib.h -o zlib.html
 """
 
+PLACE = """\
+  python3 -m ffi3 place riscv "double f(struct { int i; float x; } a)"
+
+prints what a caller passes and what comes back, by the arguments' numbers from 0 on:
+
+  frame of 0 bytes
+  0: a0 has bytes 0 to 3
+  0: fa0 has bytes 4 to 7, the rest ones
+  result: fa0 has bytes 0 to 7
+
+Bytes stand in the low bytes of a register, and where nothing is said of its rest that is free. A rest that is extended
+repeats the value's sign, or is zeros. stack+8 is 8 bytes from where stack arguments begin. A large value is copied to
+the caller's frame, and a place has the address of frame+OFFSET; `hidden` is the address of where a large result is
+left. An int has 32 bits and a long 64 on every target: the long of Windows is written int. What has typedefs and enums
+`header` reads, as a compiler does.
+"""
+
+LAYOUT = """\
+  python3 -m ffi3 layout "double f(struct { int i; float x; } a)"
+
+prints for each argument, from 0 on, and for the result the offset and the type of every scalar:
+
+  0: size 8, align 4, leaves 0:sint32 4:float
+  result: size 8, align 8, leaves 0:double
+"""
+
+SVG = """\
+  python3 -m ffi3 svg call.svg "double f(struct { int i; float x; } a)"
+  python3 -m ffi3 svg crc32.svg crc32 --header zlib.h --target amd64 --target win64
+
+Each row is eight bytes, the lowest at the left: of a register, or of the stack at the call, from the first stack
+argument on. `x: 0-3` are the bytes 0 to 3 of x, `@ of x` is the address of its copy.
+"""
+
+PAGE = """\
+  python3 -m ffi3 page zlib.h -o zlib.html
+  python3 -m ffi3 page zlib.h --target amd64 --target win64 --function crc32 -o crc32.html
+
+The page needs no server and no network: a browser opens the file. It has a list of functions with a search, for the
+chosen one a drawing by each standard, and for each piece the rule that placed it. Compilers are those of `header`,
+whose help says how a Mac's headers are read.
+"""
+
 PLACES = """\
 A piece REGISTER:OFFSET+LENGTH has LENGTH bytes of the value, from its byte OFFSET on, in the low bytes of the register;
 stack8:0+4 has them 8 bytes behind where stack arguments begin. `ref REGISTER copy OFFSET` has the address of a copy,
@@ -106,7 +149,7 @@ def _surveyed(words, names: Sequence[str]):
     from . import headers
     targets = words.target or (headers.COMPILERS if words.cc is None else [None])
     compilers = [headers.compiler_for(target, words.cc, words.folders, words.defined) for target in targets]
-    for note in dict.fromkeys(filter(None, (each.note for each in compilers))):
+    for note in dict.fromkeys(each.note for each in compilers if each.note):
         print(f"ffi3: {note}", file=sys.stderr)
     progress = Progress()
     try:
@@ -127,7 +170,7 @@ def _header(words) -> int:
         for line in listing.lines(entries):
             print(line)
     read = sum(entry.is_read for entry in entries)
-    print(f"ffi3: {read} functions of {len(entries)} are read", file=sys.stderr)
+    print(f"ffi3: {read} of {len(entries)} functions are read", file=sys.stderr)
     return 0 if read else 1
 
 
@@ -140,7 +183,8 @@ def _svg(words) -> int:
     else:
         _, [entry] = _surveyed(words, [words.declaration])
         if not entry.is_read:
-            raise Error(f"{entry.name}: {entry.first.reason}", 0, 0)
+            from .headers import Failed
+            raise Failed(f"{entry.name}: {entry.first.reason}")
         text = drawing.drawn(drawing.of_entry(entry))
     Path(words.file).write_text(text, "utf-8")
     return 0
@@ -152,9 +196,9 @@ def _page(words) -> int:
     beside = Path(__file__).resolve().parents[3] / "docs/RULES.md"
     link = words.rules or (beside.as_uri() if beside.exists() else "")
     name = words.output or f"{Path(words.headers[0]).stem}.html"
-    notes = dict.fromkeys(filter(None, (each.note for each in compilers)))
+    notes = dict.fromkeys(each.note for each in compilers if each.note)
     Path(name).write_text(page.html(" ".join(words.headers), entries, list(notes), link), "utf-8")
-    print(f"ffi3: {name} shows {sum(entry.is_read for entry in entries)} functions of {len(entries)}", file=sys.stderr)
+    print(f"ffi3: {name} shows {sum(entry.is_read for entry in entries)} of {len(entries)} functions", file=sys.stderr)
     return 0
 
 
@@ -169,6 +213,13 @@ def _bits(text: str) -> int:
     return value
 
 
+def _memory(text: str) -> bytes:
+    try:
+        return bytes.fromhex(text)
+    except ValueError:
+        raise argparse.ArgumentTypeError(f"{text!r} is not bytes of two hexadecimal digits each") from None
+
+
 def _register(text: str) -> tuple[str, int]:
     name, mark, value = text.partition("=")
     if not mark:
@@ -176,9 +227,12 @@ def _register(text: str) -> tuple[str, int]:
     return name, _bits(value)
 
 
+ONE_OF = f"{', '.join(TARGETS[:-1])} or {TARGETS[-1]}"
+
+
 def _with_compiler(parser: argparse.ArgumentParser) -> None:
-    parser.add_argument("--target", action="append", choices=TARGETS,
-                        help="a target; may be given again; else all, of headers all but apple")
+    parser.add_argument("--target", action="append", choices=TARGETS, metavar="TARGET",
+                        help=f"{ONE_OF}; may be given again; else all, of headers all but apple")
     parser.add_argument("-I", action="append", default=[], dest="folders", metavar="DIR", help="a folder of headers")
     parser.add_argument("-D", action="append", default=[], dest="defined", metavar="NAME[=VALUE]", help="a macro")
     parser.add_argument("--cc", help="the compiler with its words, and where --target is not given its target")
@@ -197,36 +251,33 @@ def _parser() -> argparse.ArgumentParser:
         made.set_defaults(does=does, parser=made)
         return made
 
-    made = command("place", _place, "where a function's arguments and result stand, a line a piece",
-                   '  python3 -m ffi3 place riscv "double f(struct { int i; float x; } a)"')
-    made.add_argument("target", choices=TARGETS)
-    made.add_argument("declaration", help="the function's declaration in C")
-    made = command("layout", _layout, "size, alignment and scalars of each argument and of the result",
-                   '  python3 -m ffi3 layout "double f(struct { int i; float x; } a)"')
-    made.add_argument("declaration", help="the function's declaration in C")
+    made = command("place", _place, "where a function's arguments and result stand, a line a piece", PLACE)
+    made.add_argument("target", choices=TARGETS, metavar="TARGET", help=ONE_OF)
+    made.add_argument("declaration", metavar="DECLARATION", help="the function's declaration in C")
+    made = command("layout", _layout, "size, alignment and scalars of each argument and of the result", LAYOUT)
+    made.add_argument("declaration", metavar="DECLARATION", help="the function's declaration in C")
     made = command("arguments", _arguments, "what a function was called with, from registers and stack at its entry",
                    ARGUMENTS)
-    made.add_argument("target", choices=TARGETS)
-    made.add_argument("declaration", help="the function's declaration in C")
+    made.add_argument("target", choices=TARGETS, metavar="TARGET", help=ONE_OF)
+    made.add_argument("declaration", metavar="DECLARATION", help="the function's declaration in C")
     made.add_argument("registers", nargs="*", type=_register, metavar="REGISTER=VALUE",
                       help="64 bits; what is not named holds 0")
     made.add_argument("--sp", type=_bits, default=0, help="the stack pointer")
-    made.add_argument("--stack", type=bytes.fromhex, default=b"", help="the bytes from there on, in hexadecimal")
+    made.add_argument("--stack", type=_memory, default=b"", help="the bytes from there on, in hexadecimal")
     made = command("header", _header, "every function of a C header with its places, and what is not read", PLACES)
     made.add_argument("headers", nargs="+", metavar="FILE.h")
     made.add_argument("--function", action="append", default=[], metavar="NAME",
                       help="only this one; may be given again")
     made.add_argument("--json", action="store_true", help="for programs: types as nodes, pieces with all that is known")
     _with_compiler(made)
-    made = command("svg", _svg, "a drawing of registers and stack, each argument in a colour of its own",
-                   '  python3 -m ffi3 svg call.svg "double f(struct { int i; float x; } a)"\n'
-                   "  python3 -m ffi3 svg crc32.svg crc32 --header zlib.h --target amd64 --target win64")
+    made = command("svg", _svg, "a drawing of registers and stack, each argument in a colour of its own", SVG)
     made.add_argument("file", metavar="FILE.svg")
-    made.add_argument("declaration", help="the function's declaration in C, or its name in a header")
+    made.add_argument("declaration", metavar="DECLARATION",
+                      help="the function's declaration in C, or its name in a header")
     made.add_argument("--header", action="append", default=[], dest="headers", metavar="FILE.h")
     _with_compiler(made)
     made = command("page", _page, "one page of HTML that draws every function of a header, and works from the disk",
-                   "  python3 -m ffi3 page zlib.h -o zlib.html")
+                   PAGE)
     made.add_argument("headers", nargs="+", metavar="FILE.h")
     made.add_argument("-o", dest="output", metavar="FILE.html", help="else the first header's name with .html")
     made.add_argument("--function", action="append", default=[], metavar="NAME",
@@ -242,6 +293,15 @@ def _failures() -> tuple[type[BaseException], ...]:
     if "ffi3.headers" in sys.modules:
         found.append(sys.modules["ffi3.headers"].Failed)
     return tuple(found)
+
+
+def _shown_fault(error: BaseException, declaration: str) -> list[str]:
+    """Where in a declaration a fault is: the line that has it, and a mark below."""
+    if not isinstance(error, Error) or not str(error).startswith(f"at {error.offset}: "):
+        return []
+    before = declaration.encode()[:error.offset].decode(errors="replace")
+    line = declaration.split("\n")[before.count("\n")]
+    return [f"  {line}", f"  {' ' * len(before.rpartition(chr(10))[2])}^"] if line.strip() else []
 
 
 def main(words: Sequence[str] | None = None) -> int:
@@ -263,7 +323,7 @@ def main(words: Sequence[str] | None = None) -> int:
         os.dup2(os.open(os.devnull, os.O_WRONLY), sys.stdout.fileno())
         return 1
     except _failures() as error:
-        print(f"ffi3: {error}", file=sys.stderr)
+        print(f"ffi3: {error}", *_shown_fault(error, getattr(given, "declaration", "")), sep="\n", file=sys.stderr)
         return 1
 
 

@@ -6,6 +6,7 @@
     drawing.drawn(drawing.of_entry(entry))
 """
 
+import textwrap
 from collections.abc import Iterable, Iterator, Mapping, Sequence
 from typing import TYPE_CHECKING, NamedTuple
 
@@ -16,11 +17,13 @@ if TYPE_CHECKING:
     from .headers import Entry
 
 # Colours that differ also for those who see few of them (Okabe and Ito), then the same paler.
-_COLOURS = ("#56B4E9", "#E69F00", "#009E73", "#F0E442", "#CC79A7", "#D55E00", "#0072B2", "#A3D5F2", "#F3CC80",
-            "#80CEB9", "#F8F2A1", "#E6BCD3", "#EAAF80", "#80B9D9")
-_RESULT_COLOUR = "#BBBBBB"
+COLOURS = ("#56B4E9", "#E69F00", "#009E73", "#F0E442", "#CC79A7", "#D55E00", "#0072B2", "#A3D5F2", "#F3CC80",
+           "#80CEB9", "#F8F2A1", "#E6BCD3", "#EAAF80", "#80B9D9")
+RESULT_COLOUR = "#BBBBBB"
 _BYTE, _ROW, _NAME, _GAP = 18, 24, 62, 34
 _WIDTH = _NAME + 8 * _BYTE
+_LEAST_WIDTH = 480
+_INK = "#111111"
 
 
 class Subject(NamedTuple):
@@ -52,12 +55,29 @@ def of_entry(entry: "Entry") -> Subject:
 
 def colour(part: Part) -> str:
     """Of an argument its own; results and their buffers are grey."""
-    return _RESULT_COLOUR if part in (RESULT, HIDDEN) else _COLOURS[part % len(_COLOURS)]
+    return COLOURS[part % len(COLOURS)] if isinstance(part, int) else RESULT_COLOUR
+
+
+def ink(part: Part) -> str:
+    """The colour of what is written there: white on what is dark, by the brightness of red, green and blue."""
+    red, green, blue = bytes.fromhex(colour(part)[1:])
+    return "#FFFFFF" if 299 * red + 587 * green + 114 * blue < 100_000 else _INK
 
 
 def label(names: tuple[str, ...], part: Part) -> str:
     """What a value is called in a drawing: an argument's name, result, or buffer."""
-    return {RESULT: "result", HIDDEN: "buffer"}.get(part) or names[part]
+    return names[part] if isinstance(part, int) else "buffer" if part == HIDDEN else "result"
+
+
+def counted(sizes: Iterable[int]) -> str:
+    """The sizes of a value in words, each once: a long has 4 bytes on one target and 8 on another."""
+    found = sorted(set(sizes))
+    return f"{' or '.join(map(str, found))} byte{'s' * (found != [1])}"
+
+
+def hidden_first(pieces: Sequence[Piece]) -> list[Piece]:
+    """Pieces as a caller passes them: the address of a buffer for the result before the arguments."""
+    return sorted(pieces, key=lambda piece: piece.part != HIDDEN)
 
 
 def escaped(text: str) -> str:
@@ -90,23 +110,23 @@ class _Drawing:
 
     def bytes(self, x: float, y: float, first: int, count: int, piece: Piece, value: int) -> None:
         """So many of the eight bytes of a row, the lowest at the left: a piece's, from a byte of the value on."""
-        words = self.words(piece, value, count)
+        words, style = self.words(piece, value, count), ink(piece.part)
         self.box(x + _NAME + first * _BYTE, y, count * _BYTE, _ROW - 4, colour(piece.part))
-        if count > 1 or len(words) < 3:
-            self.text(x + _NAME + (first + count / 2) * _BYTE, y + 15, words, 10, "middle")
+        self.text(x + _NAME + (first + count / 2) * _BYTE, y + 15, words, 10, "middle",
+                  f' fill="{style}"' * (style != _INK))
 
     def words(self, piece: Piece, first: int, count: int) -> str:
         """What stands in a box, as much of it as has room."""
         name = label(self.names, piece.part)
         if piece.is_address:
             return f"@ of {name}" if len(name) < 18 else f"@ of {name[:16]}.."
-        behind = f": {first}" if count == 1 else f": {first}-{first + count - 1}"
-        most = max(1, count * _BYTE // 6 - len(behind))
-        return (name if len(name) <= most else name[:max(1, most - 2)] + "..") + behind
+        behind = f": {first}-{first + count - 1}" if count > 1 else ""
+        most = max(1, (count * _BYTE - 3) // 6 - len(behind))
+        return (name if len(name) <= most else name[:most - 2] + ".." if most > 3 else name[:most]) + behind
 
 
 def _draw_registers(drawing: _Drawing, x: float, y: float, pieces: Sequence[Piece]) -> float:
-    names = list(dict.fromkeys(piece.place for piece in pieces if piece.place != "stack"))
+    names = list(dict.fromkeys(piece.place for piece in hidden_first(pieces) if piece.place != "stack"))
     for name in names:
         drawing.row(x, y, name)
         for piece in pieces:
@@ -171,24 +191,34 @@ def _draw_target(drawing: _Drawing, x: float, y: float, target: str, call: Call,
         _draw_registers(drawing, x, y + 24, returned)
 
 
-def drawn(subject: Subject) -> str:
-    """A drawing of registers and stack of each target, each argument in a colour of its own."""
-    drawing = _Drawing(subject.names)
-    drawing.text(16, 28, subject.title, 14, style=' font-family="monospace"')
-    sizes = next(iter(subject.sizes.values()), {})
+def _draw_legend(drawing: _Drawing, y: float, subject: Subject, width: float) -> float:
+    """Each argument's colour, name and size, in as many rows as they take; where the last of these begins."""
     x = 16
     for i, name in enumerate(subject.names):
-        words = f"{name if name != str(i) else f'argument {i}'}, {sizes[i]} bytes"
-        drawing.box(x, 44, 14, 14, colour(i))
-        drawing.text(x + 19, 55, words)
-        x += max(150, 30 + 6 * len(words))
+        words = f"{name if name != str(i) else f'argument {i}'}, {counted(each[i] for each in subject.sizes.values())}"
+        wide = max(150, 30 + 6 * len(words))
+        if x > 16 and x + wide > width:
+            x, y = 16, y + 20
+        drawing.box(x, y, 14, 14, colour(i))
+        drawing.text(x + 19, y + 11, words)
+        x += wide
+    return y
+
+
+def drawn(subject: Subject) -> str:
+    """A drawing of registers and stack of each target, each argument in a colour of its own."""
+    drawing, columns = _Drawing(subject.names), len(subject.calls)
+    width = max(32 + columns * _WIDTH + (columns - 1) * _GAP, _LEAST_WIDTH)
+    y = 28.0
+    for line in textwrap.wrap(subject.title, int((width - 32) / 8.5)) or [""]:
+        drawing.text(16, y, line, 14, style=' font-family="monospace"')
+        y += 20
+    y = _draw_legend(drawing, y - 4, subject, width)
     for column, (target, call) in enumerate(subject.calls.items()):
-        _draw_target(drawing, 16 + column * (_WIDTH + _GAP), 92, target, call, subject.sizes[target])
-    columns = len(subject.calls)
-    width = max(32 + columns * _WIDTH + (columns - 1) * _GAP, x, 32 + 8.5 * len(subject.title))
+        _draw_target(drawing, 16 + column * (_WIDTH + _GAP), y + 48, target, call, subject.sizes[target])
     return "\n".join([
         f'<svg xmlns="http://www.w3.org/2000/svg" width="{width:g}" height="{drawing.height + 16:g}" '
-        f'font-family="sans-serif" fill="#111111">',
+        f'font-family="sans-serif" fill="{_INK}">',
         f'<rect width="{width:g}" height="{drawing.height + 16:g}" fill="#FFFFFF"/>',
         *drawing.lines, "</svg>", ""])
 

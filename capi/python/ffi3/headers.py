@@ -35,9 +35,13 @@ COMPILERS = {"amd64": "gcc", "aapcs64": "aarch64-linux-gnu-gcc", "riscv": "riscv
 # gcc makes no code for Apple's systems; clang does, and has a few headers of its own, as stdint.h.
 APPLE = "clang --target=arm64-apple-macos -nostdlibinc"
 NO_SDK = 'clang has no headers of a Mac here: --cc "clang --target=arm64-apple-macos -isysroot SDK" reads with those'
-# What a compiler defines on each target.
-TARGET_OF = {("__x86_64__", "_WIN32"): "win64", ("__x86_64__",): "amd64", ("__aarch64__", "__APPLE__"): "apple",
-             ("__aarch64__",): "aapcs64", ("__riscv", "__LP64__"): "riscv"}
+# What a compiler defines on each target, and what it does not. With pointers of 32 bits, on RISC-V without registers
+# for a double, and for Windows on Arm the standards are others.
+TARGET_OF = (("win64", {"__x86_64__", "_WIN64"}, ""), ("win64", {"__x86_64__", "__CYGWIN__"}, ""),
+             ("amd64", {"__x86_64__", "__LP64__"}, "__CYGWIN__"),
+             ("apple", {"__AARCH64EL__", "__LP64__", "__APPLE__"}, ""),
+             ("aapcs64", {"__AARCH64EL__", "__LP64__"}, "__APPLE__"),
+             ("riscv", {"__riscv", "__LP64__", "__riscv_float_abi_double"}, ""))
 
 
 class Failed(Exception):
@@ -60,7 +64,7 @@ PRAGMA = re.compile(r"^[ \t]*#[ \t]*pragma[ \t]+(pack|options|ms_struct)|__pragm
 LAYS_OUT = {"__attribute__", "__attribute", "__declspec", "_Alignas", "alignas"}
 WITH_BRACKETS = {"__attribute__", "__attribute", "__asm__", "__asm", "asm", "__declspec"}
 LEFT_OUT = {"__extension__", "__restrict", "__restrict__", "__inline", "__inline__", "__forceinline", "__thread",
-            "_Noreturn", "__noreturn__", "__cdecl", "__stdcall", "__unaligned"}
+            "_Noreturn", "__noreturn__", "__cdecl", "__stdcall", "__unaligned", "__vectorcall", "__regcall"}
 # GNU C's words as words of C. Reals of 16 and of 128 bits are read as little as a long double.
 INSTEAD = {"__const": "const", "__const__": "const", "__volatile__": "volatile", "__volatile": "volatile",
            "__signed__": "signed", "__signed": "signed", "__complex__": "_Complex", "__alignof__": "_Alignof",
@@ -68,6 +72,11 @@ INSTEAD = {"__const": "const", "__const__": "const", "__volatile__": "volatile",
            "_Float16": "long double", "_Float128": "long double", "__float128": "long double",
            "__int8": "char", "__int16": "short", "__int32": "int", "__int64": "long long"}
 TRANSPARENT = {"transparent_union", "__transparent_union__"}
+# Attributes by which a function is called by another standard, with the target whose own that is, if any.
+CONVENTIONS = {"ms_abi": "win64", "sysv_abi": "amd64", **dict.fromkeys((
+    "vectorcall", "regcall", "aarch64_vector_pcs", "aarch64_sve_pcs", "riscv_vector_cc", "swiftcall", "swiftasynccall",
+    "preserve_none"), "")}
+CONVENTION_OF = {word: name for name in CONVENTIONS for word in (name, f"__{name}__", f"__{name}")}
 OPEN, CLOSE = "([{", ")]}"
 AT_ONCE = 200  # so many chunks are parsed together
 A_FEW = 20  # so many where one is new among others that have been parsed for another target
@@ -91,12 +100,17 @@ class Chunk:
         """Whether it may declare functions, and no type that others need."""
         return "(" in self.words and "{" not in self.words and self.words[0] != "typedef"
 
+    def convention(self, target: str) -> str:
+        """The attribute by which what it declares is called by a standard that is not the target's; else nothing."""
+        named = (CONVENTION_OF[word] for word in self.raw if word in CONVENTION_OF)
+        return next((name for name in named if CONVENTIONS[name] != target), "")
+
 
 def tokens(text: str) -> Iterator[tuple[str, str, list[str], int]]:
     """The tokens but blanks: kind, text, the files that are open, from the outermost, and the line."""
     files, line = [""], 1
     for match in TOKEN.finditer(text):
-        kind, word = match.lastgroup, match[0]
+        kind, word = match.lastgroup or "", match[0]
         if kind == "directive":
             if marker := MARKER.match(word):
                 flags, line = marker[3].split(), int(marker[1]) - 1
@@ -251,8 +265,8 @@ def key_of(words: Sequence[str], typedefs: Collection[str]) -> tuple[tuple[str, 
 def parsed(found: Sequence[Chunk], parser: Parser, tell: Tell = lambda _: None) -> Parsed:
     """What pycparser finds. Plain prototypes are put together from results and parameters, each parsed once, for in a
     large header most are alike; all else is parsed as it stands."""
-    plain = {i: plain_of(chunk.words) for i, chunk in enumerate(found) if chunk.is_function()}
-    plain = {i: prototype for i, prototype in plain.items() if prototype}
+    plain = {i: prototype for i, chunk in enumerate(found)
+             if chunk.is_function() and (prototype := plain_of(chunk.words))}
     rest = [i for i in range(len(found)) if i not in plain]
     made, defined = parser.in_order([found[i].words for i in rest], tell)
     nodes: dict[int, Found] = dict(zip(rest, made))
@@ -293,7 +307,8 @@ def plain_of(words: Sequence[str]) -> Plain | None:
         return None
     if result[-1] in TAGGED or not all(word == "*" or word.isidentifier() for word in (*result, name)):
         return None
-    parameters, depth = [[]], 0
+    parameters: list[list[str]] = [[]]
+    depth = 0
     for word in words[opened + 1:-2]:
         depth += (word in OPEN) - (word in CLOSE)
         if depth < 0:
@@ -302,7 +317,7 @@ def plain_of(words: Sequence[str]) -> Plain | None:
             parameters.append([])
         else:
             parameters[-1].append(word)
-    listed = tuple(map(tuple, parameters))
+    listed = tuple(tuple(words) for words in parameters)
     return Plain(tuple(result), name, listed) if all(listed) and DOTS not in (listed[0], *listed[:-1]) else None
 
 
@@ -319,8 +334,10 @@ def parsed_prototypes(parser: Parser, plain: Sequence[Plain], typedefs: Collecti
     found: list[Found] = []
     for each in plain:
         result, listed = by_result[each.result], [by_parameter[words] for words in each.parameters]
-        is_made = result and len(result) == 1 and None not in listed
-        found.append([put_together(result[0], each.name, listed)] if is_made else None)
+        if result and len(result) == 1 and None not in listed:
+            found.append([put_together(result[0], each.name, listed)])
+        else:
+            found.append(None)
     return found
 
 
@@ -402,7 +419,8 @@ class Integer(Kind):
         return [size(self.value), sign(self.value)]
 
     def nodes(self, answers: Answers) -> tuple[Node, ...]:
-        return (INTEGERS.get((answered(answers, size(self.value)), answers.get(sign(self.value))), "vector"),)
+        of_bytes, is_signed = answered(answers, size(self.value)), answers.get(sign(self.value), -1)
+        return (INTEGERS.get((of_bytes, is_signed), "vector"),)
 
 
 @dataclass(frozen=True)
@@ -481,7 +499,7 @@ class Struct(Kind):
     members: tuple[tuple[str, Kind], ...]  # pairs: the name, or nothing for a struct without one, and the type
 
     def names(self) -> list[str]:
-        return [each for name, kind in self.members for each in ([name] if name else kind.names())]
+        return [each for name, kind in self.members for each in names_of(name, kind)]
 
     def offset(self, name: str) -> str:
         return f"__builtin_offsetof(__typeof__({self.value}), {name})"
@@ -501,7 +519,7 @@ class Struct(Kind):
     def check(self, nodes: Sequence[Node], answers: Answers, offsets: Mapping[str, int], of_bytes: int,
               alignment: int) -> None:
         """That it is laid out as its types say, and so is each struct without a name in it."""
-        starts = [offsets[name or kind.names()[0]] for name, kind in self.members]
+        starts = [offsets[names_of(name, kind)[0]] for name, kind in self.members]
         try:
             library.check_layout(nodes, of_bytes, alignment, [at - starts[0] for at in starts])
         except library.Error as error:
@@ -510,10 +528,15 @@ class Struct(Kind):
             name = self.members[error.number][0] if error.number < len(self.members) else ""
             raise Refused(f"a packed or aligned struct{': ' * bool(name)}{name}") from None
         for name, kind in self.members:
-            if not name:
+            if isinstance(kind, Struct) and not name:
                 inner = kind.nodes(answers)
                 natural = library.layout_nodes(inner)
                 kind.check(inner, answers, offsets, natural.size, natural.align)
+
+
+def names_of(name: str, kind: Kind) -> list[str]:
+    """The names by which a member's offsets are asked for: of a struct without a name those of what is in it."""
+    return kind.names() if isinstance(kind, Struct) and not name else [name]
 
 
 # ---- from what pycparser found to types
@@ -521,10 +544,11 @@ class Struct(Kind):
 class Definitions(c_ast.NodeVisitor):
     """The typedefs by name, and the structs and unions by tag."""
 
-    def __init__(self, nodes: Iterable[c_ast.Node], transparent: set[str]):
+    def __init__(self, nodes: Iterable[c_ast.Node], transparent: set[str], conventions: Mapping[str, str]):
         self.typedefs: dict[str, c_ast.Node] = {}
         self.tags: dict[str, c_ast.Node] = {}
         self.transparent = transparent
+        self.conventions = conventions  # by the words of typedefs that have such an attribute
         self.known: dict[tuple[c_ast.Node, bool], Kind | str] = {}
         for node in nodes:
             self.visit(node)
@@ -621,12 +645,18 @@ class Definitions(c_ast.NodeVisitor):
 
     def behind(self, node: c_ast.Node) -> c_ast.Node:
         """What a typedef name stands for; the node itself where it is none."""
+        for name in self.names_behind(node):
+            node = self.typedefs[name]
+        return node
+
+    def names_behind(self, node: c_ast.Node) -> Iterator[str]:
+        """The typedef name that a node is, and those for which it stands."""
         while isinstance(node, c_ast.TypeDecl) and isinstance(node.type, c_ast.IdentifierType):
             name = node.type.names[0]
             if name not in self.typedefs or name == "__builtin_va_list":
                 break
+            yield name
             node = self.typedefs[name]
-        return node
 
     def is_void(self, node: c_ast.Node) -> bool:
         node = self.behind(node)
@@ -712,20 +742,22 @@ class Function:
 
     def layout(self, part: library.Part) -> library.Type:
         """The layout of an argument, or of the result."""
-        return library.layout_nodes(self.nodes[0 if part == library.RESULT else part + 1])
+        return library.layout_nodes(self.nodes[part + 1 if isinstance(part, int) else 0])
 
     def types(self) -> list[Kind]:
         return [kind for kind in (self.result, *self.arguments) if kind]
 
     def understand(self, definitions: Definitions, has_pragma: bool) -> None:
         """Finds the types, or the reason; has_pragma says that some pragma may have laid out structs."""
-        is_plain = not has_pragma and LAYS_OUT.isdisjoint(self.chunk.raw)
-        self.prototype = node = definitions.behind(self.node.type)
-        listed = node.args.params if node.args else []
+        is_plain, node = not has_pragma and LAYS_OUT.isdisjoint(self.chunk.raw), self.prototype
+        listed = node.args.params if node and node.args else []
         self.is_variadic = bool(listed) and isinstance(listed[-1], c_ast.EllipsisParam)
         listed = listed[:-1] if self.is_variadic else listed
+        by_name = (definitions.conventions.get(name) for name in definitions.names_behind(self.node and self.node.type))
         try:
-            if not listed:
+            if convention := self.chunk.convention(self.target) or next(filter(None, by_name), ""):
+                raise Refused(f"another calling convention: {convention}")
+            if not node or not listed:
                 raise Refused("no prototype")
             if len(listed) == 1 and definitions.is_void(listed[0].type):
                 listed = []
@@ -761,10 +793,10 @@ class Compiler:
 
 def run(*words, **more) -> subprocess.CompletedProcess:
     """What a program says; Failed where it does not start."""
-    # (a header may have bytes that are no UTF-8 in its comments and texts)
+    # (a header may have bytes that are no UTF-8 in its comments and texts, and a compiler's faults are read in English)
     try:
         return subprocess.run([str(word) for word in words], capture_output=True, encoding="utf-8",
-                              errors="surrogateescape", **more)
+                              errors="surrogateescape", env={**os.environ, "LC_ALL": "C"}, **more)
     except OSError as error:
         raise Failed(f"{words[0]}: {error.strerror}") from None
 
@@ -773,9 +805,10 @@ def target_of(words: Sequence[str]) -> str:
     """The target that a compiler makes code for, by what it defines."""
     made = run(*words, "-dM", "-E", "-x", "c", os.devnull)
     defined = set(re.findall(r"^#define (\w+)", made.stdout, re.M))
-    found = [target for names, target in TARGET_OF.items() if defined.issuperset(names)]
+    found = [target for target, names, other in TARGET_OF if names <= defined and other not in defined]
     if made.returncode or not found:
-        raise Failed(made.stderr.strip() or f"{words[0]} makes code for none of {', '.join(library.TARGETS)}")
+        raise Failed(made.stderr.strip() or f"{shlex.join(words)} makes code for none of {', '.join(library.TARGETS)}: "
+                     f"pointers have 64 bits there, and riscv has registers for a double")
     return found[0]
 
 
@@ -784,9 +817,15 @@ def compiler_for(target: str | None = None, cc: str | None = None, folders: Iter
     """The compiler of a target, or the one that is named, with folders of headers and macros.
 
     Without a target it is that of the compiler's code. Where a target's compiler is not found gcc is taken, and the
-    note says so; for apple none is. Raises Failed where the compiler does not start, or makes code for no target."""
+    note says so, as where the one that is named makes code for another target; for apple none is. Raises Failed where
+    the compiler does not start, or makes code for no target."""
     words, note = shlex.split(cc or {**COMPILERS, "apple": APPLE}[target or "amd64"]), ""
-    if not cc and target != "apple" and not shutil.which(words[0]):
+    if cc:
+        own = target_of(words)
+        target = target or own
+        if own != target:
+            note = f"{cc} makes code for {own}: on {target} char, long, wchar_t and va_list are as it has them"
+    elif target != "apple" and not shutil.which(words[0]):
         note = f"{words[0]} is not found: on {target} char, long, wchar_t and va_list are as gcc has them here"
         words = ["gcc"]
     target = target or target_of(words)
@@ -873,22 +912,20 @@ def of_headers(text: str, headers: Iterable[str]) -> Wanted:
     return is_wanted
 
 
-def names_function(chunk: Chunk, name: str) -> bool:
-    """Whether a chunk declares the function of this name."""
-    return any(word == name and behind in ("(", ")") for word, behind in zip(chunk.words, chunk.words[1:]))
-
-
 def functions_of(compiler: Compiler, text: str, is_wanted: Wanted, parser: Parser, tell: Tell) -> list[Function]:
     """The functions that a preprocessed text declares in the chunks that are wanted."""
     found = [chunk for chunk in chunks(text) if not chunk.is_function() or is_wanted(chunk)]
     made = parsed(found, parser, tell)
     transparent = {chunk.words[-2] for chunk in found if TRANSPARENT & set(chunk.raw)}
-    definitions = Definitions(made.defining, transparent)
+    conventions = {word: each for chunk in found if chunk.words[0] == "typedef"
+                   and (each := chunk.convention(compiler.target)) for word in chunk.words}
+    definitions = Definitions(made.defining, transparent, conventions)
     functions: dict[str, Function] = {}
     for chunk, node in made.declared:
-        is_function = type(node) is c_ast.Decl and isinstance(definitions.behind(node.type), c_ast.FuncDecl)
-        if is_function and is_wanted(chunk):
-            functions.setdefault(node.name, Function(node.name, compiler.target, chunk, node))
+        if type(node) is c_ast.Decl and is_wanted(chunk):
+            prototype = definitions.behind(node.type)
+            if isinstance(prototype, c_ast.FuncDecl):
+                functions.setdefault(node.name, Function(node.name, compiler.target, chunk, node, prototype))
     has_pragma = PRAGMA.search(text) is not None
     for function in functions.values():
         function.understand(definitions, has_pragma)
@@ -922,12 +959,12 @@ def read(headers: str | Sequence[str], target: str | None = None, *, compiler: C
     What headers include is left out, unless is_wanted takes it. A parser that has read them for another target is
     faster. tell is told of what is done. Raises Failed where the compiler reads nothing."""
     listed = [headers] if isinstance(headers, str) else list(headers)
-    compiler, names, parser = compiler or compiler_for(target), set(names), parser or Parser()
+    compiler, asked_for, parser = compiler or compiler_for(target), set(names), parser or Parser()
     tell("the compiler preprocesses")
     text = preprocessed(compiler, listed)
-    if names:
-        found = functions_of(compiler, text, lambda chunk: not names.isdisjoint(chunk.words), parser, tell)
-        return [each for each in found if each.name in names]
+    if asked_for:
+        found = functions_of(compiler, text, lambda chunk: not asked_for.isdisjoint(chunk.words), parser, tell)
+        return [each for each in found if each.name in asked_for]
     return functions_of(compiler, text, is_wanted or of_headers(text, listed), parser, tell)
 
 

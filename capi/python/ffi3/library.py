@@ -349,7 +349,7 @@ def _word(value: int, what: str) -> int:
     return index(value)
 
 
-def _refuse(status: int, fault: _Fault, value: int | None = None) -> NoReturn:
+def _refuse(status: int, fault: _Fault, value: Part | None = None) -> NoReturn:
     """Raises what a status other than 0 says."""
     if status == _OUT_OF_MEMORY:
         raise MemoryError
@@ -422,7 +422,7 @@ def _pairs_of(nodes: Iterable[Node]) -> _Pairs:
 
 def _array_of(pairs: _Pairs):
     """An array of nodes, and how many they are."""
-    return (_Node * len(pairs))(*pairs), len(pairs)
+    return (_Node * len(pairs))(*pairs), len(pairs)  # type: ignore[misc]  # (ctypes makes a struct of a tuple)
 
 
 def _nodes_of(nodes: Iterable[Node]):
@@ -499,7 +499,7 @@ def layout(declaration: str | bytes, value: Part = RESULT) -> Layout:
     Raises Error where the text declares none, and IndexError where it has no such argument.
     """
     text, told = _bytes_of(declaration), _Layout()
-    number = _RESULT if value == RESULT else _number(value, _HIDDEN)
+    number = _number(value, _HIDDEN) if not isinstance(value, str) else _RESULT if value == RESULT else _HIDDEN
 
     def ask(array, capacity):
         status = _library.ffi3_layout(text, len(text), number, ctypes.byref(told), array, capacity)
@@ -663,7 +663,7 @@ class Interface:
     sizes has its sizes. Values are bytes, one argument after another, each from a multiple of 8 on. registers has 64
     bits for each name, and 0 for those that are not named; stack has the bytes of memory from sp on, or as many zeros
     as the call takes. Raises as place_nodes does; ValueError where values, result or stack have not the bytes that
-    they take, and LookupError where an address points past the stack. One thread at a time has it: see share.
+    they take, and NotInStack where an address points past the stack. One thread at a time has it: see share.
     """
 
     def __init__(self, target: str, nodes: Iterable[Node], fixed: int | None = None):
@@ -689,8 +689,8 @@ class Interface:
     def _check(self, status: int, reason: _Reason | None = None) -> None:
         if status == _OUT_OF_MEMORY:
             raise MemoryError
-        if status == _NOT_IN_STACK:
-            raise LookupError(f"{_part(reason.argument)}: {reason.address:#x} is not among the bytes of the stack")
+        if status == _NOT_IN_STACK and reason:
+            raise NotInStack(_part(reason.argument), reason.address)
         if status != _OK:
             why = {_WRONG_SIZE: "these are not so many bytes as wanted", _SHORT_STACK: "the stack has too few bytes",
                    _HIGH_STACK: "the stack reaches the last address"}

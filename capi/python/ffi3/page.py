@@ -12,9 +12,9 @@ from collections.abc import Iterable, Mapping, Sequence
 from pathlib import Path
 
 from . import rules
-from .drawing import label, stack_rows
+from .drawing import COLOURS, RESULT_COLOUR, counted, hidden_first, ink, label, stack_rows
 from .headers import Entry, Function
-from .library import HIDDEN, RESULT, TARGETS, Call, Part, Piece
+from .library import HIDDEN, RESULT, TARGETS, Part, Piece
 
 TEMPLATE = Path(__file__).with_name("page.html")
 MOST_ROWS = 40  # of a stack; what stands above is told in one line
@@ -28,7 +28,7 @@ def _box(piece: Piece, first: int, count: int, at: int, rule: str) -> list:
 
 def _registers(pieces: Sequence[Piece], rule: Mapping[Part, str]) -> list:
     rows: dict[str, list] = {}
-    for piece in pieces:
+    for piece in hidden_first(pieces):
         if piece.place != "stack":
             rows.setdefault(piece.place, []).append(_box(piece, piece.offset, piece.length, 0, rule[piece.part]))
     return list(rows.items())
@@ -66,18 +66,26 @@ def _placed(function: Function) -> dict:
 
 def _told(entry: Entry, known: dict[tuple, dict]) -> dict:
     function = entry.first
+    count = range(len(function.arguments))
+    targets = {target: _on_target(each, known) for target, each in entry.by_target.items()}
+    read = [told for told in targets.values() if "sizes" in told]
+    sizes: dict[Part, str] = {i: counted(told["sizes"][i] for told in read) for i in count} if read else {}
+    if any(told["result"] for told in read):
+        sizes[RESULT] = counted(told["result"] for told in read)
     return {"name": entry.name, "declaration": function.declaration, "variadic": function.is_variadic,
             "at": f"{function.chunk.owner}:{function.chunk.first}",
-            "names": [label(function.names, i) or f"argument {i}" for i in range(len(function.arguments))],
-            "targets": {target: _on_target(each, known) for target, each in entry.by_target.items()}}
+            "names": [label(function.names, i) or f"argument {i}" for i in count],
+            "sizes": sizes, "targets": targets}
 
 
 def data(title: str, entries: Iterable[Entry], notes: Sequence[str] = (), link: str = "") -> dict:
-    """All that the page shows: title, functions, rules by target, notes on compilers; a link to RULES.md, or none."""
+    """All that the page shows: title, functions, colours, rules by target, notes on compilers; a link to RULES.md, or
+    none."""
     known: dict[tuple, dict] = {}
     told = [_told(entry, known) for entry in sorted(entries, key=lambda entry: entry.name.lower())]
     shown = [target for target in TARGETS if any(target in each["targets"] for each in told)]
-    return {"title": title, "functions": told, "notes": list(notes), "link": link,
+    return {"title": title, "functions": told, "notes": list(notes), "link": link, "colours": COLOURS,
+            "inks": [ink(i) for i in range(len(COLOURS))], "result": RESULT_COLOUR,
             "targets": {target: {"section": rules.SECTIONS[target][0], "name": rules.SECTIONS[target][1],
                                  "rules": rules.RULES[target]} for target in shown}}
 

@@ -1,7 +1,7 @@
 //! Apple's calling standard of AArch64: AAPCS64 but for the stack, variadic arguments and types of alignment 16.
 #![tactic(auto)]
 
-ghost use Rattle.std.specs.Prelude.{◌≡◌, ◌<◌, ◌≤◌, ◌+◌, ◌-◌, ◌*◌, length, map, min, Bool, IfOk};
+ghost use Rattle.std.specs.Prelude.{◌≡◌, ◌<◌, ◌≤◌, ◌+◌, ◌-◌, ◌*◌, ◌&&◌, ◌||◌, length, map, min, not, Bool, IfOk};
 ghost use Rattle.ffi3_type_rules.specs.declared.limits.TheConstants.{ARGUMENT_BYTES, ARGUMENT_SPAN, LARGEST_GAP, LARGEST_TYPE, MOST_ARGUMENTS};
 ghost use Rattle.ffi3_place_rules.specs.declared.Loc.TheVariants.{S};
 ghost use Rattle.ffi3_place_rules.specs.Standard.{plan_of};
@@ -33,11 +33,18 @@ fn is_composite(ty: &CheckedType<'_>) -> bool
     matches!(ty.as_type(), FfiType::Struct(_) | FfiType::Array(_, _))
 }
 
+/// Whether an argument of such a kind takes no more of the stack than its own bytes.
+fn is_packed_of(named: bool, in_vectors: bool, composite: bool) -> bool
+    ensures { result ≡ (named && (in_vectors || not composite)) }
+{
+    named && (in_vectors || !composite)
+}
+
 /// Whether an argument takes no more of the stack than its own bytes.
 fn is_packed(named: bool, classed: &Classed<'_>) -> bool
     ensures { result ≡ is_packed named classed.now }
 {
-    named && (classed.in_vectors() || !is_composite(classed.ty()))
+    is_packed_of(named, classed.in_vectors(), is_composite(classed.ty()))
 }
 
 /// Where an argument begins on the stack, where what stands before it ends.

@@ -27,7 +27,7 @@ use Rattle.ffi3_stubs.specs.Calls.{CameFromWords, HasEntered, WentToWords, steps
 use Rattle.ffi3_pieces.specs.Passing.{by_exchange, passing, passing_if}
 use Rattle.ffi3_pieces.specs.Stored.{IsPlace, SameAt, WroteOnly, stack_byte, word_in}
 use Rattle.ffi3_pieces.proofs.Held.{held_small, left_by, stored_as_passed, word_held}
-use Rattle.ffi3_pieces.proofs.Lawful.{machine_places}
+use Rattle.ffi3_marshal.proofs.Lawful.{machine_places}
 use Rattle.ffi3_pieces.proofs.Passing.{steps_more, steps_same, told_there, word_read, word_stored}
 use Rattle.ffi3_pieces.proofs.Tables.{each_with, one_of_each, reserved_not_entered}
 use Rattle.ffi3_callee.specs.Entered.{IsEntered}

@@ -25,9 +25,9 @@ use Rattle.ffi3_type_rules.specs.declared.limits.TheConstants.{STACK, STACK_BYTE
 use Rattle.ffi3_machine.specs.State.{State, stack_at, stored}
 use Rattle.ffi3_pieces.specs.Stored.{IsWritable, SameAt, WroteOnly, WroteWithin}
 use Rattle.ffi3_pieces.specs.Standing.{IsReady, AreReady}
-use Rattle.ffi3_pieces.proofs.Arguments.{place_read}
+use Rattle.ffi3_marshal.proofs.Arguments.{place_read}
 use Rattle.ffi3_pieces.proofs.Composing.{only_nothing, only_then, only_wider}
-use Rattle.ffi3_pieces.proofs.Lawful.{all_ready}
+use Rattle.ffi3_marshal.proofs.Lawful.{all_ready}
 use Rattle.ffi3_pieces.proofs.Stepping.{same_word_in}
 use Rattle.ffi3_pieces.proofs.Putting.{stored_inside, stored_within}
 use Rattle.ffi3_body.specs.SeenActivation.{block_offset, arguments_in}

@@ -31,7 +31,7 @@ use Rattle.ffi3_pieces.proofs.Alike as alikes
 use Rattle.ffi3_pieces.proofs.Alike.{AreAlike, arguments_owned}
 use Rattle.ffi3_pieces.proofs.Composing.{wrote_wider}
 use Rattle.ffi3_pieces.proofs.Tables.{one_of_each}
-use Rattle.ffi3_pieces.proofs.Lawful.{all_ready, call_places, each_first, each_rest}
+use Rattle.ffi3_marshal.proofs.Lawful.{all_ready, call_places, each_first, each_rest}
 use Rattle.ffi3_pieces.proofs.Owning.{image_word}
 use Rattle.ffi3_pieces.proofs.Stepping.{same_word_in}
 use Rattle.ffi3_body.specs.SeenActivation.{arguments_in}

@@ -24,7 +24,7 @@ use Rattle.ffi3_place_rules.proofs.Tests.{each_weaker}
 use Rattle.ffi3_machine.specs.State.{State, image_of, returned, scribble_general, scribbled, scribbled_general, scribbled_register}
 use Rattle.ffi3_machine.specs.Scribbled.{get_or-scribbled_general, length-scribbled_general}
 use Rattle.ffi3_pieces.specs.Stored.{IsPlace, word_in}
-use Rattle.ffi3_pieces.proofs.Lawful.{across_none, each_first, each_join, each_rest, machine_places}
+use Rattle.ffi3_marshal.proofs.Lawful.{across_none, each_first, each_join, each_rest, machine_places}
 use Rattle.ffi3_callee.specs.Given.{RegistersStay, ReservedStay, result_uses}
 use Rattle.ffi3_callee.specs.Saved.{HaveRegisters}
 use Rattle.ffi3_callee.proofs.Laws.{each_among, each_both, none_saved}

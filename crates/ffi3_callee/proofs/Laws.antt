@@ -16,7 +16,7 @@ use Rattle.ffi3_place_rules.specs.Agrees.{AgreesWithMachine, given_back, saved_r
 use Rattle.ffi3_place_rules.specs.Sound.{Apart, IsNoneOf, IsOneOf, IsSound, LiesIn, closed_to_results, result_locs}
 use Rattle.ffi3_place_rules.proofs.Tests.{each_weaker}
 use Rattle.ffi3_pieces.specs.Stored.{IsPlace, IsWritable}
-use Rattle.ffi3_pieces.proofs.Lawful.{each_first, each_join, each_rest, machine_place}
+use Rattle.ffi3_marshal.proofs.Lawful.{each_first, each_join, each_rest, machine_place}
 use Rattle.ffi3_callee.specs.Given.{IsSettable}
 use Rattle.ffi3_callee.specs.Saved.{IsRestorable, IsSaveable}
 

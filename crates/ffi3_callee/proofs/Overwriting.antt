@@ -17,7 +17,8 @@ use Rattle.ffi3_place_rules.specs.Sound.{IsNoneOf}
 use Rattle.ffi3_place_rules.proofs.Tests.{and_left, and_right, each_of_eight, not_true}
 use Rattle.ffi3_machine.specs.State.{State, filled, stored}
 use Rattle.ffi3_pieces.specs.Stored.{IsPlace, IsWordPut, WroteOnly, byte_of, stack_byte, word_in}
-use Rattle.ffi3_pieces.proofs.Composing.{register_is_whole, only_nothing, only_then, only_wider, same_byte, wrote_nothing, wrote_then, wrote_wider}
+use Rattle.ffi3_marshal.proofs.Composing.{register_is_whole}
+use Rattle.ffi3_pieces.proofs.Composing.{only_nothing, only_then, only_wider, same_byte, wrote_nothing, wrote_then, wrote_wider}
 use Rattle.ffi3_pieces.proofs.Putting.{only_stored, stored_inside, stored_outside}
 use Rattle.ffi3_pieces.proofs.Stepping.{same_word_in}
 use Rattle.ffi3_callee.specs.Poison.{belongs, carries, is_argument_register, is_free, is_register}

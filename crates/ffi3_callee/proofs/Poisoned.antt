@@ -26,8 +26,8 @@ use Rattle.ffi3_place_rules.proofs.Tests.{and_left, and_right}
 use Rattle.ffi3_machine.specs.State.{HasReturnAddress, HasReturnAt, State, image_of, stack_at}
 use Rattle.ffi3_pieces.specs.Stored.{IsPlace, IsWritable, WroteWithin, byte_of, stack_byte, word_in}
 use Rattle.ffi3_pieces.proofs.Composing.{wrote_then, wrote_wider}
-use Rattle.ffi3_pieces.proofs.Stepping.{each_read}
-use Rattle.ffi3_pieces.proofs.Lawful.{across_none, all_ready, each_first, each_join, each_rest, machine_places}
+use Rattle.ffi3_marshal.proofs.Stepping.{each_read}
+use Rattle.ffi3_marshal.proofs.Lawful.{across_none, all_ready, each_first, each_join, each_rest, machine_places}
 use Rattle.ffi3_callee.specs.Poison.{IsPoisoned, MarkFalls, carries, hidden_has, is_argument_register, is_free, is_register, places_have}
 use Rattle.ffi3_callee.specs.Overwritten.{AreRegistersDone, IsFrameDone}
 use Rattle.ffi3_callee.specs.Received.{OwnsAtEntry}

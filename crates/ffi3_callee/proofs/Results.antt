@@ -25,9 +25,9 @@ use Rattle.ffi3_type_rules.specs.declared.limits.TheConstants.{STACK, STACK_BYTE
 use Rattle.ffi3_machine.specs.State.{State, stack_at, with_sp}
 use Rattle.ffi3_pieces.specs.Stored.{IsByteOf, IsPlace, byte_of, word_in, KeepsPadding, KeepsUnused, Stays, WroteWithin}
 use Rattle.ffi3_pieces.specs.Standing.{PiecesStand, IsReady}
-use Rattle.ffi3_pieces.proofs.Arguments.{lies_more}
+use Rattle.ffi3_marshal.proofs.Arguments.{lies_more}
 use Rattle.ffi3_pieces.proofs.Composing.{wrote_then}
-use Rattle.ffi3_pieces.proofs.Lawful.{machine_places}
+use Rattle.ffi3_marshal.proofs.Lawful.{machine_places}
 use Rattle.ffi3_pieces.proofs.Owning.{owned, filled}
 use Rattle.ffi3_pieces.proofs.Stepping.{same_word_in}
 use Rattle.ffi3_callee.specs.Loaded.{image_from}

@@ -29,7 +29,7 @@ use Rattle.ffi3_stubs.specs.Calls.{HasLeft, left_to, steps_of, CameFromWords}
 use Rattle.ffi3_pieces.specs.Passing.{by_exchange, passing, passing_if}
 use Rattle.ffi3_pieces.specs.Stored.{IsPlace, SameAt, WroteWithin, with_journal_of, word_in}
 use Rattle.ffi3_pieces.proofs.Held.{left_by, loaded_as_passed}
-use Rattle.ffi3_pieces.proofs.Lawful.{each_first, each_rest, machine_places}
+use Rattle.ffi3_marshal.proofs.Lawful.{each_first, each_rest, machine_places}
 use Rattle.ffi3_pieces.proofs.Outcomes as outcome
 use Rattle.ffi3_pieces.proofs.Passing.{place_low, steps_more, steps_same, stubs_there, told_below, told_there}
 use Rattle.ffi3_pieces.proofs.Tables.{each_with, reserved_not_left}

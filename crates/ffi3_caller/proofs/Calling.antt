@@ -26,11 +26,12 @@ use Rattle.ffi3_machine.specs.State.{State, image_of, filled, stored, lowered, s
 use Rattle.ffi3_machine.specs.Scribbled.{get_or-scribbled_general}
 use Rattle.ffi3_pieces.specs.Stored.{stack_byte, IsPlace, IsWritable, SameAt, Stays, WroteWithin}
 use Rattle.ffi3_pieces.specs.Standing.{AllKeepUnused, AllStand, all_uses, HiddenStands}
-use Rattle.ffi3_pieces.proofs.Composing.{same_then, none_append, wrote_then}
+use Rattle.ffi3_marshal.proofs.Composing.{none_append}
+use Rattle.ffi3_pieces.proofs.Composing.{same_then, wrote_then}
 use Rattle.ffi3_pieces.proofs.Putting.{stored_inside, stored_within}
 use Rattle.ffi3_pieces.proofs.Stepping.{same_word_in}
 use Rattle.ffi3_pieces.proofs.Owning.{image_word, owned, filled as all_filled}
-use Rattle.ffi3_pieces.proofs.Lawful.{each_first, each_rest, each_join, each_map, apart_first, apart_across, across_none, across_first, uses_each, machine_places, call_places, all_ready}
+use Rattle.ffi3_marshal.proofs.Lawful.{each_first, each_rest, each_join, each_map, apart_first, apart_across, across_none, across_first, uses_each, machine_places, call_places, all_ready}
 use Rattle.ffi3_pieces.proofs.Arguments.{all_keep_stay, all_stay}
 use Rattle.ffi3_caller.specs.Called.{CountStands}
 

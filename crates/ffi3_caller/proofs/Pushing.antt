@@ -26,10 +26,10 @@ use Rattle.ffi3_machine.specs.State.{State, image_of, linked_stack, stack_at}
 use Rattle.ffi3_pieces.specs.Passing.{by_exchange, passing}
 use Rattle.ffi3_pieces.specs.Stored.{IsPlace, SameAt}
 use Rattle.ffi3_pieces.proofs.Alike.{AreAlike, arguments_owned, arguments_filled, address_owned, count_held}
-use Rattle.ffi3_pieces.proofs.Lawful.{call_places, each_first, each_rest, each_map, machine_places}
+use Rattle.ffi3_marshal.proofs.Lawful.{call_places, each_first, each_rest, each_map, machine_places}
 use Rattle.ffi3_pieces.proofs.Outcomes.{own_result_kept}
 use Rattle.ffi3_pieces.proofs.Passing.{stubs_there}
-use Rattle.ffi3_pieces.proofs.Ranges.{range_length}
+use Rattle.ffi3_marshal.proofs.Ranges.{range_length}
 use Rattle.ffi3_pieces.proofs.Tables.{each_with, one_of_each, preserved_not_called, preserved_not_returned, reserved_are_places, reserved_not_called, reserved_not_link, reserved_not_returned}
 use Rattle.ffi3_caller.specs.Called.{HasComeBack, IsCarried, IsLeft, IsPassedBack, IsUntouched, SlotIsCalled, at_frame}
 

@@ -20,7 +20,7 @@ use Rattle.ffi3_place_rules.specs.Sound.{LiesIn, IsSound, HaveAll, IsPieceOf, Re
 use Rattle.ffi3_place_rules.proofs.Tests.{each_weaker}
 use Rattle.ffi3_machine.specs.State.{State, image_of, stack_at}
 use Rattle.ffi3_pieces.specs.Stored.{IsPlace}
-use Rattle.ffi3_pieces.proofs.Lawful.{machine_place}
+use Rattle.ffi3_marshal.proofs.Lawful.{machine_place}
 use Rattle.ffi3_caller.specs.Loaded.{AreWithin, loaded}
 use Rattle.ffi3_place_rules.proofs.Reading.{reads}
 use Rattle.ffi3_caller.proofs.Loading.{leaves_loaded}

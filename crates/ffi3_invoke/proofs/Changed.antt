@@ -13,7 +13,7 @@ use Rattle.ffi3_place_rules.specs.Holds.{Holds}
 use Rattle.ffi3_place_rules.specs.Sound.{Apart, IsNoneOf, IsSound, argument_locs, closed_to_arguments, closed_to_results, hidden_locs, place_locs}
 use Rattle.ffi3_place_rules.specs.Isa.{to_list}
 use Rattle.ffi3_pieces.proofs.Alike.{AreAlike, arguments_owned, arguments_filled, address_owned, count_held}
-use Rattle.ffi3_pieces.proofs.Lawful.{each_first, each_rest, each_map, machine_places}
+use Rattle.ffi3_marshal.proofs.Lawful.{each_first, each_rest, each_map, machine_places}
 
 -- `new` has other numbers in these general registers alone
 pub record IsChanged (changed : List Loc) (old new : Image) : Type 0 where

@@ -23,7 +23,7 @@ use Rattle.ffi3_closures.specs.Reaching.{reached}
 use Rattle.ffi3_pieces.specs.Passing.{by_exchange, passing, steps_if}
 use Rattle.ffi3_pieces.specs.Stored.{IsPlace, SameAt, WroteWithin, with_journal_of, word_in}
 use Rattle.ffi3_caller.specs.Called.{SlotIsCalled, called_if}
-use Rattle.ffi3_pieces.proofs.Lawful.{each_first, each_rest, machine_places}
+use Rattle.ffi3_marshal.proofs.Lawful.{each_first, each_rest, machine_places}
 use Rattle.ffi3_pieces.proofs.Stepping.{same_word_in}
 use Rattle.ffi3_callee.specs.Given.{ReservedStay}
 use Rattle.ffi3_callee.proofs.Laws.{each_both}

@@ -20,7 +20,7 @@ use Rattle.ffi3_closures.specs.Reaching.{jumped_through, reached}
 use Rattle.ffi3_pieces.specs.Stored.{IsPlace, word_in, WroteWithin, with_journal_of}
 use Rattle.ffi3_caller.specs.Called.{SlotIsCalled}
 use Rattle.ffi3_pieces.proofs.Putting.{mark_within}
-use Rattle.ffi3_pieces.proofs.Ranges.{above_range, below_range, range_length}
+use Rattle.ffi3_marshal.proofs.Ranges.{above_range, below_range, range_length}
 
 -- ---- a trampoline
 

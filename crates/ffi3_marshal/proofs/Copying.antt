@@ -17,8 +17,8 @@ use Rattle.ffi3_place_rules.specs.Sound.{Apart, IsNoneOf, PlaceHasAll, stack_wor
 use Rattle.ffi3_marshal.specs.Stored.{SameAt, Stays, IsWordPut, stored}
 use Rattle.ffi3_marshal.specs.Standing.{CopyStands, IsCopied, PlaceKeeps, PlaceStands, place_uses}
 use Rattle.ffi3_marshal.proofs.Puts.{stored_inside, stored_outside, stored_size}
-use Rattle.ffi3_marshal.proofs.Composing.{apart_sym, same_word_at, stays_then}
-use Rattle.ffi3_marshal.proofs.Stepping.{all_keep, all_since, all_stand_stays}
+use Rattle.ffi3_marshal.proofs.Composing.{same_word_at, stays_then}
+use Rattle.ffi3_marshal.proofs.Stepping.{all_keep, all_since, all_stand_stays, none_of_one}
 
 -- ---- stack words
 
@@ -43,10 +43,6 @@ words_same base at (suc n) ls a b none s i h =
           let there : base + (at + 8) + (i - 8) ≡ base + at + i = omega (arith, later) in
           subst (λ k. get_or b.stack k 0 ≡ get_or a.stack k 0) there (words_same base (at + 8) n ls a b none.1 s (i - 8) (omega (arith, h, later)))
     ]
-
-pub each_word_apart : (l : Loc) (ls : List Loc) → AllByRecursion (Apart l) ls → AllByRecursion (IsNoneOf (l ∷ [])) ls
-each_word_apart l [] h = tt
-each_word_apart l (k ∷ ls) h = ((apart_sym l k h.0, tt), each_word_apart l ls h.1)
 
 -- ---- a copy that stays
 
@@ -125,7 +121,7 @@ copied base t l copy bytes old new sized fits apart put =
     let few : length bytes ≤ 8 * ((size_of t + 7) / 8) = omega (arith, sized) in
     let first = words_stay base copy ((size_of t + 7) / 8) bytes old few fits_bytes in
     let there = subst (λ n. part (stored (base + copy) bytes old).stack (base + copy) n ≡ bytes) sized (copy_has base copy ((size_of t + 7) / 8) bytes old few fits_bytes) in
-    let clear = each_word_apart l (stack_words_for copy t) apart in
+    let clear = none_of_one l (stack_words_for copy t) apart in
     let same = same_copy base copy (size_of t) (l ∷ []) (stored (base + copy) bytes old) new clear put.stays (omega (arith, fits, first.size)) in
     let same_sp : old.sp + base + copy ≡ new.sp + base + copy = omega (arith, put.stays.sp) in
     record {

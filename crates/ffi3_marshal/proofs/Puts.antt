@@ -31,11 +31,15 @@ pub same_word : (m n : ℕ) → m < 2 ^ 64 → n < 2 ^ 64 → ((k : ℕ) → k <
 same_word m n h i same =
     sym (from_le_bytes-to_le_bytes_8 m h) ∙ ap (from_le_bytes w64) (ext_get_or 0 (to_le_bytes w64 m) (to_le_bytes w64 n) refl same) ∙ from_le_bytes-to_le_bytes_8 n i
 
--- the eight bytes of a place on the stack make the number
-pub word_there : (base n v : ℕ) (m : Image) → v < 2 ^ 64 → ((k : ℕ) → k < 8 → byte_at m base (S n 8) k ≡ get_or (to_le_bytes w64 v) k 0) → word_at m base (S n 8) ≡ v
-word_there base n v m h here =
-    let bytes : map (byte_at m base (S n 8)) (range_with_len 0 8) ≡ to_le_bytes w64 v = ext_get_or 0 (map (byte_at m base (S n 8)) (range_with_len 0 8)) (to_le_bytes w64 v) refl (λ k below. get_or-map-range_with_len (byte_at m base (S n 8)) 0 8 k k 0 below (omega arith) ∙ here k below) in
+-- eight bytes that are those of a number make it
+pub eight_bytes : (byte : ℕ → ℕ) (v : ℕ) → v < 2 ^ 64 → ((k : ℕ) → k < 8 → byte k ≡ get_or (to_le_bytes w64 v) k 0) → from_le_bytes w64 (map byte (range_with_len 0 8)) ≡ v
+eight_bytes byte v h here =
+    let bytes : map byte (range_with_len 0 8) ≡ to_le_bytes w64 v = ext_get_or 0 (map byte (range_with_len 0 8)) (to_le_bytes w64 v) refl (λ k below. get_or-map-range_with_len byte 0 8 k k 0 below (omega arith) ∙ here k below) in
     ap (from_le_bytes w64) bytes ∙ from_le_bytes-to_le_bytes_8 v h
+
+-- such is a place on the stack
+pub word_there : (base n v : ℕ) (m : Image) → v < 2 ^ 64 → ((k : ℕ) → k < 8 → byte_at m base (S n 8) k ≡ get_or (to_le_bytes w64 v) k 0) → word_at m base (S n 8) ≡ v
+word_there base n v m h here = eight_bytes (byte_at m base (S n 8)) v h here
 
 -- ---- registers
 

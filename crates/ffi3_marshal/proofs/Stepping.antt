@@ -28,10 +28,14 @@ pub each_loc : (P : Loc → Type 0) (ps : List Piece) → AllByRecursion P (piec
 each_loc P [] h = tt
 each_loc P (p ∷ ps) h = (h.0, each_loc P ps h.1)
 
-apart_drop : (j : ℕ) (ps : List Piece) → AreApart (piece_locs ps) → AreApart (piece_locs (drop j ps))
+pub apart_drop : (j : ℕ) (ps : List Piece) → AreApart (piece_locs ps) → AreApart (piece_locs (drop j ps))
 apart_drop zero ps h = h
 apart_drop (suc j) [] h = h
 apart_drop (suc j) (p ∷ ps) h = apart_drop j ps h.1
+
+pub none_of_one : (l : Loc) (ls : List Loc) → AllByRecursion (Apart l) ls → AllByRecursion (IsNoneOf (l ∷ [])) ls
+none_of_one l [] h = tt
+none_of_one l (k ∷ ls) h = ((apart_sym l k h.0, tt), none_of_one l ls h.1)
 
 module _ (base : ℕ) where
   -- what a piece's place keeps it keeps after stores elsewhere
@@ -57,10 +61,6 @@ module _ (base : ℕ) (t : Tree) (bytes : List ℕ) where
   all_stand_stays ls a b [] parts none s stand = tt
   all_stand_stays ls a b (p ∷ ps) parts none s stand =
       (stands_stays ls a b p parts.0.fits none.0 s stand.0, all_stand_stays ls a b ps parts.1 none.1 s stand.1)
-
-  none_of_one : (l : Loc) (ls : List Loc) → AllByRecursion (Apart l) ls → AllByRecursion (IsNoneOf (l ∷ [])) ls
-  none_of_one l [] h = tt
-  none_of_one l (k ∷ ls) h = ((apart_sym l k h.0, tt), none_of_one l ls h.1)
 
   -- what is so before the piece at j - 1 is stored
   pub record AreStored (pieces : List Piece) (j : ℕ) (first m : Image) : Type 0 where

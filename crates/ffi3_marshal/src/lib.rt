@@ -13,7 +13,7 @@ mod widen;
 
 pub use putting::{fill_piece, put, put_word, set_piece};
 pub use reading::{place_bytes, place_word, read_piece};
-pub use storing::{store_hidden, store_pieces, store_place};
+pub use storing::{store_copy, store_hidden, store_pieces, store_place};
 
 /// Has the registers and the stack of a call.
 pub trait ReadImage {

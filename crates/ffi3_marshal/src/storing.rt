@@ -44,8 +44,8 @@ fn address_of(sp: u64, base: u64, offset: u32) -> u64
     sp + base + offset as u64
 }
 
-// Stores an argument by reference: a copy, and its address in a place.
-fn store_copy<W: WriteImage>(
+/// Stores an argument by reference: a copy `copy` bytes above the first stack place, and its address in a place.
+pub fn store_copy<W: WriteImage>(
     state: &mut W,
     base: u64,
     at: Loc,

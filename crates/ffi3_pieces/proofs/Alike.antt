@@ -20,7 +20,7 @@ use Rattle.ffi3_place_rules.specs.Sound.{hidden_locs, piece_locs, place_locs}
 use Rattle.ffi3_place_rules.proofs.Words.{same_bytes}
 use Rattle.ffi3_place_rules.specs.Isa.{to_list}
 use Rattle.ffi3_pieces.specs.Stored.{IsPlace}
-use Rattle.ffi3_pieces.proofs.Lawful.{each_first, each_rest}
+use Rattle.ffi3_marshal.proofs.Lawful.{each_first, each_rest}
 
 -- From `b` on `new` has the stack that `old` has from `c` on, and it has the same numbers in the registers that are kept.
 pub record AreAlike (c b : ℕ) (IsKept : Loc → Type 0) (old new : Image) : Type 0 where

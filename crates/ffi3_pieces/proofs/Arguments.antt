@@ -1,51 +1,23 @@
 -- One more argument beside those that stand.
-use Rattle.std.specs.Prelude.{true, slice_get, Some}
-use Rattle.std.proofs.Common.{◌≡◌, ℕ, suc, zero, ◌+◌, ◌<◌, ◌≤◌, List, [], ◌∷◌, ◌++◌, get_or, drop, length, subst, sym, ◌∙◌, ap, refl, arith}
+use Rattle.std.specs.Prelude.{true}
+use Rattle.std.proofs.Common.{◌≡◌, ℕ, ◌+◌, ◌<◌, ◌≤◌, List, [], ◌∷◌, get_or, drop, length, subst, sym, ◌∙◌, ap, arith}
 use Rattle.std.specs.List.{AllByRecursion}
 use Rattle.std.proofs.lemmas.List.{drop_all, drop_more}
-use Rattle.std.proofs.lemmas.Option.{get_or_from_slice_get, slice_get_within}
 use Rattle.ffi3_type_rules.specs.declared.Target.{Target}
-use Rattle.ffi3_type_rules.specs.Tree.{Tree, tree_at, trees_of}
-use Rattle.ffi3_type_rules.specs.Signature.{Signature, SignatureHasNoFault}
+use Rattle.ffi3_type_rules.specs.Tree.{Tree, trees_of}
 use Rattle.ffi3_type_rules.specs.Value.{ValueTree, void_value, all_fit, values_of}
 use Rattle.ffi3_type_rules.proofs.ValueElements.{fitting_lengths}
 use Rattle.ffi3_place_rules.specs.declared.Loc.{Loc}
-use Rattle.ffi3_place_rules.specs.declared.Loc.TheVariants.{G, F, S}
 use Rattle.ffi3_place_rules.specs.declared.Place.{Place}
-use Rattle.ffi3_place_rules.specs.declared.Place.TheVariants.{Direct, ByRef}
-use Rattle.ffi3_place_rules.specs.Standard.{Standard, plan_of, frame_of}
-use Rattle.ffi3_place_rules.specs.Sound.{AreApart, IsNoneOf, IsSound, argument_locs, piece_locs}
-use Rattle.ffi3_place_rules.proofs.Elements.{drop_read, argument_read}
+use Rattle.ffi3_place_rules.specs.Sound.{IsNoneOf}
 use Rattle.ffi3_type_rules.specs.declared.limits.TheConstants.{STACK}
+use Rattle.ffi3_marshal.proofs.Arguments.{AtArgument, ready_length}
+use Rattle.ffi3_marshal.proofs.Lawful.{each_first, each_rest, apart_across, across_none}
 use Rattle.ffi3_machine.specs.State.{State}
-use Rattle.ffi3_pieces.specs.Stored.{IsPlace, IsWritable, Stays, WroteWithin}
-use Rattle.ffi3_pieces.specs.Standing.{place_uses, all_uses, PlaceKeepsUnused, PlaceLies, PlaceStands, AllKeepUnused, AllStand, IsReady, AreReady}
+use Rattle.ffi3_pieces.specs.Stored.{Stays, WroteWithin}
+use Rattle.ffi3_pieces.specs.Standing.{place_uses, all_uses, PlaceKeepsUnused, PlaceStands, AllKeepUnused, AllStand, AreReady}
 use Rattle.ffi3_pieces.proofs.Composing.{stays_none, stays_then, wrote_nothing, wrote_then}
 use Rattle.ffi3_pieces.proofs.Copying.{place_keeps_after, place_keeps_then, place_stays}
-use Rattle.ffi3_pieces.proofs.Lawful.{each_first, each_rest, apart_rest, apart_across, across_none, all_ready, all_apart}
-
-pub place_read : {X : Type 0} (xs : List X) (i : ℕ) (x : X) → slice_get xs i ≡ Some x → drop i xs ≡ x ∷ drop (i + 1) xs
-place_read xs i x is = drop_read xs i x (slice_get_within xs i x is) (sym (get_or_from_slice_get xs i x x is))
-
-pub ready_length : (target : Target) (room : ℕ) (ts : List Tree) (ps : List Place) → AreReady target room ts ps → length ps ≡ length ts
-ready_length target room [] [] h = refl
-ready_length target room [] (p ∷ ps) h = absurd h
-ready_length target room (t ∷ ts) [] h = absurd h
-ready_length target room (t ∷ ts) (p ∷ ps) h = ap suc (ready_length target room ts ps h.1)
-
-ready_drop : (target : Target) (room j : ℕ) (ts : List Tree) (ps : List Place) → AreReady target room ts ps → AreReady target room (drop j ts) (drop j ps)
-ready_drop target room zero ts ps h = h
-ready_drop target room (suc j) [] [] h = tt
-ready_drop target room (suc j) [] (p ∷ ps) h = absurd h
-ready_drop target room (suc j) (t ∷ ts) [] h = absurd h
-ready_drop target room (suc j) (t ∷ ts) (p ∷ ps) h = ready_drop target room j ts ps h.1
-
-uses_drop : (target : Target) (room j : ℕ) (ts : List Tree) (ps : List Place) → AreReady target room ts ps → AreApart (all_uses ts ps) → AreApart (all_uses (drop j ts) (drop j ps))
-uses_drop target room zero ts ps ready h = h
-uses_drop target room (suc j) [] [] ready h = h
-uses_drop target room (suc j) [] (p ∷ ps) ready h = absurd ready
-uses_drop target room (suc j) (t ∷ ts) [] ready h = absurd ready
-uses_drop target room (suc j) (t ∷ ts) (p ∷ ps) ready h = uses_drop target room j ts ps ready.1 (apart_rest (place_uses t p) (all_uses ts ps) h)
 
 pub all_stay : (base : ℕ) (target : Target) (room : ℕ) (ls : List Loc) (a b : State) (ts : List Tree) (ps : List Place) (vs : List ValueTree) → STACK ≤ base → AreReady target room ts ps → AllByRecursion (IsNoneOf ls) (all_uses ts ps) → Stays base ls a b → AllStand base a ts ps vs → AllStand base b ts ps vs
 all_stay base target room ls a b [] [] [] low ready none s stand = tt
@@ -88,23 +60,8 @@ module _ (base : ℕ) (target : Target) (room : ℕ) (ts : List Tree) (ps : List
         within = wrote_nothing base (base + room) m;
       }
 
-  -- what is known of the argument at j
-  pub record AtArgument (j : ℕ) (t : Tree) (p : Place) (v : ValueTree) : Type 0 where
-    pub types : drop j ts ≡ t ∷ drop (j + 1) ts
-    pub places : drop j ps ≡ p ∷ drop (j + 1) ps
-    pub values : drop j vs ≡ v ∷ drop (j + 1) vs
-    pub ready : IsReady target room t p
-    pub rest_ready : AreReady target room (drop (j + 1) ts) (drop (j + 1) ps)
-    pub apart : AreApart (place_uses t p ++ all_uses (drop (j + 1) ts) (drop (j + 1) ps))
-
-  pub at_argument : (j : ℕ) (t : Tree) (p : Place) (v : ValueTree) → AreReady target room ts ps → AreApart (all_uses ts ps) → drop j ts ≡ t ∷ drop (j + 1) ts → drop j ps ≡ p ∷ drop (j + 1) ps → drop j vs ≡ v ∷ drop (j + 1) vs → AtArgument j t p v
-  at_argument j t p v ready apart types places values =
-      let ready_here = subst (λ us. AreReady target room us (p ∷ drop (j + 1) ps)) types (subst (AreReady target room (drop j ts)) places (ready_drop target room j ts ps ready)) in
-      let apart_here = subst (λ us. AreApart (all_uses us (p ∷ drop (j + 1) ps))) types (subst (λ qs. AreApart (all_uses (drop j ts) qs)) places (uses_drop target room j ts ps ready apart)) in
-      record { types = types; places = places; values = values; ready = ready_here.0; rest_ready = ready_here.1; apart = apart_here }
-
-  pub argument_step : (j : ℕ) (t : Tree) (p : Place) (v : ValueTree) (first a b : State) → STACK ≤ base → AtArgument j t p v → PlaceStands base b t v p → PlaceKeepsUnused base t a b p → Stays base (place_uses t p) a b → WroteWithin base (base + room) a b → AllStored (j + 1) first a → AllStored j first b
-  argument_step j t p v first a b low here stands keeps stays within before =
+  pub argument_step : (j : ℕ) (t : Tree) (p : Place) (v : ValueTree) (first a b : State) → STACK ≤ base → AtArgument target room ts ps j t p → drop j vs ≡ v ∷ drop (j + 1) vs → PlaceStands base b t v p → PlaceKeepsUnused base t a b p → Stays base (place_uses t p) a b → WroteWithin base (base + room) a b → AllStored (j + 1) first a → AllStored j first b
+  argument_step j t p v first a b low here values stands keeps stays within before =
       let across = apart_across (place_uses t p) (all_uses (drop (j + 1) ts) (drop (j + 1) ps)) here.apart in
       let clear = across_none (place_uses t p) (all_uses (drop (j + 1) ts) (drop (j + 1) ps)) across in
       let kept = all_stay base target room (place_uses t p) a b (drop (j + 1) ts) (drop (j + 1) ps) (drop (j + 1) vs) low here.rest_ready clear stays before.stand in
@@ -112,7 +69,6 @@ module _ (base : ℕ) (target : Target) (room : ℕ) (ts : List Tree) (ps : List
       let kept_rest = all_keep_stay base (place_uses t p) first a b (drop (j + 1) ts) (drop (j + 1) ps) clear stays before.unused in
       let types = here.types in
       let places = here.places in
-      let values = here.values in
       record {
         stand = subst (λ us. AllStand base b us (drop j ps) (drop j vs)) (sym types) (subst (λ qs. AllStand base b (t ∷ drop (j + 1) ts) qs (drop j vs)) (sym places) (subst (λ ws. AllStand base b (t ∷ drop (j + 1) ts) (p ∷ drop (j + 1) ps) ws) (sym values) (stands, kept)));
         unused = subst (λ us. AllKeepUnused base first b us (drop j ps)) (sym types) (subst (λ qs. AllKeepUnused base first b (t ∷ drop (j + 1) ts) qs) (sym places) (kept_here, kept_rest));
@@ -120,26 +76,10 @@ module _ (base : ℕ) (target : Target) (room : ℕ) (ts : List Tree) (ps : List
         within = wrote_then base (base + room) first a b before.within within;
       }
 
-pub lies_more : (n m : ℕ) (t : Tree) (p : Place) → n ≤ m → PlaceLies n t p → PlaceLies m t p
-lies_more n m t (Direct pieces) h lies = all_more n m h (piece_locs pieces) lies
-  where
-    all_more : (n m : ℕ) → n ≤ m → (ls : List Loc) → AllByRecursion (IsPlace n) ls → AllByRecursion (IsPlace m) ls
-    all_more n m h [] all = tt
-    all_more n m h (G r ∷ ls) all = (all.0, all_more n m h ls all.1)
-    all_more n m h (F r ∷ ls) all = (all.0, all_more n m h ls all.1)
-    all_more n m h (S k w ∷ ls) all = ((omega (arith, h, all.0.0), all.0.1, all.0.2), all_more n m h ls all.1)
-lies_more n m t (ByRef at copy) h lies = (one_more n m h at lies.0, omega (arith, h, lies.1))
-  where
-    one_more : (n m : ℕ) → n ≤ m → (l : Loc) → IsPlace n l → IsPlace m l
-    one_more n m h (G r) lies = lies
-    one_more n m h (F r) lies = lies
-    one_more n m h (S k w) lies = (omega (arith, h, lies.0), lies.1, lies.2)
-
--- what the laws say of the argument at j
-pub lawful_argument : (std : Standard) (s : Signature) → IsSound std s → SignatureHasNoFault s → (base : ℕ) (target : Target) (vs : List ValueTree) → AllByRecursion (IsWritable target) (argument_locs (plan_of std s)) → all_fit (trees_of s.arguments) (values_of vs) ≡ true → (j : ℕ) (t : Tree) (p : Place) (v : ValueTree) → j < length s.arguments → t ≡ tree_at s.arguments j → slice_get (plan_of std s).places j ≡ Some p → v ≡ get_or vs j void_value → AtArgument base target (frame_of std s) s.arguments (plan_of std s).places vs j t p v
-lawful_argument std s sound right base target vs write fit j t p v below type_is place_is value_is =
-    at_argument base target (frame_of std s) s.arguments (plan_of std s).places vs j t p v (all_ready std s sound right target write) (all_apart std s sound) (argument_read s.arguments j t below type_is) (place_read (plan_of std s).places j p place_is)
-    (drop_more vs j void_value (omega (arith, below, fitting_lengths s.arguments vs fit)) ∙ ap (λ w. w ∷ drop (j + 1) vs) (sym value_is))
+-- the value at j
+pub value_read : (ts : List Tree) (vs : List ValueTree) (j : ℕ) (v : ValueTree) → all_fit (trees_of ts) (values_of vs) ≡ true → j < length ts → v ≡ get_or vs j void_value → drop j vs ≡ v ∷ drop (j + 1) vs
+value_read ts vs j v fit below is =
+    drop_more vs j void_value (omega (arith, below, fitting_lengths ts vs fit)) ∙ ap (λ w. w ∷ drop (j + 1) vs) (sym is)
 
 pub stored_at_end : (base : ℕ) (target : Target) (room : ℕ) (ts : List Tree) (ps : List Place) (vs : List ValueTree) (j : ℕ) (first m : State) → j ≡ 0 → AllStored base target room ts ps vs j first m → AllStored base target room ts ps vs 0 first m
 stored_at_end base target room ts ps vs j first m none stored = subst (λ i. AllStored base target room ts ps vs i first m) none stored

@@ -1,39 +1,25 @@
 -- The copy of an argument by reference.
-use Rattle.std.proofs.Common.{◌≡◌, ◌⊎◌, inl, inr, ℕ, suc, zero, ◌+◌, ◌-◌, ◌*◌, ◌<◌, ◌≤◌, List, [], ◌∷◌, get_or, length, subst, ◌∙◌, ap, refl, arith}
+use Rattle.std.proofs.Common.{◌≡◌, inl, inr, ℕ, suc, zero, ◌+◌, ◌-◌, ◌*◌, ◌<◌, ◌≤◌, List, get_or, length, subst, ◌∙◌, ap, arith}
 use Rattle.std.specs.Prelude.{◌/◌}
 use Rattle.std.specs.List.{AllByRecursion}
 use Rattle.std.proofs.lemmas.Bool.{cases_lt}
-use Rattle.std.proofs.lemmas.List.{ext_get_or}
 use Rattle.ffi3_type_rules.specs.Tree.{Tree}
 use Rattle.ffi3_type_rules.specs.Layout.{size_of}
 use Rattle.ffi3_type_rules.specs.Value.{ValueTree, value_in, IsWritten}
 use Rattle.ffi3_type_rules.proofs.Parts.{index_part, length_part, same_part}
 use Rattle.ffi3_place_rules.specs.declared.Loc.{Loc}
-use Rattle.ffi3_place_rules.specs.declared.Loc.TheVariants.{G, F, S}
+use Rattle.ffi3_place_rules.specs.declared.Loc.TheVariants.{S}
 use Rattle.ffi3_place_rules.specs.declared.Place.{Place}
 use Rattle.ffi3_place_rules.specs.declared.Place.TheVariants.{Direct, ByRef}
-use Rattle.ffi3_place_rules.specs.Sound.{Apart, IsNoneOf, PlaceHasAll, stack_words, stack_words_for}
+use Rattle.ffi3_place_rules.specs.Sound.{IsNoneOf, PlaceHasAll, stack_words, stack_words_for}
 use Rattle.ffi3_type_rules.specs.declared.limits.TheConstants.{STACK}
 use Rattle.ffi3_machine.specs.State.{State, stored, stack_at}
-use Rattle.ffi3_pieces.specs.Stored.{stack_byte, KeepsPadding, SameAt, Stays, IsWordPut}
-use Rattle.ffi3_pieces.specs.Standing.{place_uses, CopyStands, IsCopied, PlaceKeepsUnused, PlaceStands}
-use Rattle.ffi3_pieces.proofs.Ranges.{range_length}
-use Rattle.ffi3_pieces.proofs.Putting.{stored_inside, stored_outside, stored_within}
-use Rattle.ffi3_pieces.proofs.Composing.{apart_sym, stays_then, wrote_then}
+use Rattle.ffi3_pieces.specs.Stored.{stack_byte, KeepsPadding, Stays}
+use Rattle.ffi3_pieces.specs.Standing.{place_uses, CopyStands, PlaceKeepsUnused, PlaceStands}
+use Rattle.ffi3_pieces.proofs.Putting.{stored_inside, stored_outside}
 use Rattle.ffi3_pieces.proofs.Stepping.{all_keep_after, all_keep_then, all_stand_stays, same_word_in}
 
 -- ---- stack words
-
--- a place that is none of the stack words lies before or behind them
-clear_of_words : (at n q w : ℕ) → 0 < w → IsNoneOf (stack_words at n) (S q w) → (n ≡ 0) ⊎ ((q + w ≤ at) ⊎ (at + 8 * n ≤ q))
-clear_of_words at zero q w some h = inl refl
-clear_of_words at (suc n) q w some h = inr (both h.0 (clear_of_words (at + 8) n q w some h.1))
-  where
-    both : (q + w ≤ at) ⊎ (at + 8 ≤ q) → (n ≡ 0) ⊎ ((q + w ≤ at + 8) ⊎ (at + 8 + 8 * n ≤ q)) → (q + w ≤ at) ⊎ (at + 8 * suc n ≤ q)
-    both (inl below) rest = inl below
-    both (inr above) (inl none) = inr (omega (arith, above, none))
-    both (inr above) (inr (inl x)) = absurd (omega (arith, above, x, some))
-    both (inr above) (inr (inr x)) = inr (omega (arith, x))
 
 -- the bytes of stack words that stay
 pub words_same : (base at n : ℕ) (ls : List Loc) (a b : State) → AllByRecursion (IsNoneOf ls) (stack_words at n) → Stays base ls a b → (i : ℕ) → i < 8 * n → stack_byte b (base + at + i) ≡ stack_byte a (base + at + i)
@@ -45,10 +31,6 @@ words_same base at (suc n) ls a b none s i h =
           let there : base + (at + 8) + (i - 8) ≡ base + at + i = omega (arith, later) in
           subst (λ k. stack_byte b k ≡ stack_byte a k) there (words_same base (at + 8) n ls a b none.1 s (i - 8) (omega (arith, h, later)))
     ]
-
-pub each_word_apart : (l : Loc) (ls : List Loc) → AllByRecursion (Apart l) ls → AllByRecursion (IsNoneOf (l ∷ [])) ls
-each_word_apart l [] h = tt
-each_word_apart l (k ∷ ls) h = ((apart_sym l k h.0, tt), each_word_apart l ls h.1)
 
 -- ---- a copy that stays
 
@@ -91,54 +73,3 @@ padding_kept addr t v loaded bytes old low fits sized is written i below pad =
           stored_inside addr bytes old low fits_bytes i inside ∙ written.padding_stays i (omega (arith, small, many)) pad ∙ ap (λ xs. get_or xs i 0) is ∙ index_part old.stack (addr - STACK) (size_of t) i small ∙ ap (λ j. get_or old.stack j 0) there
       | inr behind ↦ stored_outside addr bytes old low fits_bytes (addr + i - STACK) (inr (omega (arith, low, behind)))
     ]
-
--- ---- the store of a copy
-
-module _ (base copy n : ℕ) (bytes : List ℕ) (old : State) (low : STACK ≤ base) (few : length bytes ≤ 8 * n) (fits : base + copy - STACK + length bytes ≤ length old.stack) where
-  words_stay : Stays base (stack_words copy n) old (stored (base + copy) bytes old)
-  words_stay = record { sp = refl; size = range_length old.stack bytes (base + copy - STACK) (base + copy - STACK + length bytes) refl fits; others = others }
-    where
-      outside : (j : ℕ) → (STACK + j < base + copy) ⊎ (base + copy + length bytes ≤ STACK + j) → get_or (stored (base + copy) bytes old).stack j 0 ≡ get_or old.stack j 0
-      outside = stored_outside (base + copy) bytes old (omega (arith, low)) fits
-
-      clear_byte : (q w k : ℕ) → k < w → (n ≡ 0) ⊎ ((q + w ≤ copy) ⊎ (copy + 8 * n ≤ q)) → get_or (stored (base + copy) bytes old).stack (base + q + k - STACK) 0 ≡ get_or old.stack (base + q + k - STACK) 0
-      clear_byte q w k h (inl none) =
-          elim (cases_lt (q + k) copy) [
-            | inl below ↦ outside (base + q + k - STACK) (inl (omega (arith, low, below)))
-            | inr above ↦ outside (base + q + k - STACK) (inr (omega (arith, low, above, few, none)))
-          ]
-      clear_byte q w k h (inr (inl below)) = outside (base + q + k - STACK) (inl (omega (arith, low, below, h)))
-      clear_byte q w k h (inr (inr above)) = outside (base + q + k - STACK) (inr (omega (arith, low, above, few)))
-
-      others : (l : Loc) → IsNoneOf (stack_words copy n) l → SameAt base l old (stored (base + copy) bytes old)
-      others (G q) none = refl
-      others (F q) none = refl
-      others (S q w) none = λ k h. clear_byte q w k h (clear_of_words copy n q w (omega (arith, h)) none)
-
-  copy_reads : stack_at (base + copy) (length bytes) (stored (base + copy) bytes old) ≡ bytes
-  copy_reads =
-      let size : length (stored (base + copy) bytes old).stack ≡ length old.stack = range_length old.stack bytes (base + copy - STACK) (base + copy - STACK + length bytes) refl fits in
-      let many = length_part (stored (base + copy) bytes old).stack (base + copy - STACK) (length bytes) (omega (arith, size, fits)) in
-      ext_get_or 0 (stack_at (base + copy) (length bytes) (stored (base + copy) bytes old)) bytes many (λ k h.
-      let below : k < length bytes = subst (λ m. k < m) many h in
-      let there : base + copy - STACK + k ≡ base + copy + k - STACK = omega (arith, low) in
-      index_part (stored (base + copy) bytes old).stack (base + copy - STACK) (length bytes) k below ∙ ap (λ j. get_or (stored (base + copy) bytes old).stack j 0) there ∙ stored_inside (base + copy) bytes old (omega (arith, low)) fits k below)
-
-pub copied : (base : ℕ) (t : Tree) (v : ValueTree) (l : Loc) (copy : ℕ) (loaded bytes : List ℕ) (old new : State) → STACK ≤ base → length bytes ≡ size_of t → loaded ≡ stack_at (base + copy) (size_of t) old → IsWritten t v loaded bytes → base + copy - STACK + size_of t ≤ length old.stack → AllByRecursion (Apart l) (stack_words_for copy t) → IsWordPut base l (base + copy) (stored (base + copy) bytes old) new → IsCopied base t v l copy old new
-copied base t v l copy loaded bytes old new low sized is written fits apart put =
-    let fits_bytes : base + copy - STACK + length bytes ≤ length old.stack = omega (arith, fits, sized) in
-    let few : length bytes ≤ 8 * ((size_of t + 7) / 8) = omega (arith, sized) in
-    let first = words_stay base copy ((size_of t + 7) / 8) bytes old low few fits_bytes in
-    let there = subst (λ n. stack_at (base + copy) n (stored (base + copy) bytes old) ≡ bytes) sized (copy_reads base copy ((size_of t + 7) / 8) bytes old low few fits_bytes) in
-    let clear = each_word_apart l (stack_words_for copy t) apart in
-    let same = same_copy base copy (size_of t) (l ∷ []) (stored (base + copy) bytes old) new low clear put.stays (omega (arith, fits, first.size)) in
-    record {
-      stands = record {
-        address = put.word;
-        room = omega (arith, fits, first.size, put.stays.size);
-        reads = ap (value_in t) (same ∙ there) ∙ written.reads_back;
-      };
-      unused = λ i below pad. words_same base copy ((size_of t + 7) / 8) (l ∷ []) (stored (base + copy) bytes old) new clear put.stays i below ∙ padding_kept (base + copy) t v loaded bytes old (omega (arith, low)) fits sized is written i below pad;
-      stays = stays_then base (stack_words_for copy t) (l ∷ []) old (stored (base + copy) bytes old) new first put.stays;
-      within = λ room lies ends. wrote_then base (base + room) old (stored (base + copy) bytes old) new (stored_within (base + copy) bytes old (omega (arith, low)) fits_bytes base (base + room) (omega arith) (omega (arith, ends, sized))) (put.within room lies);
-    }

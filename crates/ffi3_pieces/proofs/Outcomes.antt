@@ -19,7 +19,7 @@ use Rattle.ffi3_place_rules.specs.Standard.{Standard, frame_of, plan_of}
 use Rattle.ffi3_place_rules.specs.Holds.{leaf_bytes, Carries, FillPieces, FillsAs, FillsResult, HoldsResult, LeavesStand, OwnResult, OwnsResult, RegisterHolds}
 use Rattle.ffi3_place_rules.specs.Sound.{IsSound, piece_locs, result_locs}
 use Rattle.ffi3_pieces.specs.Stored.{IsPlace}
-use Rattle.ffi3_pieces.proofs.Lawful.{machine_places}
+use Rattle.ffi3_marshal.proofs.Lawful.{machine_places}
 
 module _ (a b : Image) (IsKept : Loc → Type 0) (sp : b.sp ≡ a.sp) (stack : b.stack ≡ a.stack) (same : (l : Loc) → IsPlace 0 l → IsKept l → register b l ≡ register a l) where
   byte_kept : (l : Loc) (k : ℕ) → IsPlace 0 l → IsKept l → byte_at b 0 l k ≡ byte_at a 0 l k

@@ -17,11 +17,11 @@ use Rattle.ffi3_machine.specs.State.{State, x_of, with_x, with_general, with_flo
 use Rattle.ffi3_place_rules.specs.declared.Loc.{Loc}
 use Rattle.ffi3_place_rules.specs.declared.Loc.TheVariants.{G, F, S}
 use Rattle.ffi3_machine.specs.Stubs.{exchanged_at}
+use Rattle.ffi3_marshal.proofs.Ranges.{range_length}
 use Rattle.ffi3_pieces.specs.Stored.{IsPlace, SameAt, byte_of, word_in}
 use Rattle.ffi3_pieces.specs.Passing.{by_exchange, words_at, passing_if, passing, steps_if}
 use Rattle.ffi3_pieces.proofs.Exchanged.{word_written, word_below, word_above, above_all}
 use Rattle.ffi3_pieces.proofs.Putting.{word_there}
-use Rattle.ffi3_pieces.proofs.Ranges.{range_length}
 
 -- calls that go by stubs have them
 pub stubs_there : (target : Target) → by_exchange target ≡ true → has_stubs target ≡ true

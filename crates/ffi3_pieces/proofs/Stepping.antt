@@ -1,5 +1,5 @@
 -- One more piece beside those that stand.
-use Rattle.std.proofs.Common.{◌≡◌, ℕ, suc, zero, ◌+◌, ◌<◌, ◌≤◌, List, [], ◌∷◌, get_or, drop, length, subst, sym, ◌∙◌, ap, arith}
+use Rattle.std.proofs.Common.{◌≡◌, ℕ, ◌+◌, ◌<◌, ◌≤◌, List, [], ◌∷◌, get_or, drop, length, subst, sym, ◌∙◌, ap, arith}
 use Rattle.std.specs.Prelude.{true}
 use Rattle.std.specs.List.{AllByRecursion}
 use Rattle.std.specs.Int.{w64, from_le_bytes}
@@ -10,34 +10,15 @@ use Rattle.ffi3_place_rules.specs.declared.Loc.{Loc}
 use Rattle.ffi3_place_rules.specs.declared.Loc.TheVariants.{G, F, S}
 use Rattle.ffi3_place_rules.specs.declared.Piece.{Piece}
 use Rattle.ffi3_place_rules.specs.Holds.{FillsAs, leaf_bytes}
-use Rattle.ffi3_place_rules.specs.Sound.{Apart, AreApart, IsNoneOf, IsPieceOf, piece_locs, place_size}
+use Rattle.ffi3_place_rules.specs.Sound.{AreApart, IsNoneOf, IsPieceOf, piece_locs, place_size}
 use Rattle.ffi3_place_rules.proofs.Words.{same_bytes}
 use Rattle.ffi3_place_rules.proofs.Elements.{drop_read}
-use Rattle.ffi3_place_rules.proofs.Tests.{each_at}
+use Rattle.ffi3_marshal.proofs.Stepping.{apart_drop, each_drop, each_loc, each_read, none_of_one}
 use Rattle.ffi3_machine.specs.State.{State}
 use Rattle.ffi3_pieces.specs.Stored.{IsByteOf, IsPlace, byte_of, word_in, KeepsUnused, SameAt, Stays, WroteWithin, PieceStands, IsStored}
 use Rattle.ffi3_pieces.specs.Runs.{goes_by_run}
-use Rattle.ffi3_pieces.proofs.Composing.{apart_sym, same_byte, stays_none, stays_then, wrote_nothing, wrote_then}
+use Rattle.ffi3_pieces.proofs.Composing.{same_byte, stays_none, stays_then, wrote_nothing, wrote_then}
 use Rattle.std.proofs.lemmas.List.{drop_all}
-
--- ---- lists
-
-pub each_read : {X : Type 0} (P : X → Type 0) (xs : List X) (i : ℕ) (x : X) → i < length xs → x ≡ get_or xs i x → AllByRecursion P xs → P x
-each_read P xs i x h e all = each_at P xs i x h (sym e) all
-
-pub each_drop : {X : Type 0} (P : X → Type 0) (j : ℕ) (xs : List X) → AllByRecursion P xs → AllByRecursion P (drop j xs)
-each_drop P zero xs h = h
-each_drop P (suc j) [] h = h
-each_drop P (suc j) (x ∷ xs) h = each_drop P j xs h.1
-
-pub each_loc : (P : Loc → Type 0) (ps : List Piece) → AllByRecursion P (piece_locs ps) → AllByRecursion (λ p. P p.loc) ps
-each_loc P [] h = tt
-each_loc P (p ∷ ps) h = (h.0, each_loc P ps h.1)
-
-apart_drop : (j : ℕ) (ps : List Piece) → AreApart (piece_locs ps) → AreApart (piece_locs (drop j ps))
-apart_drop zero ps h = h
-apart_drop (suc j) [] h = h
-apart_drop (suc j) (p ∷ ps) h = apart_drop j ps h.1
 
 -- ---- pieces that still stand
 
@@ -75,10 +56,6 @@ module _ (base : ℕ) (t : Tree) (v : ValueTree) where
   all_stand_stays ls a b [] parts none s stand = tt
   all_stand_stays ls a b (p ∷ ps) parts none s stand =
       (stands_stays ls a b p parts.0.fits none.0 s stand.0, all_stand_stays ls a b ps parts.1 none.1 s stand.1)
-
-  none_of_one : (l : Loc) (ls : List Loc) → AllByRecursion (Apart l) ls → AllByRecursion (IsNoneOf (l ∷ [])) ls
-  none_of_one l [] h = tt
-  none_of_one l (k ∷ ls) h = ((apart_sym l k h.0, tt), none_of_one l ls h.1)
 
   -- what is so before the piece at j is stored, once it is stored
   pub record AreStored (pieces : List Piece) (j : ℕ) (first m : State) : Type 0 where

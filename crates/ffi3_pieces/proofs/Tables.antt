@@ -12,7 +12,7 @@ use Rattle.ffi3_place_rules.specs.ByStubs.{AgreesWithStubs, stub_scratch}
 use Rattle.ffi3_place_rules.specs.Sound.{Apart, IsNoneOf, IsOneOf}
 use Rattle.ffi3_place_rules.proofs.Forbidden.{each_none_of}
 use Rattle.ffi3_pieces.specs.Stored.{IsPlace}
-use Rattle.ffi3_pieces.proofs.Lawful.{each_first, each_join, each_map, each_rest}
+use Rattle.ffi3_marshal.proofs.Lawful.{each_first, each_join, each_map, each_rest}
 
 -- what holds of each of a list holds of one of them
 pub one_of_each : {X : Type 0} (P : X → Type 0) (x : X) (ys : List X) → AllByRecursion P ys → Any (λ y. y ≡ x) ys → P x

@@ -1,7 +1,6 @@
 -- Arguments that stand at their places in a machine, and the places that they use, the copy of an argument by reference included.
-use Rattle.std.specs.Prelude.{◌≡◌, ℕ, ◌+◌, ◌-◌, ◌≤◌, ⊤, List, [], ◌∷◌, ◌++◌, length}
+use Rattle.std.specs.Prelude.{◌≡◌, ℕ, ◌+◌, ◌-◌, ◌≤◌, ⊤, List, [], ◌∷◌, length}
 use Rattle.std.specs.List.{AllByRecursion}
-use Rattle.ffi3_type_rules.specs.declared.Target.{Target}
 use Rattle.ffi3_type_rules.specs.Tree.{Tree}
 use Rattle.ffi3_type_rules.specs.Layout.{size_of}
 use Rattle.ffi3_type_rules.specs.Value.{ValueTree, value_in}
@@ -11,25 +10,12 @@ use Rattle.ffi3_place_rules.specs.declared.Place.{Place}
 use Rattle.ffi3_place_rules.specs.declared.Place.TheVariants.{Direct, ByRef}
 use Rattle.ffi3_place_rules.specs.declared.Res.{Res}
 use Rattle.ffi3_place_rules.specs.declared.Res.TheVariants.{Nothing, Direct as DirectRes, Hidden}
-use Rattle.ffi3_place_rules.specs.Sound.{PlaceHasAll, piece_locs, place_locs, stack_words_for}
+use Rattle.ffi3_place_rules.specs.Sound.{stack_words_for}
 use Rattle.ffi3_type_rules.specs.declared.limits.TheConstants.{STACK}
+pub use Rattle.ffi3_marshal.specs.Standing.{AreReady, IsReady, PlaceLies, all_uses, place_uses}
 use Rattle.ffi3_machine.specs.State.{State, stack_at}
-use Rattle.ffi3_pieces.specs.Stored.{IsPlace, word_in, IsWritable, KeepsPadding, KeepsUnused, PieceStands, Stays}
+use Rattle.ffi3_pieces.specs.Stored.{IsPlace, word_in, KeepsPadding, KeepsUnused, PieceStands, Stays}
 use Rattle.ffi3_pieces.specs.Stored.{WroteWithin}
-
--- the registers and the bytes of the stack that an argument uses
-abbrev pub place_uses : Tree → Place → List Loc
-place_uses t (Direct pieces) = piece_locs pieces
-place_uses t (ByRef at copy) = at ∷ stack_words_for copy t
-
-abbrev pub all_uses : List Tree → List Place → List Loc
-all_uses (t ∷ ts) (p ∷ ps) = place_uses t p ++ all_uses ts ps
-all_uses _ _ = []
-
--- they lie in so many bytes of the stack
-abbrev pub PlaceLies : ℕ → Tree → Place → Type 0
-PlaceLies room t (Direct pieces) = AllByRecursion (IsPlace room) (piece_locs pieces)
-PlaceLies room t (ByRef at copy) = IsPlace room at × (copy + size_of t ≤ room)
 
 -- pieces have the leaves of the value, and what fills the rest of their places is right
 abbrev pub PiecesStand : ℕ → State → Tree → ValueTree → List Piece → Type 0
@@ -68,17 +54,6 @@ abbrev pub AllKeepUnused : ℕ → State → State → List Tree → List Place 
 AllKeepUnused base old new [] [] = ⊤
 AllKeepUnused base old new (t ∷ ts) (p ∷ ps) = PlaceKeepsUnused base t old new p × AllKeepUnused base old new ts ps
 AllKeepUnused base old new _ _ = ⊥
-
--- what a store at a place needs: it has all of the argument, lies in the frame, and is written to
-pub record IsReady (target : Target) (room : ℕ) (t : Tree) (p : Place) : Type 0 where
-  pub has_all : PlaceHasAll t p
-  pub lies : PlaceLies room t p
-  pub writable : AllByRecursion (IsWritable target) (place_locs p)
-
-abbrev pub AreReady : Target → ℕ → List Tree → List Place → Type 0
-AreReady target room [] [] = ⊤
-AreReady target room (t ∷ ts) (p ∷ ps) = IsReady target room t p × AreReady target room ts ps
-AreReady target room _ _ = ⊥
 
 -- ---- the hidden result
 

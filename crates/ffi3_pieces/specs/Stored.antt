@@ -2,7 +2,6 @@
 use Rattle.std.specs.Prelude.{◌≡◌, ℕ, ◌+◌, ◌-◌, ◌*◌, ◌/◌, ◌^◌, ◌<◌, ◌≤◌, ◌⊎◌, ⊤, List, [], ◌∷◌, map, get_or, length}
 use Rattle.std.specs.Int.{w64, to_le_bytes, from_le_bytes}
 use Rattle.std.specs.List.{range_with_len}
-use Rattle.ffi3_type_rules.specs.declared.Target.{Target}
 use Rattle.ffi3_place_rules.specs.declared.Loc.{Loc}
 use Rattle.ffi3_place_rules.specs.declared.Loc.TheVariants.{G, F, S}
 use Rattle.ffi3_place_rules.specs.declared.Ext.TheVariants.{Free}
@@ -13,8 +12,7 @@ use Rattle.ffi3_type_rules.specs.Value.{ValueTree, IsPadding}
 use Rattle.ffi3_place_rules.specs.Holds.{Carries, FillsAs, leaf_bytes}
 use Rattle.ffi3_place_rules.specs.Sound.{place_size, IsWhole, IsNoneOf}
 use Rattle.ffi3_type_rules.specs.declared.limits.TheConstants.{STACK}
-use Rattle.ffi3_type_rules.specs.Isa.{isa_of}
-use Rattle.ffi3_place_rules.specs.Isa.{TakesWrites}
+pub use Rattle.ffi3_marshal.specs.Stored.{IsPlace, IsWritable}
 use Rattle.ffi3_machine.specs.State.{State}
 
 -- the byte of the stack at an address
@@ -78,16 +76,6 @@ pub record WroteOnly (low high : ℕ) (old new : State) : Type 0 where
   pub general : new.general ≡ old.general
   pub floating : new.floating ≡ old.floating
 
--- one of a machine's registers, or one to eight bytes of so many of the stack
-abbrev pub IsPlace : ℕ → Loc → Type 0
-IsPlace stack (G r) = r < 32
-IsPlace stack (F r) = r < 32
-IsPlace stack (S n w) = (n + w ≤ stack) × (0 < w) × (w ≤ 8)
-
--- a write to the place is not dropped by the target's machine
-abbrev pub IsWritable : Target → Loc → Type 0
-IsWritable target l = TakesWrites (isa_of target) l
-
 -- the first bytes of the place are these
 abbrev pub HasBytes : ℕ → State → Loc → List ℕ → Type 0
 HasBytes base m l bytes = (k : ℕ) → k < length bytes → byte_of base m l k ≡ get_or bytes k 0
@@ -95,12 +83,6 @@ HasBytes base m l bytes = (k : ℕ) → k < length bytes → byte_of base m l k 
 -- the bytes of the place from number n on stay
 abbrev pub KeepsFrom : ℕ → Loc → ℕ → State → State → Type 0
 KeepsFrom base l n old new = (k : ℕ) → n ≤ k → k < place_size l → byte_of base new l k ≡ byte_of base old l k
-
--- the word's low bytes are these, and above them it is the old
-pub record HasLow (bytes : List ℕ) (old new : ℕ) : Type 0 where
-  pub low : (k : ℕ) → k < length bytes → get_or (to_le_bytes w64 new) k 0 ≡ get_or bytes k 0
-  pub high : (k : ℕ) → length bytes ≤ k → k < 8 → get_or (to_le_bytes w64 new) k 0 ≡ get_or (to_le_bytes w64 old) k 0
-  pub below : new < 2 ^ 64
 
 -- THE PLACE HOLDS THE BYTES. Its other bytes stay, and so do all other places.
 pub record IsPut (base : ℕ) (l : Loc) (bytes : List ℕ) (old new : State) : Type 0 where

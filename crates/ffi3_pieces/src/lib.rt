@@ -1,9 +1,8 @@
 //! Values at the places of a plan: what a caller stores for its callee.
 #![tactic(auto)]
 
-ghost use Rattle.std.specs.Prelude.{◌≡◌, ℕ, ◌+◌, ◌-◌, ◌/◌, ◌^◌, ◌<◌, ◌≤◌, length, get_or, true};
+ghost use Rattle.std.specs.Prelude.{◌≡◌, ℕ, ◌+◌, ◌-◌, ◌≤◌, length, true};
 ghost use Rattle.std.specs.List.{AllByRecursion};
-ghost use Rattle.std.specs.Int.{w64, to_le_bytes};
 ghost use Rattle.ffi3_type_rules.specs.Tree.{trees_of};
 ghost use Rattle.ffi3_type_rules.specs.Layout.{size_of};
 ghost use Rattle.ffi3_type_rules.specs.Value.{all_fit, fits, value_in, values_of};
@@ -14,11 +13,12 @@ ghost use Rattle.ffi3_place_rules.specs.Sound.{Apart, AreApart, hidden_locs, IsP
 ghost use Rattle.ffi3_type_rules.specs.declared.limits.TheConstants.{STACK, STACK_TOP};
 ghost use Rattle.ffi3_machine.specs.State.{image_of};
 ghost use Rattle.ffi3_pieces.specs.Passing.{passing};
-ghost use Rattle.ffi3_pieces.specs.Stored.{IsPlace, HasLow, IsPut, IsSet, IsSetAndFilled, IsStored, IsWordPut, IsWritable, KeepsUnused, PieceStands, Stays, WroteWithin};
+ghost use Rattle.ffi3_pieces.specs.Stored.{IsPlace, IsPut, IsSet, IsSetAndFilled, IsStored, IsWordPut, IsWritable, KeepsUnused, PieceStands, Stays, WroteWithin};
 ghost use Rattle.ffi3_cif.specs.Runs.{AreRunsOf, pieces_of};
 ghost use Rattle.ffi3_pieces.specs.Runs.{goes_by_run};
 ghost use Rattle.ffi3_pieces.specs.Standing.{AllKeepUnused, AllStand, HiddenStands, IsCopied, PiecesStand, PlaceKeepsUnused, PlaceLies, PlaceStands, all_uses, place_uses};
 
+mod lent;
 mod load;
 mod registers;
 mod running;
@@ -26,10 +26,10 @@ mod running;
 use ffi3_cif::{Cif, Runs};
 use ffi3_machine::{Machine, StackBase};
 use ffi3_place::{Abi, Ext, Loc, Piece, Pieces, Place, Res};
-use ffi3_type_rules::limits::LARGEST_TYPE;
+use ffi3_type_rules::limits::{LARGEST_TYPE, STACK};
 use ffi3_types::CheckedType;
-use ffi3_values::{Value, Values, widen, widen_from_32, write_bytes};
-use load::word_of;
+use ffi3_values::{Value, Values, write_bytes};
+use lent::{Lent, offset_of};
 pub use load::{load_piece, own_word, place_bytes, place_word};
 pub use registers::{by_exchange, pass_floating, pass_general, passed_floating, passed_general};
 use running::store_runs;
@@ -38,16 +38,6 @@ use running::store_runs;
 /// buffer of the largest type's size than to store the value.
 pub const SMALL: usize = 64;
 
-// The word with its low bytes replaced.
-fn with_low(word: u64, bytes: &[u8]) -> u64
-    requires { length bytes.now ≤ 8 }
-    ensures { HasLow bytes.now word result }
-{
-    let mut all = word.to_le_bytes();
-    all[..bytes.len()].copy_from_slice(bytes);
-    word_of(all)
-}
-
 /// Puts bytes into a place, whose other bytes stay. Stack places count from the address `base`.
 pub fn put(machine: &mut Machine, base: StackBase, at: Loc, bytes: &[u8])
     requires lies { IsPlace (STACK_TOP - base) at }
@@ -55,19 +45,9 @@ pub fn put(machine: &mut Machine, base: StackBase, at: Loc, bytes: &[u8])
     requires few { length bytes.now ≤ place_size at }
     ensures { IsPut base at bytes.now (passing machine.old) (passing machine.new) }
 {
-    // its contract tells what is true of every machine
-    let _m = machine.sp();
-    match at {
-        Loc::G(r) => {
-            let word = with_low(passed_general(machine, r), bytes);
-            pass_general(machine, r, word);
-        }
-        Loc::F(r) => {
-            let word = with_low(passed_floating(machine, r), bytes);
-            pass_floating(machine, r, word);
-        }
-        Loc::S(n, _) => machine.store_stack(base.address() + n as u64, bytes),
-    }
+    let start = offset_of(machine, base);
+    let mut lent = Lent { machine };
+    ffi3_marshal::put(&mut lent, start, at, bytes);
 }
 
 /// Puts a number into a place of eight bytes. Stack places count from the address `base`.
@@ -77,7 +57,9 @@ pub fn put_word(machine: &mut Machine, base: StackBase, at: Loc, word: u64)
     requires whole { IsWhole at }
     ensures { IsWordPut base at word (passing machine.old) (passing machine.new) }
 {
-    put(machine, base, at, &word.to_le_bytes());
+    let start = offset_of(machine, base);
+    let mut lent = Lent { machine };
+    ffi3_marshal::put_word(&mut lent, start, at, word);
 }
 
 /// Puts the bytes that a piece carries into its place, whose other bytes stay. Stack places count from the address
@@ -88,31 +70,9 @@ pub fn set_piece(machine: &mut Machine, base: StackBase, piece: Piece, bytes: &[
     requires fits { IsWithin (length bytes.now) piece }
     ensures { IsSet base piece bytes.now (passing machine.old) (passing machine.new) }
 {
-    let from = piece.off as usize;
-    put(
-        machine,
-        base,
-        piece.loc,
-        &bytes[from..from + piece.len as usize],
-    );
-}
-
-// The number of four bytes from an offset on, with ones above it.
-fn boxed(bytes: &[u8], from: usize) -> u64
-    requires { from + 4 ≤ length bytes.now }
-    ensures low { (k : ℕ) → k < 4 → get_or (to_le_bytes w64 result) k 0 ≡ get_or bytes.now (from + k) 0 }
-    ensures high { result / 2 ^ 32 ≡ 2 ^ 32 - 1 }
-{
-    word_of([
-        bytes[from],
-        bytes[from + 1],
-        bytes[from + 2],
-        bytes[from + 3],
-        0xFF,
-        0xFF,
-        0xFF,
-        0xFF,
-    ])
+    let start = offset_of(machine, base);
+    let mut lent = Lent { machine };
+    ffi3_marshal::set_piece(&mut lent, start, piece, bytes);
 }
 
 // Puts the bytes that a piece of a value carries into its place, and fills the rest of the place. `bytes` are the
@@ -122,24 +82,17 @@ fn fill_piece(
     base: StackBase,
     piece: Piece,
     ty: &CheckedType<'_>,
-    value: &Value,
     bytes: &[u8],
 )
     requires lies { IsPlace (STACK_TOP - base) piece.loc }
     requires writable { IsWritable machine.old.target piece.loc }
     requires part { IsPieceOf ty.now piece }
     requires sized { length bytes.now ≡ size_of ty.now }
-    requires reads { value_in ty.now bytes.now ≡ value_of value.now }
-    requires fits { fits ty.now (value_of value.now) ≡ true }
-    ensures { IsSetAndFilled base ty.now (value_of value.now) bytes.now piece (passing machine.old) (passing machine.new) }
+    ensures { IsSetAndFilled base ty.now (value_in ty.now bytes.now) bytes.now piece (passing machine.old) (passing machine.new) }
 {
-    let plain = ty.as_type();
-    match piece.ext {
-        Ext::Free => set_piece(machine, base, piece, bytes),
-        Ext::Widen => put_word(machine, base, piece.loc, widen(plain, value)),
-        Ext::Riscv => put_word(machine, base, piece.loc, widen_from_32(plain, value)),
-        Ext::Boxed => put_word(machine, base, piece.loc, boxed(bytes, piece.off as usize)),
-    }
+    let start = offset_of(machine, base);
+    let mut lent = Lent { machine };
+    ffi3_marshal::fill_piece(&mut lent, start, piece, ty, bytes);
 }
 
 /// Stores a piece of a value, and fills the rest of the piece's place. Padding keeps what stood there, and so does the
@@ -163,7 +116,7 @@ pub fn store_piece(
 {
     load_piece(machine, base, &piece, bytes);
     write_bytes(ty.as_type(), value, bytes);
-    fill_piece(machine, base, piece, ty, value, bytes);
+    fill_piece(machine, base, piece, ty, bytes);
 }
 
 // Whether a piece is whole once the runs are stored.
@@ -334,12 +287,12 @@ fn store_copy(
 {
     // its contract tells what is true of every machine
     let _m = machine.sp();
-    let start = base.address() + copy as u64;
+    let first = base.address();
     let size = ty.size();
-    bytes.copy_from_slice(machine.lend_stack(start, size));
+    bytes.copy_from_slice(machine.lend_stack(first + copy as u64, size));
     write_bytes(ty.as_type(), value, bytes);
-    machine.store_stack(start, bytes);
-    put_word(machine, base, at, start);
+    let mut lent = Lent { machine };
+    ffi3_marshal::store_copy(&mut lent, first - STACK, at, copy, ty, bytes);
 }
 
 // Stores an argument at its place, by way of `bytes`, which are as many as it has.

@@ -7,7 +7,7 @@ use Rattle.ffi3_type_rules.proofs.Layouts.{least_multiple-above}
 use Rattle.ffi3_place_rules.specs.Standard.{block_bytes, frame_of, plan_of, round8}
 use Rattle.ffi3_type_rules.specs.declared.limits.TheConstants.{STACK_TOP}
 use Rattle.ffi3_pieces.specs.Passing.{passing}
-use Rattle.ffi3_pieces.proofs.Arguments.{lies_more}
+use Rattle.ffi3_marshal.proofs.Arguments.{lies_more}
 use Rattle.ffi3_body.specs.SeenActivation.{block_offset}
 use Rattle.ffi3_body.proofs.Blocks.{whole_within}
 use Rattle.ffi3_callee.proofs.Copying.{all_copied, found_at, found_stays, one_more_copied, ready_at}

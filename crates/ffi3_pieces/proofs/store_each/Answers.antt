@@ -4,7 +4,8 @@ use Rattle.ffi3_place_rules.specs.Sound.{IsPieceOf}
 use Rattle.ffi3_type_rules.specs.declared.limits.TheConstants.{STACK_TOP}
 use Rattle.ffi3_pieces.specs.Passing.{passing}
 use Rattle.ffi3_pieces.specs.Stored.{IsPlace, IsWritable}
-use Rattle.ffi3_pieces.proofs.Stepping.{AreStored, each_read, each_loc, given_still, piece_step, none_stored, all_stored}
+use Rattle.ffi3_marshal.proofs.Stepping.{each_read, each_loc}
+use Rattle.ffi3_pieces.proofs.Stepping.{AreStored, given_still, piece_step, none_stored, all_stored}
 use Rattle.ffi3_pieces.proofs.store_each.Goals as goal
 
 pub loop-j-init : goal.loop-j-init

@@ -3,7 +3,7 @@ use Rattle.ffi3_values.specs.ValueOf.{value_of}
 use Rattle.ffi3_place_rules.specs.declared.Place.TheVariants.{Direct}
 use Rattle.ffi3_type_rules.specs.declared.limits.TheConstants.{STACK_TOP}
 use Rattle.ffi3_pieces.specs.Passing.{passing}
-use Rattle.ffi3_pieces.proofs.Arguments.{lies_more}
+use Rattle.ffi3_marshal.proofs.Arguments.{lies_more}
 use Rattle.ffi3_pieces.proofs.RunStoring.{registers_given}
 use Rattle.ffi3_pieces.proofs.store_pieces_by.Goals as goal
 

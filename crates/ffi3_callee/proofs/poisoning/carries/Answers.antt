@@ -3,7 +3,7 @@ use Rattle.std.proofs.Common.{◌≡◌, ◌<◌, length, ap, refl, sym, ◌∙�
 use Rattle.ffi3_type_rules.specs.Tree.{tree_at}
 use Rattle.ffi3_place_rules.specs.Standard.{plan_of}
 use Rattle.ffi3_place_rules.proofs.Elements.{argument_read}
-use Rattle.ffi3_pieces.proofs.Arguments.{place_read}
+use Rattle.ffi3_marshal.proofs.Arguments.{place_read}
 use Rattle.ffi3_callee.specs.Poison.{hidden_has, places_have}
 use Rattle.ffi3_callee.proofs.Searching.{argument_has, argument_has_not, no_argument, not_first}
 use Rattle.ffi3_callee.proofs.poisoning.carries.Goals as goal

@@ -9,7 +9,7 @@ use Rattle.ffi3_pieces.specs.Stored.{IsPlace}
 use Rattle.ffi3_pieces.specs.Standing.{PlaceLies}
 use Rattle.ffi3_pieces.proofs.Composing.{only_then}
 use Rattle.ffi3_pieces.proofs.Runs.{runs_lie, runs_lie_wider}
-use Rattle.ffi3_pieces.proofs.Stepping.{each_loc}
+use Rattle.ffi3_marshal.proofs.Stepping.{each_loc}
 use Rattle.ffi3_callee.specs.Loaded.{IsFound, IsRead}
 use Rattle.ffi3_callee.proofs.Moving.{copied_only, copied_there, direct_read, within_wider}
 use Rattle.ffi3_callee.proofs.Placing.{copy_read, parts_within}

@@ -2,7 +2,7 @@ use Rattle.std.proofs.Common.{ap, ◌≡◌, ◌+◌, ◌-◌, ◌≤◌, drop, 
 use Rattle.ffi3_type_rules.specs.declared.limits.TheConstants.{STACK, STACK_TOP}
 use Rattle.ffi3_pieces.specs.Passing.{passing}
 use Rattle.ffi3_pieces.specs.Runs.{RunLies}
-use Rattle.ffi3_pieces.proofs.Stepping.{each_drop, each_read}
+use Rattle.ffi3_marshal.proofs.Stepping.{each_drop, each_read}
 use Rattle.ffi3_callee.specs.Moved.{AreRunsMoved}
 use Rattle.ffi3_callee.proofs.Moving.{all_runs_moved, move_run, no_run_moved}
 use Rattle.ffi3_callee.proofs.taking.copy_runs.Goals as goal

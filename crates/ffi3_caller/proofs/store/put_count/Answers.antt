@@ -2,7 +2,7 @@ use Rattle.std.proofs.Common.{subst}
 use Rattle.std.specs.List.{AllByRecursion}
 use Rattle.ffi3_place_rules.specs.Isa.{to_list}
 use Rattle.ffi3_pieces.specs.Stored.{IsPlace}
-use Rattle.ffi3_pieces.proofs.Composing.{register_is_whole}
+use Rattle.ffi3_marshal.proofs.Composing.{register_is_whole}
 use Rattle.ffi3_caller.proofs.Calling.{register_lies}
 use Rattle.ffi3_caller.proofs.store.put_count.Goals as goal
 

@@ -12,7 +12,7 @@ use Rattle.ffi3_caller.specs.Called.{with_frame}
 use Rattle.ffi3_place_rules.specs.declared.Loc.{Loc}
 use Rattle.ffi3_machine.specs.Scribbled.{length-scribbled_general, length-scribbled_floating}
 use Rattle.ffi3_pieces.proofs.Passing.{own_register}
-use Rattle.ffi3_pieces.proofs.Lawful.{each_first, written_by_law}
+use Rattle.ffi3_marshal.proofs.Lawful.{each_first, written_by_law}
 use Rattle.ffi3_caller.proofs.Calling.{call_stored, call_within, count_is_register, count_is_written, hidden_lies, preserved_same, reserved_stays}
 use Rattle.ffi3_caller.proofs.store.store_args.Goals as goal
 

@@ -5,7 +5,7 @@ use Rattle.ffi3_type_rules.specs.declared.limits.TheConstants.{STACK_TOP}
 use Rattle.ffi3_pieces.specs.Passing.{passing}
 use Rattle.ffi3_pieces.specs.Runs.{AreRunsStored, RunLies}
 use Rattle.ffi3_pieces.proofs.RunStoring.{all_runs_stored, no_run, run_step}
-use Rattle.ffi3_pieces.proofs.Stepping.{each_read}
+use Rattle.ffi3_marshal.proofs.Stepping.{each_read}
 use Rattle.ffi3_pieces.proofs.running.store_runs.Goals as goal
 
 pub loop-i-init : goal.loop-i-init
