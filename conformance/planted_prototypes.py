@@ -1,5 +1,6 @@
 """Planted errors: what the program would say if it read prototypes by a wrong rule. Each is what it says of a text that
-is changed so, in place of what it says of the text. Each must be found by each compiler, and it is said how soon."""
+is changed so, in place of what it says of the text. Each must be found by each compiler, and it is said how soon. Beside
+them what would be said of names, in place of those that are found."""
 
 import re
 
@@ -63,3 +64,16 @@ def nothing_behind_the_dots(text):
 
 READINGS = [star_left_out, array_by_value, no_sign, short_long, bool_of_int, size_with_a_sign, real_alone,
             least_is_fast, second_member_left_out, parameters_exchanged, nothing_behind_the_dots]
+
+
+def names_exchanged(found):
+    """The names of the first two parameters are exchanged."""
+    return found[1::-1] + found[2:]
+
+
+def name_of_the_one_before(found):
+    """A parameter without a name has that of the one before it."""
+    return tuple(name or before for before, name in zip(("", *found), found))
+
+
+NAMES = [names_exchanged, name_of_the_one_before]
