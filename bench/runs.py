@@ -25,6 +25,16 @@ FORMS = {
     "brackets": ("void f(struct{int a", "[1]", ";}s)", "ffi3: too deep"),
     "brackets behind a star": ("void f(struct{int a", "[1]", ";}*s)", "void(pointer)"),
 }
+# The same of what `cplace` reads beside these.
+WIDE_FORMS = {
+    "a comment": ("int f(int)/*", "*", "*/", "sint32(sint32)"),
+    "qualifiers": ("", "const ", "int f(int)", "sint32(sint32)"),
+    "attributes": ("int f(int)", "__attribute__((pure))", "", "sint32(sint32)"),
+    "arrays of a parameter": ("void f(int a", "[1]", ")", "void(pointer)"),
+    "parameters of a parameter": ("void f(void(*a)(char", ",char", "))", "void(pointer)"),
+    "members with commas": ("void f(struct{int*a", ",*a", ";}s)", "ffi3: too large: "),
+    "types behind the dots": ("int f(int,...,int", ",int", ")", "ffi3: too many arguments: "),
+}
 
 
 def text_of(signature, body, main):
@@ -114,7 +124,7 @@ def large_calls(elements, form, count):
 
 def declaration(form, size):
     """A declaration of nearly so many bytes."""
-    start, part, end, _ = FORMS[form]
+    start, part, end, _ = (FORMS | WIDE_FORMS)[form]
     return start + part * ((size - len(start) - len(end)) // len(part)) + end
 
 

@@ -19,7 +19,8 @@
         print(function.declaration, function.place().pieces if function.is_read else function.reason)
 
 On the command line `python3 -m ffi3 --help` says what there is. `library` has the C library's calls, which are all here
-too; `headers` reads C headers, `drawing` and `page` show where things stand, `gdb` is to be sourced in gdb.
+too; `names` has the names of a prototype's parameters, `headers` reads C headers, `drawing` and `page` show where things
+stand, `gdb` is to be sourced in gdb.
 """
 
 import sys

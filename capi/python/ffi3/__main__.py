@@ -9,6 +9,7 @@ from collections.abc import Callable, Sequence
 from pathlib import Path
 
 from . import RESULT, TARGETS, Error, NotInStack, ShortStack, arguments, layout, place, version
+from .names import names_or_numbers
 
 HELP = """\
 Where C's calling standards put the arguments and the result of a function.
@@ -119,16 +120,17 @@ class Progress:
 
 
 def _place(words) -> int:
-    print(place(words.target, words.declaration))
+    call = place(words.target, words.declaration)
+    print(call.shown(names_or_numbers(words.declaration, call.arguments)))
     return 0
 
 
 def _layout(words) -> int:
-    count = layout(words.declaration).arguments
-    for part in (*range(count), RESULT):
+    called = names_or_numbers(words.declaration, layout(words.declaration).arguments)
+    for part, name in (*enumerate(called), (RESULT, RESULT)):
         told = layout(words.declaration, part)
         leaves = " ".join(f"{at}:{kind}" for at, kind in told.leaves)
-        print(f"{part}: size {told.size}, align {told.align}{', leaves ' * bool(leaves)}{leaves}")
+        print(f"{name}: size {told.size}, align {told.align}{', leaves ' * bool(leaves)}{leaves}")
     return 0
 
 
@@ -137,8 +139,8 @@ def _arguments(words) -> int:
         found = arguments(words.target, words.declaration, dict(words.registers), words.sp, words.stack)
     except KeyError as error:
         words.parser.error(error.args[0])
-    for i, value in enumerate(found):
-        print(f"{i}: {', '.join(map(str, value))}")
+    for name, value in zip(names_or_numbers(words.declaration, len(found)), found):
+        print(f"{name}: {', '.join(map(str, value))}")
     return 0
 
 

@@ -11,6 +11,7 @@ from collections.abc import Iterable, Iterator, Mapping, Sequence
 from typing import TYPE_CHECKING, NamedTuple
 
 from .library import HIDDEN, RESULT, TARGETS, Call, Part, Piece, layout, place
+from .names import names_or_numbers
 
 if TYPE_CHECKING:
     from .headers import Entry
@@ -35,12 +36,12 @@ class Subject(NamedTuple):
 
 
 def of_text(declaration: str | bytes, targets: Iterable[str] = TARGETS) -> Subject:
-    """The function that a text declares, its arguments by their numbers."""
+    """The function that a text declares, its arguments by their names there, or else by their numbers."""
     count = layout(declaration).arguments
     sizes = {i: layout(declaration, i).size for i in range(count)} | {HIDDEN: layout(declaration).size}
     title = declaration if isinstance(declaration, str) else declaration.decode()
     calls = {target: place(target, declaration) for target in targets}
-    return Subject(title, tuple(map(str, range(count))), calls, dict.fromkeys(calls, sizes))
+    return Subject(title, names_or_numbers(declaration, count), calls, dict.fromkeys(calls, sizes))
 
 
 def of_entry(entry: "Entry") -> Subject:

@@ -133,11 +133,15 @@ class Piece(NamedTuple):
     rest: str
 
     def __str__(self) -> str:
+        return self.shown(str(self.part))
+
+    def shown(self, name: str) -> str:
+        """The piece in words, of a value that is called so."""
         at = f"stack+{self.number}" if self.place == "stack" else self.place
         if self.is_address:
-            return f"{self.part}: {at} has the address of frame+{self.offset}"
+            return f"{name}: {at} has the address of frame+{self.offset}"
         rest = "" if self.rest in ("free", "none") else f", the rest {self.rest}"
-        return f"{self.part}: {at} has bytes {self.offset} to {self.offset + self.length - 1}{rest}"
+        return f"{name}: {at} has bytes {self.offset} to {self.offset + self.length - 1}{rest}"
 
 
 class Call(NamedTuple):
@@ -152,7 +156,13 @@ class Call(NamedTuple):
     pieces: tuple[Piece, ...]
 
     def __str__(self) -> str:
-        return "\n".join([f"frame of {self.frame} bytes", *map(str, self.pieces)])
+        return self.shown(tuple(map(str, range(self.arguments))))
+
+    def shown(self, names: Sequence[str]) -> str:
+        """The call in words, a line a piece, its arguments by these names."""
+        called = dict(enumerate(names))
+        return "\n".join([f"frame of {self.frame} bytes",
+                          *(each.shown(called.get(each.part, str(each.part))) for each in self.pieces)])
 
 
 class Layout(NamedTuple):

@@ -4,10 +4,11 @@ use Rattle.std.proofs.Math.ListN.{drop_of_length-le}
 use Rattle.std.proofs.Math.Nat.{le_trans}
 use Rattle.std.proofs.lemmas.List.{take_all}
 use Rattle.ffi3_script_rules.specs.Reading.{Reading, too_long, not_json, bad_script, script, IsReading}
+use Rattle.ffi3_cdecl_rules.specs.Prototype.{Prototype}
 use Rattle.ffi3_image_rules.specs.declared.Question.{Question}
 use Rattle.ffi3_image_rules.specs.Input as image
 use Rattle.ffi3_image_rules.specs.Answer.{Answer, IsAnswer}
-use Rattle.ffi3_app.specs.Declarations.{Input, too_many_bytes, not_utf8, a_text, IsReadAs}
+use Rattle.ffi3_app.specs.Declarations.{Input, too_many_bytes, not_utf8, a_text, IsInput}
 
 -- what is short was all there was
 taken_whole : (n : ℕ) (all : List ℕ) → length (take (n + 1) all) ≤ n → length all ≤ n
@@ -33,12 +34,13 @@ reading_of_all names all (bad_script path reason) (d, json, is) =
 reading_of_all names all (script s) (d, json, is) =
     let P = λ (bytes : List ℕ). IsReading names bytes (script s) in subst P (all_taken all json.short) (d, json, is)
 
-pub input_of_all : (all : List ℕ) (i : Input) → IsReadAs (take 1048577 all) i → IsReadAs all i
-input_of_all all too_many_bytes long = omega (arith, length-take 1048577 all)
-input_of_all all not_utf8 (short, none) =
-    let P = λ (bytes : List ℕ). IsReadAs bytes not_utf8 in subst P (all_taken all short) (short, none)
-input_of_all all (a_text o) (short, utf8, is) =
-    let P = λ (bytes : List ℕ). IsReadAs bytes (a_text o) in subst P (all_taken all short) (short, utf8, is)
+module _ (IsRead : List ℕ → Prototype → Type 0) where
+  pub input_of_all : (all : List ℕ) (i : Input) → IsInput IsRead (take 1048577 all) i → IsInput IsRead all i
+  input_of_all all too_many_bytes long = omega (arith, length-take 1048577 all)
+  input_of_all all not_utf8 (short, none) =
+      let P = λ (bytes : List ℕ). IsInput IsRead bytes not_utf8 in subst P (all_taken all short) (short, none)
+  input_of_all all (a_text p) (short, utf8, is) =
+      let P = λ (bytes : List ℕ). IsInput IsRead bytes (a_text p) in subst P (all_taken all short) (short, utf8, is)
 
 module _ (question : Question) (all : List ℕ) where
   image_of_all : (i : image.Input) → image.IsReadAs question (take 1048577 all) i → image.IsReadAs question all i

@@ -1,4 +1,6 @@
+pub mod Alike
 pub mod Coming
+pub mod Fronts
 pub mod Inputs
 pub mod LineEnds
 pub mod Naming

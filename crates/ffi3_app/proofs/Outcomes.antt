@@ -5,7 +5,9 @@ use Rattle.ffi3_script_rules.specs.Script.{Script}
 use Rattle.ffi3_script_rules.specs.Natives.{NamedNative, names_of}
 use Rattle.ffi3_script_rules.proofs.Readings.{one_reading}
 use Rattle.ffi3_cdecl_rules.specs.Grammar.{Declaration}
+use Rattle.ffi3_cdecl_rules.specs.Prototype.{Prototype, read_as, sign_unsaid, IsPrototype}
 use Rattle.ffi3_cdecl_rules.proofs.Readings.{one_reading as one_declaration_reading}
+use Rattle.ffi3_cdecl_rules.proofs.Prototypes.{one_prototype}
 use Rattle.ffi3_image_rules.specs.declared.Question.{Question}
 use Rattle.ffi3_image_rules.specs.declared.Question.TheVariants.{Explained, ByStandard}
 use Rattle.ffi3_image_rules.specs.Input as image
@@ -13,8 +15,8 @@ use Rattle.ffi3_image_rules.specs.Answer.{Answer}
 use Rattle.ffi3_image_rules.proofs.Inputs.{one_answer}
 use Rattle.ffi3_words.specs.declared.words.InputCommand.{InputCommand}
 use Rattle.ffi3_words.specs.declared.words.InputCommand.TheVariants.{Layout, Place, Run, Cdecl, Cplace, Explain, Arguments}
-use Rattle.ffi3_app.specs.Declarations.{Input, too_many_bytes, not_utf8, a_text, IsReadAs}
-use Rattle.ffi3_app.specs.Outcome.{Outcome, refuses, outcome_of, outcome_of_input, outcome_of_answer, IsOfScript, IsOfDeclaration, IsOfImage, IsOutcomeOn}
+use Rattle.ffi3_app.specs.Declarations.{Input, too_many_bytes, not_utf8, a_text, IsInput, IsReadPlainly}
+use Rattle.ffi3_app.specs.Outcome.{Outcome, refuses, outcome_of, outcome_of_input, outcome_of_answer, IsOfScript, IsOfDeclaration, IsOfPrototype, IsOfImage, IsOutcomeOn}
 use Rattle.ffi3_app.proofs.Inputs.{reading_of_all, input_of_all, answer_of_all}
 
 -- what is not refused
@@ -37,39 +39,67 @@ module _ (names : List (List ℕ)) (outcome : Script → Outcome) where
   script_is_short bytes o (bad_script path reason, reads, is) accepted = absurd (accepted _ is)
   script_is_short bytes o (script s, (d, json, read), is) accepted = json.short
 
--- ---- of a declaration
+-- ---- of a declaration or a prototype
 
 both_lengths : (most n : ℕ) → most < n → n ≤ most → ⊥
 both_lengths most n long short = omega (arith, long, short)
 
-one_input : (bytes : List ℕ) (i j : Input) → IsReadAs bytes i → IsReadAs bytes j → i ≡ j
-one_input bytes too_many_bytes too_many_bytes long long' = refl
-one_input bytes too_many_bytes not_utf8 long (short, none) =
-    absurd (both_lengths _ _ long short)
-one_input bytes too_many_bytes (a_text p) long (short, utf8, is) =
-    absurd (both_lengths _ _ long short)
-one_input bytes not_utf8 too_many_bytes (short, none) long =
-    absurd (both_lengths _ _ long short)
-one_input bytes not_utf8 not_utf8 (short, none) (short', none') = refl
-one_input bytes not_utf8 (a_text p) (short, none) (short', utf8, is) = absurd (none utf8)
-one_input bytes (a_text o) too_many_bytes (short, utf8, is) long =
-    absurd (both_lengths _ _ long short)
-one_input bytes (a_text o) not_utf8 (short, utf8, is) (short', none) = absurd (none utf8)
-one_input bytes (a_text o) (a_text p) (short, utf8, is) (short', utf8', is') =
-    ap (λ x. a_text x) (one_declaration_reading bytes o is ∙ sym (one_declaration_reading bytes p is'))
+module _ (IsRead : List ℕ → Prototype → Type 0) (one : (text : List ℕ) (p q : Prototype) → IsRead text p → IsRead text q → p ≡ q) where
+  one_input : (bytes : List ℕ) (i j : Input) → IsInput IsRead bytes i → IsInput IsRead bytes j → i ≡ j
+  one_input bytes too_many_bytes too_many_bytes long long' = refl
+  one_input bytes too_many_bytes not_utf8 long (short, none) =
+      absurd (both_lengths _ _ long short)
+  one_input bytes too_many_bytes (a_text p) long (short, utf8, is) =
+      absurd (both_lengths _ _ long short)
+  one_input bytes not_utf8 too_many_bytes (short, none) long =
+      absurd (both_lengths _ _ long short)
+  one_input bytes not_utf8 not_utf8 (short, none) (short', none') = refl
+  one_input bytes not_utf8 (a_text p) (short, none) (short', utf8, is) = absurd (none utf8)
+  one_input bytes (a_text p) too_many_bytes (short, utf8, is) long =
+      absurd (both_lengths _ _ long short)
+  one_input bytes (a_text p) not_utf8 (short, utf8, is) (short', none) = absurd (none utf8)
+  one_input bytes (a_text p) (a_text q) (short, utf8, is) (short', utf8', is') =
+      ap (λ x. a_text x) (one bytes p q is is')
+
+  -- whatever is done with a declaration
+  one_of_input : (outcome : Declaration → Outcome) (bytes : List ℕ) (o p : Outcome) → (i : Input) × IsInput IsRead bytes i × (o ≡ outcome_of_input outcome i) → (i : Input) × IsInput IsRead bytes i × (p ≡ outcome_of_input outcome i) → o ≡ p
+  one_of_input outcome bytes o p (i, reads, is) (j, reads', is') =
+      is ∙ ap (λ (x : Input). outcome_of_input outcome x) (one_input bytes i j reads reads') ∙ sym is'
+
+one_plainly : (text : List ℕ) (p q : Prototype) → IsReadPlainly text p → IsReadPlainly text q → p ≡ q
+one_plainly text (read_as o) (read_as p) is is' =
+    ap (λ x. read_as x) (one_declaration_reading text o is ∙ sym (one_declaration_reading text p is'))
+one_plainly text (read_as o) (sign_unsaid position) is is' = absurd is'
+one_plainly text (sign_unsaid position) q is is' = absurd is
+
+module _ (IsRead : List ℕ → Prototype → Type 0) (outcome : Declaration → Outcome) where
+  input_is_short : (bytes : List ℕ) (o : Outcome) → (i : Input) × IsInput IsRead bytes i × (o ≡ outcome_of_input outcome i) → IsAccepted o → length bytes ≤ 1048576
+  input_is_short bytes o (too_many_bytes, reads, is) accepted = absurd (accepted _ is)
+  input_is_short bytes o (not_utf8, (short, none), is) accepted = short
+  input_is_short bytes o (a_text p, (short, utf8, reads), is) accepted = short
 
 module _ (outcome : Declaration → Outcome) where
   one_of_declaration : (bytes : List ℕ) (o p : Outcome) → IsOfDeclaration outcome bytes o → IsOfDeclaration outcome bytes p → o ≡ p
-  one_of_declaration bytes o p (i, reads, is) (j, reads', is') =
-      is ∙ ap (λ (x : Input). outcome_of_input outcome x) (one_input bytes i j reads reads') ∙ sym is'
+  one_of_declaration bytes o p is is' =
+      one_of_input IsReadPlainly one_plainly outcome bytes o p is is'
 
   declaration_of_all : (all : List ℕ) (o : Outcome) → IsOfDeclaration outcome (take 1048577 all) o → IsOfDeclaration outcome all o
-  declaration_of_all all o (i, reads, is) = (i, input_of_all all i reads, is)
+  declaration_of_all all o (i, reads, is) = (i, input_of_all IsReadPlainly all i reads, is)
 
   declaration_is_short : (bytes : List ℕ) (o : Outcome) → IsOfDeclaration outcome bytes o → IsAccepted o → length bytes ≤ 1048576
-  declaration_is_short bytes o (too_many_bytes, reads, is) accepted = absurd (accepted _ is)
-  declaration_is_short bytes o (not_utf8, (short, none), is) accepted = short
-  declaration_is_short bytes o (a_text p, (short, utf8, reads), is) accepted = short
+  declaration_is_short bytes o is accepted =
+      input_is_short IsReadPlainly outcome bytes o is accepted
+
+  one_of_prototype : (bytes : List ℕ) (o p : Outcome) → IsOfPrototype outcome bytes o → IsOfPrototype outcome bytes p → o ≡ p
+  one_of_prototype bytes o p is is' =
+      one_of_input IsPrototype one_prototype outcome bytes o p is is'
+
+  prototype_of_all : (all : List ℕ) (o : Outcome) → IsOfPrototype outcome (take 1048577 all) o → IsOfPrototype outcome all o
+  prototype_of_all all o (i, reads, is) = (i, input_of_all IsPrototype all i reads, is)
+
+  prototype_is_short : (bytes : List ℕ) (o : Outcome) → IsOfPrototype outcome bytes o → IsAccepted o → length bytes ≤ 1048576
+  prototype_is_short bytes o is accepted =
+      input_is_short IsPrototype outcome bytes o is accepted
 
 -- ---- of an image
 
@@ -96,7 +126,7 @@ module _ (natives : List NamedNative) where
   one_outcome (Place t) bytes o p is is' = one_of_script (names_of natives) _ bytes o p is is'
   one_outcome (Run t trace) bytes o p is is' = one_of_script (names_of natives) _ bytes o p is is'
   one_outcome Cdecl bytes o p is is' = one_of_declaration _ bytes o p is is'
-  one_outcome Cplace bytes o p is is' = one_of_declaration _ bytes o p is is'
+  one_outcome Cplace bytes o p is is' = one_of_prototype _ bytes o p is is'
   one_outcome Explain bytes o p is is' = one_of_image Explained bytes o p is is'
   one_outcome Arguments bytes o p is is' = one_of_image ByStandard bytes o p is is'
 
@@ -105,7 +135,7 @@ module _ (natives : List NamedNative) where
   outcome_of_all (Place t) all o is = script_of_all (names_of natives) _ all o is
   outcome_of_all (Run t trace) all o is = script_of_all (names_of natives) _ all o is
   outcome_of_all Cdecl all o is = declaration_of_all _ all o is
-  outcome_of_all Cplace all o is = declaration_of_all _ all o is
+  outcome_of_all Cplace all o is = prototype_of_all _ all o is
   outcome_of_all Explain all o is = image_of_all Explained all o is
   outcome_of_all Arguments all o is = image_of_all ByStandard all o is
 
@@ -114,6 +144,6 @@ module _ (natives : List NamedNative) where
   accepted_is_short (Place t) bytes o is accepted = script_is_short (names_of natives) _ bytes o is accepted
   accepted_is_short (Run t trace) bytes o is accepted = script_is_short (names_of natives) _ bytes o is accepted
   accepted_is_short Cdecl bytes o is accepted = declaration_is_short _ bytes o is accepted
-  accepted_is_short Cplace bytes o is accepted = declaration_is_short _ bytes o is accepted
+  accepted_is_short Cplace bytes o is accepted = prototype_is_short _ bytes o is accepted
   accepted_is_short Explain bytes o is accepted = image_is_short Explained bytes o is accepted
   accepted_is_short Arguments bytes o is accepted = image_is_short ByStandard bytes o is accepted

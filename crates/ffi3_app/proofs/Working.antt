@@ -2,6 +2,7 @@
 use Rattle.std.proofs.Common.{◌≡◌, ℕ, ◌≤◌, List, length, inl, inr, refl, sym, subst, ap, ◌∙◌}
 use Rattle.std.specs.Prelude.{Bool, Result, Ok, Err, OnOk, IsUtf8, codes}
 use Rattle.ffi3_type_rules.specs.declared.Target.{Target}
+use Rattle.ffi3_type_rules.specs.Signature.{Position, SignatureHasNoFault}
 use Rattle.ffi3_io.specs.Sink.{SinkState}
 use Rattle.ffi3_io.specs.Written.{Wrote}
 use Rattle.ffi3_io.specs.declared.IoError.{IoError}
@@ -17,7 +18,11 @@ use Rattle.ffi3_cdecl.specs.declared.fault.DeclFault.{DeclFault}
 use Rattle.ffi3_cdecl.specs.declared.fault.DeclFault.TheVariants as decl
 use Rattle.ffi3_cdecl_rules.specs.Grammar.{Declaration}
 use Rattle.ffi3_cdecl_rules.specs.Reading as declaration
+use Rattle.ffi3_cdecl_rules.specs.Tokens.{wide, signed, unsigned}
+use Rattle.ffi3_cdecl_rules.specs.Prototype.{Prototype, read_as, sign_unsaid, first_other, IsPrototype, reads_alike, reads_by_sign, has_fault, has_fault_unsigned}
 use Rattle.ffi3_cdecl_rules.proofs.Identifiers.{identifier_read, all_fixed_read, right_read}
+use Rattle.ffi3_cdecl_rules.proofs.WideNames.{wide_right}
+use Rattle.ffi3_cdecl_rules.proofs.Prototypes.{alike_by, read_either}
 use Rattle.ffi3_types.specs.SignatureFaultOf.{signature_fault_of}
 use Rattle.ffi3_script_rules.specs.Language.{reason_of_fault}
 use Rattle.ffi3_script_rules.specs.ReasonText.{text_of_reason}
@@ -39,9 +44,9 @@ use Rattle.ffi3_words.specs.declared.words.InputCommand.{InputCommand}
 use Rattle.ffi3_app.specs.declared.unfinished.Unfinished.{Unfinished}
 use Rattle.ffi3_app.specs.declared.unfinished.Unfinished.TheVariants.{Refused, NoMemory, WriteFault}
 use Rattle.ffi3_explain_rules.specs.Standards.{standard_of}
-use Rattle.ffi3_app.specs.Declarations.{Input, a_text, IsReadAs, IsWritable, offset_line, reason_line}
-use Rattle.ffi3_app.specs.Outcome.{Outcome, refuses, tells, runs, benches, IsOfScript, IsOfDeclaration, IsOfImage, outcome_of_input, outcome_of_answer, IsOutcomeOn}
-use Rattle.ffi3_app.specs.Work.{Works, IsToldAs, IsFaultToldAs, IsNoScript, IsNoDeclaration, RefusesWith, work_of_writing}
+use Rattle.ffi3_app.specs.Declarations.{Input, a_text, IsInput, IsReadWidely, IsWritable, offset_line, reason_line, sign_line}
+use Rattle.ffi3_app.specs.Outcome.{Outcome, refuses, tells, runs, benches, IsOfScript, IsOfDeclaration, IsOfPrototype, IsOfImage, outcome_of_input, outcome_of_answer, IsOutcomeOn}
+use Rattle.ffi3_app.specs.Work.{Works, IsToldAs, IsFaultToldAs, IsNoScript, IsNoInput, IsNoDeclaration, IsNoPrototype, IsNoText, IsSignUnsaid, RefusesWith, work_of_writing}
 
 -- outcomes of one kind are outcomes of another
 pub works_for : (P Q : Outcome → Type 0) (output output' : SinkState) (machine machine' : State) (r : Result ℕ Unfinished) → ((o : Outcome) → P o → Q o) → Works P output output' machine machine' r → Works Q output output' machine machine' r
@@ -119,23 +124,101 @@ script_works names outcome bytes s reading o is = (script s, reading, is)
 -- ---- declarations
 
 -- an input that is read so is no declaration, whatever is done with one
-pub refused_input : (bytes : List ℕ) (i : Input) (line : List ℕ) (e : Unfinished) → IsReadAs bytes i → ((outcome : Declaration → Outcome) → refuses line ≡ outcome_of_input outcome i) → RefusesWith line e → IsNoDeclaration bytes e
-refused_input bytes i line (Refused told) reads is same = λ outcome. (i, reads, ap (λ (l : List ℕ). refuses l) same ∙ is outcome)
-refused_input bytes i line NoMemory reads is same = tt
-refused_input bytes i line WriteFault reads is same = absurd same
+pub refused_input : (IsRead : List ℕ → Prototype → Type 0) (bytes : List ℕ) (i : Input) (line : List ℕ) (e : Unfinished) → IsInput IsRead bytes i → ((outcome : Declaration → Outcome) → refuses line ≡ outcome_of_input outcome i) → RefusesWith line e → IsNoInput IsRead bytes e
+refused_input IsRead bytes i line (Refused told) reads is same = λ outcome. (i, reads, ap (λ (l : List ℕ). refuses l) same ∙ is outcome)
+refused_input IsRead bytes i line NoMemory reads is same = tt
+refused_input IsRead bytes i line WriteFault reads is same = absurd same
 
--- what is told as a fault of a declaration refuses it
-pub refused_fault : (bytes : List ℕ) (f : DeclFault) (e : Unfinished) → length bytes ≤ max_length → IsUtf8 bytes → Tells (declaration.IsReading bytes) f → IsFaultToldAs f e → IsNoDeclaration bytes e
-refused_fault bytes (decl.BadToken at) e short utf8 tells_it told =
-    refused_input bytes (a_text (declaration.bad_token at)) (offset_line at (codes "bad token")) e (short, utf8, tells_it) (λ outcome. refl) told
-refused_fault bytes (decl.Unexpected at) e short utf8 tells_it told =
-    refused_input bytes (a_text (declaration.unexpected at)) (offset_line at (codes "unexpected")) e (short, utf8, tells_it) (λ outcome. refl) told
-refused_fault bytes (decl.BadNumber at) e short utf8 tells_it told =
-    refused_input bytes (a_text (declaration.bad_number at)) (offset_line at (codes "bad number")) e (short, utf8, tells_it) (λ outcome. refl) told
-refused_fault bytes (decl.Sig f) e short utf8 tells_it told =
-    refused_input bytes (a_text (declaration.bad_signature (signature_fault_of f))) (reason_line (text_of_reason (reason_of_fault (signature_fault_of f)))) e (short, utf8, tells_it) (λ outcome. refl) told
-refused_fault bytes decl.NoMemory e short utf8 tells_it told =
-    let P = λ (x : Unfinished). IsNoDeclaration bytes x in subst P (sym told) tt
+-- what is told as a fault refuses its text, by a reading
+module _ (IsRead : List ℕ → Prototype → Type 0) where
+  pub refused_fault : (bytes : List ℕ) (f : DeclFault) (e : Unfinished) → length bytes ≤ max_length → IsUtf8 bytes → Tells (λ o. IsRead bytes (read_as o)) f → IsFaultToldAs f e → IsNoInput IsRead bytes e
+  refused_fault bytes (decl.BadToken at) e short utf8 tells_it told =
+      refused_input IsRead bytes (a_text (read_as (declaration.bad_token at))) (offset_line at (codes "bad token")) e (short, utf8, tells_it) (λ outcome. refl) told
+  refused_fault bytes (decl.Unexpected at) e short utf8 tells_it told =
+      refused_input IsRead bytes (a_text (read_as (declaration.unexpected at))) (offset_line at (codes "unexpected")) e (short, utf8, tells_it) (λ outcome. refl) told
+  refused_fault bytes (decl.BadNumber at) e short utf8 tells_it told =
+      refused_input IsRead bytes (a_text (read_as (declaration.bad_number at))) (offset_line at (codes "bad number")) e (short, utf8, tells_it) (λ outcome. refl) told
+  refused_fault bytes (decl.Sig f) e short utf8 tells_it told =
+      refused_input IsRead bytes (a_text (read_as (declaration.bad_signature (signature_fault_of f)))) (reason_line (text_of_reason (reason_of_fault (signature_fault_of f)))) e (short, utf8, tells_it) (λ outcome. refl) told
+  refused_fault bytes decl.NoMemory e short utf8 tells_it told =
+      let P = λ (x : Unfinished). IsNoInput IsRead bytes x in subst P (sym told) tt
+
+-- ---- prototypes
+
+-- a text that is read so is none, whatever is done with one
+refused_text : (text : List ℕ) (p : Prototype) (line : List ℕ) (e : Unfinished) → IsPrototype text p → ((outcome : Declaration → Outcome) → refuses line ≡ outcome_of_input outcome (a_text p)) → RefusesWith line e → IsNoText text e
+refused_text text p line (Refused told) reads is same = (p, (reads, λ outcome. ap (λ (l : List ℕ). refuses l) same ∙ is outcome))
+refused_text text p line NoMemory reads is same = tt
+refused_text text p line WriteFault reads is same = absurd same
+
+told_text : (text : List ℕ) (f : DeclFault) (e : Unfinished) → Tells (λ o. IsPrototype text (read_as o)) f → IsFaultToldAs f e → IsNoText text e
+told_text text (decl.BadToken at) e tells_it told =
+    refused_text text (read_as (declaration.bad_token at)) (offset_line at (codes "bad token")) e tells_it (λ outcome. refl) told
+told_text text (decl.Unexpected at) e tells_it told =
+    refused_text text (read_as (declaration.unexpected at)) (offset_line at (codes "unexpected")) e tells_it (λ outcome. refl) told
+told_text text (decl.BadNumber at) e tells_it told =
+    refused_text text (read_as (declaration.bad_number at)) (offset_line at (codes "bad number")) e tells_it (λ outcome. refl) told
+told_text text (decl.Sig f) e tells_it told =
+    refused_text text (read_as (declaration.bad_signature (signature_fault_of f))) (reason_line (text_of_reason (reason_of_fault (signature_fault_of f)))) e tells_it (λ outcome. refl) told
+told_text text decl.NoMemory e tells_it told =
+    let P = λ (x : Unfinished). IsNoText text x in subst P (sym told) tt
+
+signed_fault : (text : List ℕ) (f : DeclFault) → Tells (declaration.IsReadingIn wide signed text) f → Tells (λ o. IsPrototype text (read_as o)) f
+signed_fault text (decl.BadToken at) is = has_fault is (λ d e. cc)
+signed_fault text (decl.Unexpected at) is = has_fault is (λ d e. cc)
+signed_fault text (decl.BadNumber at) is = has_fault is (λ d e. cc)
+signed_fault text (decl.Sig f) is = has_fault is (λ d e. cc)
+signed_fault text decl.NoMemory is = tt
+
+unsigned_fault : (text : List ℕ) (d : Declaration) (f : DeclFault) → declaration.IsReadingIn wide signed text (declaration.reads d) → Tells (declaration.IsReadingIn wide unsigned text) f → Tells (λ o. IsPrototype text (read_as o)) f
+unsigned_fault text d (decl.BadToken at) reads is = has_fault_unsigned reads is (λ d e. cc)
+unsigned_fault text d (decl.Unexpected at) reads is = has_fault_unsigned reads is (λ d e. cc)
+unsigned_fault text d (decl.BadNumber at) reads is = has_fault_unsigned reads is (λ d e. cc)
+unsigned_fault text d (decl.Sig f) reads is = has_fault_unsigned reads is (λ d e. cc)
+unsigned_fault text d decl.NoMemory reads is = tt
+
+-- the fault of the reading where `char` is signed, or of the other
+pub refused_signed : (text : List ℕ) (f : DeclFault) (e : Unfinished) → Tells (declaration.IsReadingIn wide signed text) f → IsFaultToldAs f e → IsNoText text e
+refused_signed text f e is told = told_text text f e (signed_fault text f is) told
+
+pub refused_unsigned : (text : List ℕ) (d : Declaration) (f : DeclFault) (e : Unfinished) → declaration.IsReadingIn wide signed text (declaration.reads d) → Tells (declaration.IsReadingIn wide unsigned text) f → IsFaultToldAs f e → IsNoText text e
+refused_unsigned text d f e reads is told =
+    told_text text f e (unsigned_fault text d f reads is) told
+
+-- both readings declare the same
+pub reads_both : (text : List ℕ) (d e x : Declaration) → declaration.IsReadingIn wide signed text (declaration.reads d) → declaration.IsReadingIn wide unsigned text (declaration.reads e) → (x ≡ d) × (d ≡ e) → IsPrototype text (read_as (declaration.reads x))
+reads_both text d e x p q (is, same) =
+    let P = λ (y : Declaration). IsPrototype text (read_as (declaration.reads y)) in
+    let Q = λ (y : Declaration). declaration.IsReadingIn wide unsigned text (declaration.reads y) in
+    subst P (sym is) (reads_alike (alike_by text d p (subst Q (sym same) q)))
+
+-- or not
+pub reads_apart : (text : List ℕ) (d e : Declaration) (f : Unfinished) → declaration.IsReadingIn wide signed text (declaration.reads d) → declaration.IsReadingIn wide unsigned text (declaration.reads e) → IsSignUnsaid d e f → IsNoText text f
+reads_apart text d e (Refused line) p q (other, is) =
+    (sign_unsaid (first_other d.signature e.signature), (reads_by_sign p q other, λ outcome. ap (λ (l : List ℕ). refuses l) is))
+reads_apart text d e NoMemory p q apart = tt
+reads_apart text d e WriteFault p q apart = absurd apart
+
+pub sign_unsaid_by : (d e : Declaration) (position : Position) (f : Unfinished) → (d ≡ e → ⊥) → position ≡ first_other d.signature e.signature → RefusesWith (sign_line position) f → IsSignUnsaid d e f
+sign_unsaid_by d e position (Refused told) other is same = (other, (same ∙ ap (λ (p : Position). sign_line p) is))
+sign_unsaid_by d e position NoMemory other is same = tt
+sign_unsaid_by d e position WriteFault other is same = absurd same
+
+-- the text is the input's
+pub no_prototype : (bytes lent : List ℕ) (e : Unfinished) → length bytes ≤ max_length → IsUtf8 bytes → lent ≡ bytes → IsNoText lent e → IsNoPrototype bytes e
+no_prototype bytes lent (Refused line) short utf8 same (p, (reads, is)) =
+    let P = λ (b : List ℕ). IsPrototype b p in
+    λ outcome. (a_text p, ((short, utf8, subst P same reads), is outcome))
+no_prototype bytes lent NoMemory short utf8 same is = tt
+no_prototype bytes lent WriteFault short utf8 same is = absurd is
+
+pub a_prototype : (bytes lent : List ℕ) (p : Prototype) → length bytes ≤ max_length → IsUtf8 bytes → lent ≡ bytes → IsPrototype lent p → IsReadWidely bytes (a_text p)
+a_prototype bytes lent p short utf8 same is =
+    let P = λ (b : List ℕ). IsPrototype b p in (short, utf8, subst P same is)
+
+pub prototype_is_right : (text : List ℕ) (d : Declaration) → IsPrototype text (read_as (declaration.reads d)) → SignatureHasNoFault d.signature
+prototype_is_right text d is =
+    wide_right signed text d (read_either text d is signed)
 
 pub fault_told_as : (f g : DeclFault) (e : Unfinished) → f ≡ g → IsFaultToldAs g e → IsFaultToldAs f e
 fault_told_as f g e same told =
@@ -165,6 +248,12 @@ pub no_declaration_works : (outcome : Declaration → Outcome) (bytes : List ℕ
 no_declaration_works outcome bytes output machine (Refused line) is = (is outcome, refl, refl)
 no_declaration_works outcome bytes output machine NoMemory is = (inl (refl, refl), refl)
 no_declaration_works outcome bytes output machine WriteFault is = absurd is
+
+-- nor a prototype
+pub no_prototype_works : (outcome : Declaration → Outcome) (bytes : List ℕ) (output : SinkState) (machine : State) (e : Unfinished) → IsNoPrototype bytes e → Works (IsOfPrototype outcome bytes) output output machine machine (Err e)
+no_prototype_works outcome bytes output machine (Refused line) is = (is outcome, refl, refl)
+no_prototype_works outcome bytes output machine NoMemory is = (inl (refl, refl), refl)
+no_prototype_works outcome bytes output machine WriteFault is = absurd is
 
 -- what was done for a command was done for the same command
 pub works_as : (q r : InputCommand) (natives : List NamedNative) (bytes : List ℕ) (output output' : SinkState) (machine machine' : State) (result : Result ℕ Unfinished) → q ≡ r → Works (IsOutcomeOn r natives bytes) output output' machine machine' result → Works (IsOutcomeOn q natives bytes) output output' machine machine' result

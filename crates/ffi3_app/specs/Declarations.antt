@@ -1,14 +1,15 @@
--- What cdecl and cplace write of a C declaration, and with which line they refuse an input that is none.
+-- What cdecl writes of a C declaration, and cplace of a prototype, and with which line they refuse an input that is none.
 use Rattle.std.specs.Prelude.{◌<◌, ◌≤◌, ℕ, ◌++◌, List, [], ◌∷◌, length, codes, decimal, IsUtf8}
 use Rattle.std.specs.List.{concat, flat_map}
 use Rattle.ffi3_type_rules.specs.declared.Target.{Target}
 use Rattle.ffi3_type_rules.specs.declared.Target.TheVariants.{Amd64, Aapcs64, Riscv, Win64, Apple}
-use Rattle.ffi3_type_rules.specs.Signature.{Signature, SignatureHasNoFault}
+use Rattle.ffi3_type_rules.specs.Signature.{Signature, SignatureHasNoFault, Position, at_result, at_argument}
 use Rattle.ffi3_type_rules.specs.Text.{signature_text}
 use Rattle.ffi3_run_rules.specs.Lines.{a_line}
 use Rattle.ffi3_script_rules.specs.Reading.{max_length}
 use Rattle.ffi3_cdecl_rules.specs.Grammar.{Declaration}
 use Rattle.ffi3_cdecl_rules.specs.Canonical.{declaration_text, FixesAll, IsIdentifier}
+use Rattle.ffi3_cdecl_rules.specs.Prototype.{Prototype, read_as, sign_unsaid, IsPrototype, prototype_text}
 use Rattle.ffi3_cdecl_rules.specs.Reading as declaration
 use Rattle.ffi3_words.specs.Words.{target_word}
 use Rattle.ffi3_explain_rules.specs.Standards.{standard_of}
@@ -20,13 +21,27 @@ use Rattle.ffi3_app.specs.Commands.{place_lines}
 pub data Input : Type 0 where
   too_many_bytes : Input
   not_utf8 : Input
-  a_text : declaration.Outcome → Input
+  a_text : Prototype → Input
 
+-- by a reading of texts
+abbrev pub IsInput : (List ℕ → Prototype → Type 0) → List ℕ → Input → Type 0
+IsInput IsRead bytes too_many_bytes = max_length < length bytes
+IsInput IsRead bytes not_utf8 = (length bytes ≤ max_length) × (IsUtf8 bytes → ⊥)
+IsInput IsRead bytes (a_text p) =
+    (length bytes ≤ max_length) × IsUtf8 bytes × IsRead bytes p
+
+-- the plain reading, which has no type without a sign
+abbrev pub IsReadPlainly : List ℕ → Prototype → Type 0
+IsReadPlainly text (read_as o) = declaration.IsReading text o
+IsReadPlainly text (sign_unsaid position) = ⊥
+
+-- as cdecl reads it
 abbrev pub IsReadAs : List ℕ → Input → Type 0
-IsReadAs bytes too_many_bytes = max_length < length bytes
-IsReadAs bytes not_utf8 = (length bytes ≤ max_length) × (IsUtf8 bytes → ⊥)
-IsReadAs bytes (a_text o) =
-    (length bytes ≤ max_length) × IsUtf8 bytes × declaration.IsReading bytes o
+IsReadAs bytes i = IsInput IsReadPlainly bytes i
+
+-- as cplace reads it, for all targets at once
+abbrev pub IsReadWidely : List ℕ → Input → Type 0
+IsReadWidely bytes i = IsInput IsPrototype bytes i
 
 -- ---- the lines of refusals
 
@@ -37,6 +52,20 @@ offset_line at words = a_line (codes "ffi3: at " ++ (decimal at ++ (codes ": " +
 -- the line of the first fault of a signature, told as scripts tell it
 abbrev pub reason_line : List ℕ → List ℕ
 reason_line words = a_line (codes "ffi3: " ++ words)
+
+-- the name of a value, as the lines of `place` have it
+abbrev pub position_name : Position → List ℕ
+position_name at_result = codes "ret"
+position_name (at_argument i) = codes "arg " ++ decimal i
+
+-- what a value is told whose type is another where `char` is signed than where it is not
+abbrev pub sign_words : Position → List ℕ
+sign_words position =
+    position_name position ++ codes ": char is signed or not by the machine: write signed char or unsigned char"
+
+-- and its line
+abbrev pub sign_line : Position → List ℕ
+sign_line position = reason_line (sign_words position)
 
 -- ---- the texts
 
@@ -62,6 +91,11 @@ placed_on s t = target_line t ++ concat (place_lines (standard_of t) 0 s)
 abbrev pub every_target : List Target
 every_target = Amd64 ∷ Aapcs64 ∷ Riscv ∷ Win64 ∷ Apple ∷ []
 
--- THE TEXT OF cplace: that of cdecl, and then each target's
+-- a line with the signature, and one with the canonical text of the prototype: those of cdecl, with the types behind the dots
+abbrev pub prototype_lines : Declaration → List ℕ
+prototype_lines d =
+    a_line (signature_text d.signature) ++ a_line (prototype_text d.called d.signature)
+
+-- THE TEXT OF cplace: these lines, and then each target's
 abbrev pub cplace_text : Declaration → List ℕ
-cplace_text d = cdecl_text d ++ flat_map (placed_on d.signature) every_target
+cplace_text d = prototype_lines d ++ flat_map (placed_on d.signature) every_target

@@ -24,6 +24,7 @@ use Rattle.ffi3_words.specs.declared.words.InputCommand.TheVariants.{Layout, Pla
 use Rattle.ffi3_words.specs.declared.words.Request.{Request}
 use Rattle.ffi3_words.specs.declared.words.Request.TheVariants.{OnInput, Bench}
 use Rattle.ffi3_cdecl_rules.specs.Grammar.{Declaration}
+use Rattle.ffi3_cdecl_rules.specs.Prototype.{read_as, sign_unsaid}
 use Rattle.ffi3_cdecl_rules.specs.Reading as declaration
 use Rattle.ffi3_image_rules.specs.declared.Question.{Question}
 use Rattle.ffi3_image_rules.specs.declared.Question.TheVariants.{Explained, ByStandard}
@@ -31,8 +32,8 @@ use Rattle.ffi3_image_rules.specs.Answer as image
 use Rattle.ffi3_image_rules.specs.Answer.{Answer, IsAnswer}
 use Rattle.ffi3_explain_rules.specs.Standards.{standard_of}
 use Rattle.ffi3_app.specs.Commands.{layout_text, place_text}
-use Rattle.ffi3_app.specs.Declarations.{Input, too_many_bytes, not_utf8, a_text, IsReadAs, offset_line, reason_line}
-use Rattle.ffi3_app.specs.Declarations.{cdecl_text, cplace_text}
+use Rattle.ffi3_app.specs.Declarations.{Input, too_many_bytes, not_utf8, a_text, IsReadAs, IsReadWidely, offset_line}
+use Rattle.ffi3_app.specs.Declarations.{reason_line, sign_line, cdecl_text, cplace_text}
 
 -- WHAT A COMMAND COMES TO: its input is refused with a line; or a text is told; or a program is run by a standard, traced or not, and told; or the bench of a seed and a number of calls is run and told
 pub data Outcome : Type 0 where
@@ -59,26 +60,33 @@ abbrev pub IsOfScript : (names : List (List ℕ)) → (Script → Outcome) → L
 IsOfScript names outcome bytes o =
     (r : Reading) × IsReading names bytes r × (o ≡ outcome_of outcome r)
 
--- ---- commands that work on a declaration
+-- ---- commands that work on a declaration or a prototype
 
 -- what is read as no declaration is refused; of a declaration, a command has an outcome
 abbrev pub outcome_of_input : (Declaration → Outcome) → Input → Outcome
 outcome_of_input outcome too_many_bytes = refuses (a_line (codes "ffi3: input too long"))
 outcome_of_input outcome not_utf8 = refuses (a_line (codes "ffi3: not UTF-8"))
-outcome_of_input outcome (a_text (declaration.bad_token at)) =
+outcome_of_input outcome (a_text (read_as (declaration.bad_token at))) =
     refuses (offset_line at (codes "bad token"))
-outcome_of_input outcome (a_text (declaration.unexpected at)) =
+outcome_of_input outcome (a_text (read_as (declaration.unexpected at))) =
     refuses (offset_line at (codes "unexpected"))
-outcome_of_input outcome (a_text (declaration.bad_number at)) =
+outcome_of_input outcome (a_text (read_as (declaration.bad_number at))) =
     refuses (offset_line at (codes "bad number"))
-outcome_of_input outcome (a_text (declaration.bad_signature f)) =
+outcome_of_input outcome (a_text (read_as (declaration.bad_signature f))) =
     refuses (reason_line (text_of_reason (reason_of_fault f)))
-outcome_of_input outcome (a_text (declaration.reads d)) = outcome d
+outcome_of_input outcome (a_text (read_as (declaration.reads d))) = outcome d
+outcome_of_input outcome (a_text (sign_unsaid position)) =
+    refuses (sign_line position)
 
 -- bytes come to this, read as one declaration
 abbrev pub IsOfDeclaration : (Declaration → Outcome) → List ℕ → Outcome → Type 0
 IsOfDeclaration outcome bytes o =
     (i : Input) × IsReadAs bytes i × (o ≡ outcome_of_input outcome i)
+
+-- bytes come to this, read as one prototype
+abbrev pub IsOfPrototype : (Declaration → Outcome) → List ℕ → Outcome → Type 0
+IsOfPrototype outcome bytes o =
+    (i : Input) × IsReadWidely bytes i × (o ≡ outcome_of_input outcome i)
 
 -- ---- commands that answer a question about an image
 
@@ -103,7 +111,7 @@ IsOutcomeOn (Place t) natives bytes o =
 IsOutcomeOn (Run t trace) natives bytes o =
     IsOfScript (names_of natives) (λ s. runs trace (standard_of t) (program_beside (standard_of t) natives s)) bytes o
 IsOutcomeOn Cdecl natives bytes o = IsOfDeclaration (λ d. tells (cdecl_text d)) bytes o
-IsOutcomeOn Cplace natives bytes o = IsOfDeclaration (λ d. tells (cplace_text d)) bytes o
+IsOutcomeOn Cplace natives bytes o = IsOfPrototype (λ d. tells (cplace_text d)) bytes o
 IsOutcomeOn Explain natives bytes o = IsOfImage Explained bytes o
 IsOutcomeOn Arguments natives bytes o = IsOfImage ByStandard bytes o
 

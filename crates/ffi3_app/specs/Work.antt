@@ -3,6 +3,7 @@ use Rattle.std.specs.Prelude.{◌≡◌, ◌⊎◌, ℕ, true, false, List, code
 use Rattle.ffi3_cdecl.specs.declared.fault.DeclFault.{DeclFault}
 use Rattle.ffi3_cdecl.specs.declared.fault.DeclFault.TheVariants as decl
 use Rattle.ffi3_cdecl_rules.specs.Grammar.{Declaration}
+use Rattle.ffi3_cdecl_rules.specs.Prototype.{Prototype, IsPrototype, first_other}
 use Rattle.ffi3_io.specs.Sink.{Rose, SinkState}
 use Rattle.ffi3_io.specs.declared.IoError.{IoError}
 use Rattle.ffi3_io.specs.declared.IoError.TheVariants as io
@@ -16,10 +17,10 @@ use Rattle.ffi3_script_rules.specs.ReasonText.{text_of_reason}
 use Rattle.ffi3_script_rules.specs.Script.{Script}
 use Rattle.ffi3_status.specs.FaultLines.{ReportsFault, no_memory_line, write_fault_line}
 use Rattle.ffi3_types.specs.SignatureFaultOf.{signature_fault_of}
-use Rattle.ffi3_app.specs.Declarations.{offset_line, reason_line}
+use Rattle.ffi3_app.specs.Declarations.{Input, a_text, IsInput, IsReadPlainly, offset_line, reason_line, sign_line}
 use Rattle.ffi3_app.specs.declared.unfinished.Unfinished.{Unfinished}
 use Rattle.ffi3_app.specs.declared.unfinished.Unfinished.TheVariants.{Refused, NoMemory, WriteFault}
-use Rattle.ffi3_app.specs.Outcome.{Outcome, refuses, located_line, IsOfScript, IsOfDeclaration, IsDone, IsDoneInPart}
+use Rattle.ffi3_app.specs.Outcome.{Outcome, refuses, located_line, outcome_of_input, IsOfScript, IsDone, IsDoneInPart}
 
 -- WHAT CAME OF WORK whose outcomes are these: one of them is done; or the input is refused by one of them; or one is done in part
 abbrev pub Works : (Outcome → Type 0) → SinkState → SinkState → State → State → Result ℕ Unfinished → Type 0
@@ -81,9 +82,34 @@ IsFaultToldAs (decl.Sig f) e =
     RefusesWith (reason_line (text_of_reason (reason_of_fault (signature_fault_of f)))) e
 IsFaultToldAs decl.NoMemory e = e ≡ NoMemory
 
--- bytes are no declaration: they are refused, whatever is done with a declaration; or there was no memory
+-- By a reading of texts bytes are no declaration: they are refused, whatever is done with a declaration; or there was no memory.
+abbrev pub IsNoInput : (List ℕ → Prototype → Type 0) → List ℕ → Unfinished → Type 0
+IsNoInput IsRead bytes (Refused line) =
+    (outcome : Declaration → Outcome)
+    → (i : Input) × IsInput IsRead bytes i × (refuses line ≡ outcome_of_input outcome i)
+IsNoInput IsRead bytes NoMemory = Unit {0}
+IsNoInput IsRead bytes WriteFault = ⊥
+
+-- no declaration of the plain reading
 abbrev pub IsNoDeclaration : List ℕ → Unfinished → Type 0
-IsNoDeclaration bytes (Refused line) =
-    (outcome : Declaration → Outcome) → IsOfDeclaration outcome bytes (refuses line)
-IsNoDeclaration bytes NoMemory = Unit {0}
-IsNoDeclaration bytes WriteFault = ⊥
+IsNoDeclaration bytes e = IsNoInput IsReadPlainly bytes e
+
+-- no prototype for all targets
+abbrev pub IsNoPrototype : List ℕ → Unfinished → Type 0
+IsNoPrototype bytes e = IsNoInput IsPrototype bytes e
+
+-- a text is no prototype for all targets, and this line says so; or there was no memory
+abbrev pub IsNoText : List ℕ → Unfinished → Type 0
+IsNoText text (Refused line) =
+    (p : Prototype)
+    × IsPrototype text p
+    × ((outcome : Declaration → Outcome) → refuses line ≡ outcome_of_input outcome (a_text p))
+IsNoText text NoMemory = Unit {0}
+IsNoText text WriteFault = ⊥
+
+-- of two declarations that are not the same, this line tells the first type that they do not share; or there was no memory
+abbrev pub IsSignUnsaid : Declaration → Declaration → Unfinished → Type 0
+IsSignUnsaid d e (Refused line) =
+    (d ≡ e → ⊥) × (line ≡ sign_line (first_other d.signature e.signature))
+IsSignUnsaid d e NoMemory = Unit {0}
+IsSignUnsaid d e WriteFault = ⊥

@@ -1,5 +1,6 @@
 //! The lines of cdecl.
 ghost use Rattle.std.specs.Prelude.{◌≡◌, IfOk};
+ghost use Rattle.ffi3_type_rules.specs.Signature.{SignatureHasNoFault};
 ghost use Rattle.ffi3_type_rules.specs.Text.{signature_text};
 ghost use Rattle.ffi3_run_rules.specs.Lines.{a_line};
 ghost use Rattle.ffi3_cdecl_rules.specs.Canonical.{declaration_text};
@@ -25,9 +26,9 @@ pub fn cdecl<O: Sink>(
     write_made_line(output, canonical_line(alloc, declaration))
 }
 
-// The line of the signature.
-fn signature_line(alloc: Global, declaration: &Declaration) -> Result<Bytes, NoMemory>
-    requires { IsWritable declaration.now }
+/// The line of the signature.
+pub fn signature_line(alloc: Global, declaration: &Declaration) -> Result<Bytes, NoMemory>
+    requires { SignatureHasNoFault declaration.now.signature }
     ensures { IfOk result (λ line. line ≡ a_line (signature_text declaration.now.signature)) }
 {
     let mut line = sig_text(alloc, declaration.sig())?;

@@ -1,29 +1,56 @@
 //! The lines of cplace.
 ghost use Rattle.std.specs.Prelude.{◌≡◌, IfOk};
 ghost use Rattle.std.specs.List.{flat_map};
-ghost use Rattle.ffi3_app.specs.Declarations.{IsWritable, cplace_text, every_target, placed_on, target_line};
+ghost use Rattle.ffi3_type_rules.specs.Signature.{SignatureHasNoFault};
+ghost use Rattle.ffi3_run_rules.specs.Lines.{a_line};
+ghost use Rattle.ffi3_cdecl_rules.specs.Prototype.{prototype_text};
+ghost use Rattle.ffi3_app.specs.Declarations.{cplace_text, every_target, placed_on, prototype_lines, target_line};
 ghost use Rattle.ffi3_io.specs.Written.{Wrote};
 
-use crate::cdecl::cdecl;
+use crate::cdecl::signature_line;
 use crate::place::place_signature;
 use crate::write::write_made_line;
-use ffi3_cdecl::Declaration;
+use ffi3_cdecl::{Declaration, prototype_text};
 use ffi3_io::{IoError, Sink};
 use ffi3_types::{Bytes, CheckedSig, NoMemory, Target};
 use ffi3_words::target_word;
 use std::alloc::Global;
 
-/// Writes the lines of cdecl, and then for each target its name and the lines of place for the declaration's signature.
+/// Writes the signature's text and the canonical text of a prototype, a line each, and then for each target its name and
+/// the lines of place for the signature.
 pub fn cplace<O: Sink>(
     alloc: Global,
     declaration: &Declaration,
     output: &mut O,
 ) -> Result<(), IoError>
-    requires { IsWritable declaration.now }
+    requires { SignatureHasNoFault declaration.now.signature }
     ensures { Wrote (cplace_text declaration.now) (O.state output.old) (O.state output.new) result }
 {
-    cdecl(alloc, declaration, output)?;
+    prototype(alloc, declaration, output)?;
     place_everywhere(alloc, &CheckedSig::of(declaration.sig()), output)
+}
+
+// The signature and the canonical text.
+fn prototype<O: Sink>(
+    alloc: Global,
+    declaration: &Declaration,
+    output: &mut O,
+) -> Result<(), IoError>
+    requires { SignatureHasNoFault declaration.now.signature }
+    ensures { Wrote (prototype_lines declaration.now) (O.state output.old) (O.state output.new) result }
+{
+    write_made_line(output, signature_line(alloc, declaration))?;
+    write_made_line(output, prototype_line(alloc, declaration))
+}
+
+// The line of the canonical text.
+fn prototype_line(alloc: Global, declaration: &Declaration) -> Result<Bytes, NoMemory>
+    requires { SignatureHasNoFault declaration.now.signature }
+    ensures { IfOk result (λ line. line ≡ a_line (prototype_text declaration.now.called declaration.now.signature)) }
+{
+    let mut line = prototype_text(alloc, declaration.sig(), declaration.name())?;
+    line.push(b'\n')?;
+    Ok(line)
 }
 
 // The targets, one after another.

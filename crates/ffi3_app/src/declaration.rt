@@ -1,5 +1,6 @@
 //! From the bytes of an input to a C declaration, or to the line that refuses them.
 ghost use Rattle.std.specs.Prelude.{◌≡◌, List, ℕ, IfOk, IfErr};
+ghost use Rattle.ffi3_cdecl_rules.specs.Prototype.{read_as};
 ghost use Rattle.ffi3_cdecl_rules.specs.Reading.{reads};
 ghost use Rattle.ffi3_app.specs.Declarations.{IsReadAs, IsWritable, a_text, offset_line, reason_line};
 ghost use Rattle.ffi3_app.specs.Work.{IsFaultToldAs, IsNoDeclaration};
@@ -13,7 +14,7 @@ use std::str;
 
 /// Reads the bytes as one declaration of a function.
 pub fn declaration_in(alloc: Global, bytes: &[u8]) -> Result<Declaration, Unfinished>
-    ensures read { IfOk result (λ d. IsReadAs bytes.now (a_text (reads d))) }
+    ensures read { IfOk result (λ d. IsReadAs bytes.now (a_text (read_as (reads d)))) }
     ensures writable { IfOk result IsWritable }
     ensures refused { IfErr result (IsNoDeclaration bytes.now) }
 {
@@ -29,8 +30,8 @@ pub fn declaration_in(alloc: Global, bytes: &[u8]) -> Result<Declaration, Unfini
     }
 }
 
-// What a fault of a declaration is told as.
-fn refusal(alloc: Global, fault: &DeclFault) -> Unfinished
+/// What a fault of a declaration is told as.
+pub fn refusal(alloc: Global, fault: &DeclFault) -> Unfinished
     ensures { IsFaultToldAs fault.now result }
 {
     match fault {
@@ -57,8 +58,8 @@ fn offset_line(alloc: Global, at: u64, words: &str) -> Result<Bytes, NoMemory>
     Ok(line)
 }
 
-// The line of a reason, where there was memory for its words.
-fn reason_line(alloc: Global, words: Result<Bytes, NoMemory>) -> Result<Bytes, NoMemory>
+/// The line of a reason, where there was memory for its words.
+pub fn reason_line(alloc: Global, words: Result<Bytes, NoMemory>) -> Result<Bytes, NoMemory>
     ensures { (text : List ℕ) → IfOk words (λ w. w ≡ text) → IfOk result (λ line. line ≡ reason_line text) }
 {
     let Ok(words) = words else {

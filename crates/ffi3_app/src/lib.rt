@@ -7,6 +7,7 @@ mod declaration;
 mod layout;
 mod names;
 mod place;
+mod prototype;
 mod script;
 mod top;
 mod unfinished;

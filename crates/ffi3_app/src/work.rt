@@ -8,7 +8,7 @@ ghost use Rattle.ffi3_type_rules.specs.declared.limits.TheConstants.{MOST_CALLS}
 ghost use Rattle.ffi3_explain_rules.specs.Standards.{standard_of};
 ghost use Rattle.ffi3_app.specs.Commands.{layout_text, place_text};
 ghost use Rattle.ffi3_app.specs.Declarations.{cdecl_text, cplace_text};
-ghost use Rattle.ffi3_app.specs.Outcome.{IsOfDeclaration, IsOfImage, IsOfScript, IsOutcomeOn, benches, runs, tells};
+ghost use Rattle.ffi3_app.specs.Outcome.{IsOfDeclaration, IsOfImage, IsOfPrototype, IsOfScript, IsOutcomeOn, benches, runs, tells};
 ghost use Rattle.ffi3_app.specs.Work.{Works, work_of_writing};
 
 use crate::cdecl::cdecl;
@@ -16,6 +16,7 @@ use crate::cplace::cplace;
 use crate::declaration::declaration_in;
 use crate::layout::layout;
 use crate::place::place;
+use crate::prototype::prototype_in;
 use crate::script::script_in;
 use crate::unfinished::Unfinished;
 use crate::write::write_lines;
@@ -115,9 +116,9 @@ fn tell_cdecl<O: Sink>(alloc: Global, bytes: &[u8], output: &mut O) -> Result<u8
 }
 
 fn tell_cplace<O: Sink>(alloc: Global, bytes: &[u8], output: &mut O) -> Result<u8, Unfinished>
-    ensures { (m : State) → Works (IsOfDeclaration (λ d. tells (cplace_text d)) bytes.now) (O.state output.old) (O.state output.new) m m result }
+    ensures { (m : State) → Works (IsOfPrototype (λ d. tells (cplace_text d)) bytes.now) (O.state output.old) (O.state output.new) m m result }
 {
-    match declaration_in(alloc, bytes) {
+    match prototype_in(alloc, bytes) {
         Ok(declaration) => written(cplace(alloc, &declaration, output)),
         Err(end) => Err(end),
     }

@@ -1,10 +1,11 @@
 -- Tokens that are written one by one.
-use Rattle.std.proofs.Common.{◌≡◌, ℕ, ◌+◌, ◌<◌, ◌≤◌, Bool, true, false, ◌||◌, List, [], ◌∷◌, ◌++◌, length, drop, ap, sym, refl, ◌∙◌, arith, append_assoc, append-nil, true≢false}
-use Rattle.std.proofs.lemmas.List.{drop_more, drop_all}
+use Rattle.std.proofs.Common.{◌≡◌, ℕ, zero, suc, ◌+◌, ◌<◌, ◌≤◌, Bool, true, false, ◌||◌, List, [], ◌∷◌, ◌++◌, length, drop, ap, sym, refl, ◌∙◌, arith, append_assoc, append-nil, true≢false}
+use Rattle.std.proofs.lemmas.List.{drop_more, drop_all, take_rest}
 use Rattle.ffi3_type_rules.specs.Tree.{Tree, trees_of, tree_at, void}
 use Rattle.ffi3_cdecl_rules.specs.Tokens.{Token, name, open_round, close_round, comma, semicolon, dots}
 use Rattle.ffi3_cdecl_rules.specs.Canonical.{hugs, holds, spaced, spelled, text_of, count_tokens, first_count_tokens, member_name, type_tokens, first_type_tokens, member_tokens, end_tokens, more_parameter_tokens, parameter_tokens, declaration_text}
-use Rattle.std.specs.Prelude.{Option, is_some}
+use Rattle.std.specs.Prelude.{◌-◌, take, slice_range, Option, Some, is_some}
+use Rattle.ffi3_cdecl_rules.specs.Prototype.{behind_commas, fixed_tokens, prototype_text}
 use Rattle.ffi3_type_rules.specs.Signature.{Signature}
 use Rattle.ffi3_cdecl.specs.Going.{going, Wrote, blank_before}
 use Rattle.ffi3_cdecl.specs.declared.text.Writer.{Writer}
@@ -62,6 +63,38 @@ next_parameter ts i t variadic h e rest =
 pub last_parameter : (ts : List Tree) (i : ℕ) (variadic : Bool) → length ts ≤ i → (rest : List Token) → end_tokens variadic rest ≡ more_parameter_tokens (drop i ts) variadic rest
 last_parameter ts i variadic h rest =
     ap (λ us. more_parameter_tokens us variadic rest) (sym (drop_all i ts h))
+
+-- ---- parameters of a prototype
+
+slice_more : (ts : List Tree) (i end : ℕ) → i < end → end ≤ length ts → slice_range ts i end ≡ tree_at ts i ∷ slice_range ts (i + 1) end
+slice_more ts i end h within =
+    let count : end - i ≡ suc (end - (i + 1)) = omega (arith, h) in
+    ap (λ us. take (end - i) us) (drop_more ts i void (omega (arith, h, within))) ∙ ap (λ n. take n (tree_at ts i ∷ drop (i + 1) ts)) count
+
+pub next_behind : (ts : List Tree) (i end : ℕ) (t : Tree) → i < end → end ≤ length ts → t ≡ tree_at ts i → (rest : List Token) → comma ∷ type_tokens t (behind_commas (slice_range ts (i + 1) end) rest) ≡ behind_commas (slice_range ts i end) rest
+next_behind ts i end t h within e rest =
+    ap (λ v. comma ∷ type_tokens v (behind_commas (slice_range ts (i + 1) end) rest)) e ∙ ap (λ us. behind_commas us rest) (sym (slice_more ts i end h within))
+
+pub last_behind : (ts : List Tree) (i end : ℕ) → end ≤ i → (rest : List Token) → rest ≡ behind_commas (slice_range ts i end) rest
+last_behind ts i end h rest =
+    let none : 0 ≡ end - i = omega (arith, h) in
+    ap (λ n. behind_commas (take n (drop i ts)) rest) none
+
+rest_is : (ts : List Tree) (n : ℕ) → slice_range ts n (length ts) ≡ drop n ts
+rest_is ts n = take_rest ts n
+
+-- the first, those behind it, the dots and the others
+pub fixed_is : (ts : List Tree) (n m : ℕ) (t : Tree) → 0 < n → n ≤ length ts → t ≡ tree_at ts 0 → m ≡ length ts → (rest : List Token) → type_tokens t (behind_commas (slice_range ts 1 n) (comma ∷ dots ∷ behind_commas (slice_range ts n m) (close_round ∷ rest))) ≡ fixed_tokens ts (Some n) rest
+fixed_is [] n m t some within e all rest = absurd (omega (arith, some, within))
+fixed_is (u ∷ us) zero m t some within e all rest = absurd (omega (arith, some))
+fixed_is (u ∷ us) (suc n) m t some within e all rest =
+    let count : suc n - 1 ≡ n = omega arith in
+    ap (λ k. type_tokens t (behind_commas (take k us) (comma ∷ dots ∷ behind_commas (slice_range (u ∷ us) (suc n) m) (close_round ∷ rest)))) count ∙ ap (λ v. type_tokens v (behind_commas (take n us) (comma ∷ dots ∷ behind_commas (slice_range (u ∷ us) (suc n) m) (close_round ∷ rest)))) e ∙ ap (λ k. type_tokens u (behind_commas (take n us) (comma ∷ dots ∷ behind_commas (slice_range (u ∷ us) (suc n) k) (close_round ∷ rest)))) all ∙ ap (λ vs. type_tokens u (behind_commas (take n us) (comma ∷ dots ∷ behind_commas vs (close_round ∷ rest)))) (rest_is (u ∷ us) (suc n))
+
+-- the whole, from an empty text on
+pub prototype_is : (text called : List ℕ) (s : Signature) (t : Tree) (ts : List Tree) (fixed : Option ℕ) → text ≡ [] → t ≡ s.result_type → ts ≡ s.arguments → fixed ≡ s.fixed → text ++ text_of true (type_tokens t (name called ∷ open_round ∷ fixed_tokens ts fixed (semicolon ∷ []))) ≡ prototype_text called s
+prototype_is text called s t ts fixed p q r f =
+    λ i. p i ++ text_of true (type_tokens (q i) (name called ∷ open_round ∷ fixed_tokens (r i) (f i) (semicolon ∷ [])))
 
 -- dots stand before the closing mark
 pub ends_with_dots : (a b : Writer) (variadic : Bool) → variadic ≡ true → Wrote a b (λ rest. comma ∷ dots ∷ close_round ∷ rest) → Wrote a b (end_tokens variadic)

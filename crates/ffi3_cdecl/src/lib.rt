@@ -31,7 +31,7 @@ pub use expected::Expected;
 pub use fault::DeclFault;
 /// A want of memory: the one answer that no clause ties to a cause.
 pub use ffi3_types::NoMemory;
-pub use text::decl_text;
+pub use text::{decl_text, prototype_text};
 pub use token::Sign;
 pub use told::{Reason, Told, tell};
 pub use told_text::{lines_at, told_words};

@@ -1,10 +1,11 @@
 // The canonical text of a declaration.
-ghost use Rattle.std.specs.Prelude.{◌≡◌, ◌++◌, ◌∷◌, OnOk, IfOk};
+ghost use Rattle.std.specs.Prelude.{◌≡◌, ◌<◌, ◌≤◌, ◌++◌, ◌∷◌, ℕ, length, slice_range, Some, OnOk, IfOk};
 ghost use Rattle.ffi3_type_rules.specs.Tree.{trees_of};
 ghost use Rattle.ffi3_type_rules.specs.Signature.{SignatureHasNoFault};
 ghost use Rattle.ffi3_types.specs.TreeOf.{tree_of};
 ghost use Rattle.ffi3_cdecl_rules.specs.Tokens.{open_square, number, close_square, comma, semicolon};
 ghost use Rattle.ffi3_cdecl_rules.specs.Canonical.{hugs, holds, spelled, scalar_word, count_tokens, first_count_tokens, member_name, type_tokens, first_type_tokens, member_tokens, end_tokens, parameter_tokens, declaration_text, FixesAll, IsIdentifier};
+ghost use Rattle.ffi3_cdecl_rules.specs.Prototype.{behind_commas, fixed_tokens, prototype_text};
 ghost use Rattle.ffi3_cdecl_rules.specs.Reading.{IsReading, reads};
 ghost use Rattle.ffi3_cdecl.specs.TokenOf.{token_of, scalar_of};
 ghost use Rattle.ffi3_cdecl.specs.Going.{Wrote, blank_before};
@@ -259,6 +260,49 @@ impl Writer {
         self.put_end(alloc, variadic)
     }
 
+    /// The parameters from one number on and below another, each behind another one.
+    fn put_more(
+        &mut self,
+        alloc: Global,
+        args: &Fields,
+        start: usize,
+        end: usize,
+    ) -> Result<(), NoMemory>
+        requires rises { start ≤ end }
+        requires within { end ≤ length args.now }
+        ensures { OnOk result (Wrote self.old self.new (behind_commas (slice_range args.now start end))) }
+    {
+        for i in start..end {
+            self.put_parameter(alloc, args.get(i))?;
+        }
+        Ok(())
+    }
+
+    /// The parameters, with dots behind so many of them.
+    fn put_fixed(&mut self, alloc: Global, args: &Fields, fixed: u32) -> Result<(), NoMemory>
+        requires some { 0 < fixed }
+        requires within { fixed ≤ length args.now }
+        ensures { OnOk result (Wrote self.old self.new (fixed_tokens args.now (Some fixed))) }
+    {
+        let fixed = fixed as usize;
+        self.put_type(alloc, args.get(0))?;
+        self.put_more(alloc, args, 1, fixed)?;
+        self.put_two(alloc, Token::Comma, Token::Dots)?;
+        self.put_more(alloc, args, fixed, args.len())?;
+        self.put(alloc, Token::CloseRound)
+    }
+
+    /// The parameters, with dots behind the fixed ones, where others may follow these.
+    fn put_list(&mut self, alloc: Global, args: &Fields, fixed: Option<u32>) -> Result<(), NoMemory>
+        requires { (n : ℕ) → fixed ≡ Some n → (0 < n) × (n ≤ length args.now) }
+        ensures { OnOk result (Wrote self.old self.new (fixed_tokens args.now fixed)) }
+    {
+        match fixed {
+            Some(fixed) => self.put_fixed(alloc, args, fixed),
+            None => self.put_parameters(alloc, args, false),
+        }
+    }
+
     /// A parameter behind another one.
     fn put_parameter(&mut self, alloc: Global, ty: &FfiType) -> Result<(), NoMemory>
         ensures { OnOk result (Wrote self.old self.new (λ rest. comma ∷ type_tokens (tree_of ty.now) rest)) }
@@ -284,6 +328,24 @@ pub fn decl_text(alloc: Global, sig: &Sig, name: &[u8]) -> Result<Bytes, NoMemor
     writer.put_type(alloc, sig.ret())?;
     writer.put_two(alloc, Token::Name(name), Token::OpenRound)?;
     writer.put_parameters(alloc, sig.args(), sig.fixed().is_some())?;
+    writer.put(alloc, Token::Semicolon)?;
+    let Writer { text, tight: _ } = writer;
+    Ok(text)
+}
+
+/// The canonical text of a prototype, as `int32_t f(void *, ..., double);`: that of a declaration, with the types that a
+/// call passes behind the dots. Where none stand there it is `decl_text`'s.
+pub fn prototype_text(alloc: Global, sig: &Sig, name: &[u8]) -> Result<Bytes, NoMemory>
+    requires { SignatureHasNoFault sig.now }
+    ensures { IfOk result (λ text. text ≡ prototype_text name.now sig.now) }
+{
+    let mut writer = Writer {
+        text: Bytes::new(alloc),
+        tight: true,
+    };
+    writer.put_type(alloc, sig.ret())?;
+    writer.put_two(alloc, Token::Name(name), Token::OpenRound)?;
+    writer.put_list(alloc, sig.args(), sig.fixed())?;
     writer.put(alloc, Token::Semicolon)?;
     let Writer { text, tight: _ } = writer;
     Ok(text)

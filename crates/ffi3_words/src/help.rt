@@ -212,9 +212,14 @@ pub const CPLACE_ABOUT: &str = "Read a C declaration, and print where a call has
 
 pub const CPLACE_LONG_ABOUT: &str = "Read a C declaration, and print where a call has its values.
 
-Reads the declaration of one function from standard input, as cdecl does.
-Writes the two lines of cdecl, and then for each of the five targets its name
-and the lines that place writes of the signature:
+Reads the declaration of one function from standard input, as manual pages have
+it: what cdecl reads, and any name before a star, qualifiers as restrict, bool,
+ssize_t, _Complex, arrays and functions as parameters, comments, and attributes
+that move no value. Behind the dots may stand the types that a call passes
+there, `int printf(const char *, ..., int, double)`, which is no C. A char by
+value says its sign, which is else the machine's. Writes the two lines of cdecl,
+the second with the types behind the dots, and then for each of the five targets
+its name and the lines that place writes of the signature:
 
   sint32(pointer;)
   int32_t printf(void *, ...);
@@ -224,8 +229,8 @@ and the lines that place writes of the signature:
   ret rax:0+4
   ..
 
-place --help says how these lines are read, and cdecl --help what declarations
-there are. Nothing is run.";
+place --help says how these lines are read, and cdecl --help what cdecl reads.
+Nothing is run.";
 
 pub const CPLACE_AFTER_HELP: &str = "Targets:
   amd64    System V psABI for AMD64

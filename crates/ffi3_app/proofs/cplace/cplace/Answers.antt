@@ -1,21 +1,21 @@
 use Rattle.std.proofs.Common.{rules, ◌≡◌, ◌∙◌, refl}
 use Rattle.std.specs.Prelude.{Err}
 use Rattle.std.specs.List.{flat_map}
-use Rattle.ffi3_app.specs.Declarations.{cdecl_text, cplace_text, every_target, placed_on}
+use Rattle.ffi3_app.specs.Declarations.{prototype_lines, cplace_text, every_target, placed_on}
 use Rattle.ffi3_app.proofs.Pieces.{continues_from, continues_on, continues_ended, continues_last, wrote_for}
 use Rattle.ffi3_app.proofs.cplace.cplace.Goals as goal
 
-pub returns-in_err-cdecl : goal.returns-in_err-cdecl
-returns-in_err-cdecl g c =
+pub returns-in_err-prototype : goal.returns-in_err-prototype
+returns-in_err-prototype g c =
     let d = c.args.declaration.now in
     let whole = cplace_text d in
-    let ended : c.from_residual.result ≡ Err c.in_err-cdecl.field-0.0 = search rules in
-    continues_ended whole whole _ _ (continues_from whole _) (cdecl_text d) (flat_map (placed_on d.signature) every_target) _ _ _ refl c.in_err-cdecl.ensures ended
+    let ended : c.from_residual.result ≡ Err c.in_err-prototype.field-0.0 = search rules in
+    continues_ended whole whole _ _ (continues_from whole _) (prototype_lines d) (flat_map (placed_on d.signature) every_target) _ _ _ refl c.in_err-prototype.ensures ended
 
 pub returns : goal.returns
 returns g c =
     let d = c.args.declaration.now in
     let whole = cplace_text d in
     let rest = flat_map (placed_on d.signature) every_target in
-    let went = continues_on whole whole _ _ (continues_from whole (g.O.Sink.state c.args.output.now)) (cdecl_text d) rest _ refl c.in_ok-cdecl.ensures in
+    let went = continues_on whole whole _ _ (continues_from whole (g.O.Sink.state c.args.output.now)) (prototype_lines d) rest _ refl c.in_ok-prototype.ensures in
     continues_last whole rest _ _ went rest _ _ refl (wrote_for (λ s. flat_map (placed_on s) every_target) c.of.result d.signature _ _ _ (c.of.ensures ∙ c.sig.ensures) c.place_everywhere.ensures)
