@@ -21,7 +21,7 @@ short_whole all short =
 pub none_dropped : (all : List ℕ) → length (take 1048577 all) ≤ 1048576 → drop 1048577 all ≡ []
 none_dropped all short = drop_of_length-le all {i = 1048577} (short_whole all short)
 
-all_taken : (all : List ℕ) → length (take 1048577 all) ≤ 1048576 → take 1048577 all ≡ all
+pub all_taken : (all : List ℕ) → length (take 1048577 all) ≤ 1048576 → take 1048577 all ≡ all
 all_taken all short = take_all 1048577 all (short_whole all short)
 
 -- the first bytes are read as all of them

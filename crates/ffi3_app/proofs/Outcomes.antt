@@ -16,8 +16,8 @@ use Rattle.ffi3_image_rules.proofs.Inputs.{one_answer}
 use Rattle.ffi3_words.specs.declared.words.InputCommand.{InputCommand}
 use Rattle.ffi3_words.specs.declared.words.InputCommand.TheVariants.{Layout, Place, Run, Cdecl, Cplace, Explain, Arguments}
 use Rattle.ffi3_app.specs.Declarations.{Input, too_many_bytes, not_utf8, a_text, IsInput, IsReadPlainly}
-use Rattle.ffi3_app.specs.Outcome.{Outcome, refuses, outcome_of, outcome_of_input, outcome_of_answer, IsOfScript, IsOfDeclaration, IsOfPrototype, IsOfImage, IsOutcomeOn}
-use Rattle.ffi3_app.proofs.Inputs.{reading_of_all, input_of_all, answer_of_all}
+use Rattle.ffi3_app.specs.Outcome.{Outcome, refuses, outcome_of, outcome_of_input, outcome_of_prototype, outcome_of_answer, IsOfScript, IsOfDeclaration, IsOfPrototype, IsOfImage, IsOutcomeOn}
+use Rattle.ffi3_app.proofs.Inputs.{all_taken, reading_of_all, input_of_all, answer_of_all}
 
 -- what is not refused
 abbrev pub IsAccepted : Outcome → Type 0
@@ -61,10 +61,10 @@ module _ (IsRead : List ℕ → Prototype → Type 0) (one : (text : List ℕ) (
   one_input bytes (a_text p) (a_text q) (short, utf8, is) (short', utf8', is') =
       ap (λ x. a_text x) (one bytes p q is is')
 
-  -- whatever is done with a declaration
-  one_of_input : (outcome : Declaration → Outcome) (bytes : List ℕ) (o p : Outcome) → (i : Input) × IsInput IsRead bytes i × (o ≡ outcome_of_input outcome i) → (i : Input) × IsInput IsRead bytes i × (p ≡ outcome_of_input outcome i) → o ≡ p
-  one_of_input outcome bytes o p (i, reads, is) (j, reads', is') =
-      is ∙ ap (λ (x : Input). outcome_of_input outcome x) (one_input bytes i j reads reads') ∙ sym is'
+  -- whatever an input comes to
+  one_of_input : (outcome_of : Input → Outcome) (bytes : List ℕ) (o p : Outcome) → (i : Input) × IsInput IsRead bytes i × (o ≡ outcome_of i) → (i : Input) × IsInput IsRead bytes i × (p ≡ outcome_of i) → o ≡ p
+  one_of_input outcome_of bytes o p (i, reads, is) (j, reads', is') =
+      is ∙ ap (λ (x : Input). outcome_of x) (one_input bytes i j reads reads') ∙ sym is'
 
 one_plainly : (text : List ℕ) (p q : Prototype) → IsReadPlainly text p → IsReadPlainly text q → p ≡ q
 one_plainly text (read_as o) (read_as p) is is' =
@@ -72,34 +72,37 @@ one_plainly text (read_as o) (read_as p) is is' =
 one_plainly text (read_as o) (sign_unsaid position) is is' = absurd is'
 one_plainly text (sign_unsaid position) q is is' = absurd is
 
-module _ (IsRead : List ℕ → Prototype → Type 0) (outcome : Declaration → Outcome) where
-  input_is_short : (bytes : List ℕ) (o : Outcome) → (i : Input) × IsInput IsRead bytes i × (o ≡ outcome_of_input outcome i) → IsAccepted o → length bytes ≤ 1048576
-  input_is_short bytes o (too_many_bytes, reads, is) accepted = absurd (accepted _ is)
+module _ (IsRead : List ℕ → Prototype → Type 0) (outcome_of : Input → Outcome) (refused : List ℕ) (long_is : outcome_of too_many_bytes ≡ refuses refused) where
+  input_is_short : (bytes : List ℕ) (o : Outcome) → (i : Input) × IsInput IsRead bytes i × (o ≡ outcome_of i) → IsAccepted o → length bytes ≤ 1048576
+  input_is_short bytes o (too_many_bytes, reads, is) accepted = absurd (accepted refused (is ∙ long_is))
   input_is_short bytes o (not_utf8, (short, none), is) accepted = short
   input_is_short bytes o (a_text p, (short, utf8, reads), is) accepted = short
 
 module _ (outcome : Declaration → Outcome) where
   one_of_declaration : (bytes : List ℕ) (o p : Outcome) → IsOfDeclaration outcome bytes o → IsOfDeclaration outcome bytes p → o ≡ p
   one_of_declaration bytes o p is is' =
-      one_of_input IsReadPlainly one_plainly outcome bytes o p is is'
+      one_of_input IsReadPlainly one_plainly (outcome_of_input outcome) bytes o p is is'
 
   declaration_of_all : (all : List ℕ) (o : Outcome) → IsOfDeclaration outcome (take 1048577 all) o → IsOfDeclaration outcome all o
   declaration_of_all all o (i, reads, is) = (i, input_of_all IsReadPlainly all i reads, is)
 
   declaration_is_short : (bytes : List ℕ) (o : Outcome) → IsOfDeclaration outcome bytes o → IsAccepted o → length bytes ≤ 1048576
   declaration_is_short bytes o is accepted =
-      input_is_short IsReadPlainly outcome bytes o is accepted
+      input_is_short IsReadPlainly (outcome_of_input outcome) _ refl bytes o is accepted
 
   one_of_prototype : (bytes : List ℕ) (o p : Outcome) → IsOfPrototype outcome bytes o → IsOfPrototype outcome bytes p → o ≡ p
   one_of_prototype bytes o p is is' =
-      one_of_input IsPrototype one_prototype outcome bytes o p is is'
+      one_of_input IsPrototype one_prototype (outcome_of_prototype bytes outcome) bytes o p is is'
 
   prototype_of_all : (all : List ℕ) (o : Outcome) → IsOfPrototype outcome (take 1048577 all) o → IsOfPrototype outcome all o
-  prototype_of_all all o (i, reads, is) = (i, input_of_all IsPrototype all i reads, is)
+  prototype_of_all all o (too_many_bytes, reads, is) = (too_many_bytes, input_of_all IsPrototype all too_many_bytes reads, is)
+  prototype_of_all all o (not_utf8, reads, is) = (not_utf8, input_of_all IsPrototype all not_utf8 reads, is)
+  prototype_of_all all o (a_text p, (short, utf8, reads), is) =
+      (a_text p, input_of_all IsPrototype all (a_text p) (short, utf8, reads), is ∙ ap (λ (bs : List ℕ). outcome_of_prototype bs outcome (a_text p)) (all_taken all short))
 
   prototype_is_short : (bytes : List ℕ) (o : Outcome) → IsOfPrototype outcome bytes o → IsAccepted o → length bytes ≤ 1048576
   prototype_is_short bytes o is accepted =
-      input_is_short IsPrototype outcome bytes o is accepted
+      input_is_short IsPrototype (outcome_of_prototype bytes outcome) _ refl bytes o is accepted
 
 -- ---- of an image
 

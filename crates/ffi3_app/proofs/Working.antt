@@ -44,9 +44,9 @@ use Rattle.ffi3_words.specs.declared.words.InputCommand.{InputCommand}
 use Rattle.ffi3_app.specs.declared.unfinished.Unfinished.{Unfinished}
 use Rattle.ffi3_app.specs.declared.unfinished.Unfinished.TheVariants.{Refused, NoMemory, WriteFault}
 use Rattle.ffi3_explain_rules.specs.Standards.{standard_of}
-use Rattle.ffi3_app.specs.Declarations.{Input, a_text, IsInput, IsReadWidely, IsWritable, offset_line, reason_line, sign_line}
-use Rattle.ffi3_app.specs.Outcome.{Outcome, refuses, tells, runs, benches, IsOfScript, IsOfDeclaration, IsOfPrototype, IsOfImage, outcome_of_input, outcome_of_answer, IsOutcomeOn}
-use Rattle.ffi3_app.specs.Work.{Works, IsToldAs, IsFaultToldAs, IsNoScript, IsNoInput, IsNoDeclaration, IsNoPrototype, IsNoText, IsSignUnsaid, RefusesWith, work_of_writing}
+use Rattle.ffi3_app.specs.Declarations.{Input, a_text, IsInput, IsReadWidely, IsWritable, offset_line, reason_line, marked_line, unexpected_line, sign_line}
+use Rattle.ffi3_app.specs.Outcome.{Outcome, refuses, tells, runs, benches, IsOfScript, IsOfDeclaration, IsOfPrototype, IsOfImage, outcome_of_input, outcome_of_prototype, outcome_of_answer, IsOutcomeOn}
+use Rattle.ffi3_app.specs.Work.{Works, IsToldAs, IsFaultToldAs, IsPlaceToldAs, IsNoScript, IsNoInput, IsNoDeclaration, IsNoPrototype, IsNoText, IsSignUnsaid, RefusesWith, work_of_writing}
 
 -- outcomes of one kind are outcomes of another
 pub works_for : (P Q : Outcome → Type 0) (output output' : SinkState) (machine machine' : State) (r : Result ℕ Unfinished) → ((o : Outcome) → P o → Q o) → Works P output output' machine machine' r → Works Q output output' machine machine' r
@@ -124,40 +124,40 @@ script_works names outcome bytes s reading o is = (script s, reading, is)
 -- ---- declarations
 
 -- an input that is read so is no declaration, whatever is done with one
-pub refused_input : (IsRead : List ℕ → Prototype → Type 0) (bytes : List ℕ) (i : Input) (line : List ℕ) (e : Unfinished) → IsInput IsRead bytes i → ((outcome : Declaration → Outcome) → refuses line ≡ outcome_of_input outcome i) → RefusesWith line e → IsNoInput IsRead bytes e
-refused_input IsRead bytes i line (Refused told) reads is same = λ outcome. (i, reads, ap (λ (l : List ℕ). refuses l) same ∙ is outcome)
-refused_input IsRead bytes i line NoMemory reads is same = tt
-refused_input IsRead bytes i line WriteFault reads is same = absurd same
+pub refused_input : (IsRead : List ℕ → Prototype → Type 0) (outcome_of : (Declaration → Outcome) → Input → Outcome) (bytes : List ℕ) (i : Input) (line : List ℕ) (e : Unfinished) → IsInput IsRead bytes i → ((outcome : Declaration → Outcome) → refuses line ≡ outcome_of outcome i) → RefusesWith line e → IsNoInput IsRead outcome_of bytes e
+refused_input IsRead outcome_of bytes i line (Refused told) reads is same = λ outcome. (i, reads, ap (λ (l : List ℕ). refuses l) same ∙ is outcome)
+refused_input IsRead outcome_of bytes i line NoMemory reads is same = tt
+refused_input IsRead outcome_of bytes i line WriteFault reads is same = absurd same
 
 -- what is told as a fault refuses its text, by a reading
 module _ (IsRead : List ℕ → Prototype → Type 0) where
-  pub refused_fault : (bytes : List ℕ) (f : DeclFault) (e : Unfinished) → length bytes ≤ max_length → IsUtf8 bytes → Tells (λ o. IsRead bytes (read_as o)) f → IsFaultToldAs f e → IsNoInput IsRead bytes e
+  pub refused_fault : (bytes : List ℕ) (f : DeclFault) (e : Unfinished) → length bytes ≤ max_length → IsUtf8 bytes → Tells (λ o. IsRead bytes (read_as o)) f → IsFaultToldAs f e → IsNoInput IsRead outcome_of_input bytes e
   refused_fault bytes (decl.BadToken at) e short utf8 tells_it told =
-      refused_input IsRead bytes (a_text (read_as (declaration.bad_token at))) (offset_line at (codes "bad token")) e (short, utf8, tells_it) (λ outcome. refl) told
+      refused_input IsRead outcome_of_input bytes (a_text (read_as (declaration.bad_token at))) (offset_line at (codes "bad token")) e (short, utf8, tells_it) (λ outcome. refl) told
   refused_fault bytes (decl.Unexpected at) e short utf8 tells_it told =
-      refused_input IsRead bytes (a_text (read_as (declaration.unexpected at))) (offset_line at (codes "unexpected")) e (short, utf8, tells_it) (λ outcome. refl) told
+      refused_input IsRead outcome_of_input bytes (a_text (read_as (declaration.unexpected at))) (offset_line at (codes "unexpected")) e (short, utf8, tells_it) (λ outcome. refl) told
   refused_fault bytes (decl.BadNumber at) e short utf8 tells_it told =
-      refused_input IsRead bytes (a_text (read_as (declaration.bad_number at))) (offset_line at (codes "bad number")) e (short, utf8, tells_it) (λ outcome. refl) told
+      refused_input IsRead outcome_of_input bytes (a_text (read_as (declaration.bad_number at))) (offset_line at (codes "bad number")) e (short, utf8, tells_it) (λ outcome. refl) told
   refused_fault bytes (decl.Sig f) e short utf8 tells_it told =
-      refused_input IsRead bytes (a_text (read_as (declaration.bad_signature (signature_fault_of f)))) (reason_line (text_of_reason (reason_of_fault (signature_fault_of f)))) e (short, utf8, tells_it) (λ outcome. refl) told
+      refused_input IsRead outcome_of_input bytes (a_text (read_as (declaration.bad_signature (signature_fault_of f)))) (reason_line (text_of_reason (reason_of_fault (signature_fault_of f)))) e (short, utf8, tells_it) (λ outcome. refl) told
   refused_fault bytes decl.NoMemory e short utf8 tells_it told =
-      let P = λ (x : Unfinished). IsNoInput IsRead bytes x in subst P (sym told) tt
+      let P = λ (x : Unfinished). IsNoInput IsRead outcome_of_input bytes x in subst P (sym told) tt
 
 -- ---- prototypes
 
 -- a text that is read so is none, whatever is done with one
-refused_text : (text : List ℕ) (p : Prototype) (line : List ℕ) (e : Unfinished) → IsPrototype text p → ((outcome : Declaration → Outcome) → refuses line ≡ outcome_of_input outcome (a_text p)) → RefusesWith line e → IsNoText text e
+refused_text : (text : List ℕ) (p : Prototype) (line : List ℕ) (e : Unfinished) → IsPrototype text p → ((outcome : Declaration → Outcome) → refuses line ≡ outcome_of_prototype text outcome (a_text p)) → RefusesWith line e → IsNoText text e
 refused_text text p line (Refused told) reads is same = (p, (reads, λ outcome. ap (λ (l : List ℕ). refuses l) same ∙ is outcome))
 refused_text text p line NoMemory reads is same = tt
 refused_text text p line WriteFault reads is same = absurd same
 
-told_text : (text : List ℕ) (f : DeclFault) (e : Unfinished) → Tells (λ o. IsPrototype text (read_as o)) f → IsFaultToldAs f e → IsNoText text e
+told_text : (text : List ℕ) (f : DeclFault) (e : Unfinished) → Tells (λ o. IsPrototype text (read_as o)) f → IsPlaceToldAs text f e → IsNoText text e
 told_text text (decl.BadToken at) e tells_it told =
-    refused_text text (read_as (declaration.bad_token at)) (offset_line at (codes "bad token")) e tells_it (λ outcome. refl) told
+    refused_text text (read_as (declaration.bad_token at)) (marked_line text at (codes "bad token")) e tells_it (λ outcome. refl) told
 told_text text (decl.Unexpected at) e tells_it told =
-    refused_text text (read_as (declaration.unexpected at)) (offset_line at (codes "unexpected")) e tells_it (λ outcome. refl) told
+    refused_text text (read_as (declaration.unexpected at)) (unexpected_line text at) e tells_it (λ outcome. refl) told
 told_text text (decl.BadNumber at) e tells_it told =
-    refused_text text (read_as (declaration.bad_number at)) (offset_line at (codes "bad number")) e tells_it (λ outcome. refl) told
+    refused_text text (read_as (declaration.bad_number at)) (marked_line text at (codes "bad number")) e tells_it (λ outcome. refl) told
 told_text text (decl.Sig f) e tells_it told =
     refused_text text (read_as (declaration.bad_signature (signature_fault_of f))) (reason_line (text_of_reason (reason_of_fault (signature_fault_of f)))) e tells_it (λ outcome. refl) told
 told_text text decl.NoMemory e tells_it told =
@@ -178,10 +178,10 @@ unsigned_fault text d (decl.Sig f) reads is = has_fault_unsigned reads is (λ d 
 unsigned_fault text d decl.NoMemory reads is = tt
 
 -- the fault of the reading where `char` is signed, or of the other
-pub refused_signed : (text : List ℕ) (f : DeclFault) (e : Unfinished) → Tells (declaration.IsReadingIn wide signed text) f → IsFaultToldAs f e → IsNoText text e
+pub refused_signed : (text : List ℕ) (f : DeclFault) (e : Unfinished) → Tells (declaration.IsReadingIn wide signed text) f → IsPlaceToldAs text f e → IsNoText text e
 refused_signed text f e is told = told_text text f e (signed_fault text f is) told
 
-pub refused_unsigned : (text : List ℕ) (d : Declaration) (f : DeclFault) (e : Unfinished) → declaration.IsReadingIn wide signed text (declaration.reads d) → Tells (declaration.IsReadingIn wide unsigned text) f → IsFaultToldAs f e → IsNoText text e
+pub refused_unsigned : (text : List ℕ) (d : Declaration) (f : DeclFault) (e : Unfinished) → declaration.IsReadingIn wide signed text (declaration.reads d) → Tells (declaration.IsReadingIn wide unsigned text) f → IsPlaceToldAs text f e → IsNoText text e
 refused_unsigned text d f e reads is told =
     told_text text f e (unsigned_fault text d f reads is) told
 
@@ -208,7 +208,7 @@ sign_unsaid_by d e position WriteFault other is same = absurd same
 pub no_prototype : (bytes lent : List ℕ) (e : Unfinished) → length bytes ≤ max_length → IsUtf8 bytes → lent ≡ bytes → IsNoText lent e → IsNoPrototype bytes e
 no_prototype bytes lent (Refused line) short utf8 same (p, (reads, is)) =
     let P = λ (b : List ℕ). IsPrototype b p in
-    λ outcome. (a_text p, ((short, utf8, subst P same reads), is outcome))
+    λ outcome. (a_text p, ((short, utf8, subst P same reads), is outcome ∙ ap (λ (b : List ℕ). outcome_of_prototype b outcome (a_text p)) same))
 no_prototype bytes lent NoMemory short utf8 same is = tt
 no_prototype bytes lent WriteFault short utf8 same is = absurd is
 
@@ -224,11 +224,20 @@ pub fault_told_as : (f g : DeclFault) (e : Unfinished) → f ≡ g → IsFaultTo
 fault_told_as f g e same told =
     let P = λ (x : DeclFault). IsFaultToldAs x e in subst P (sym same) told
 
+pub place_told_as : (text : List ℕ) (f g : DeclFault) (e : Unfinished) → f ≡ g → IsPlaceToldAs text g e → IsPlaceToldAs text f e
+place_told_as text f g e same told =
+    let P = λ (x : DeclFault). IsPlaceToldAs text x e in subst P (sym same) told
+
 -- the fault of a signature, by its reason
 pub reason_told : (f : DeclFault) (s : SigFault) (r : Reason) (e : Unfinished) → f ≡ decl.Sig s → reason_of r ≡ reason_of_fault (signature_fault_of s) → RefusesWith (reason_line (text_of_reason (reason_of r))) e → IsFaultToldAs f e
 reason_told f s r e same is told =
     let P = λ (x : language.Reason). RefusesWith (reason_line (text_of_reason x)) e in
     fault_told_as f (decl.Sig s) e same (subst P is told)
+
+pub reason_told_there : (text : List ℕ) (f : DeclFault) (s : SigFault) (r : Reason) (e : Unfinished) → f ≡ decl.Sig s → reason_of r ≡ reason_of_fault (signature_fault_of s) → RefusesWith (reason_line (text_of_reason (reason_of r))) e → IsPlaceToldAs text f e
+reason_told_there text f s r e same is told =
+    let P = λ (x : language.Reason). RefusesWith (reason_line (text_of_reason x)) e in
+    place_told_as text f (decl.Sig s) e same (subst P is told)
 
 -- what is read can be written
 pub read_is_writable : (bytes : List ℕ) (d : Declaration) → declaration.IsReading bytes (declaration.reads d) → IsWritable d

@@ -11,6 +11,9 @@ use Rattle.ffi3_cdecl_rules.specs.Grammar.{Declaration}
 use Rattle.ffi3_cdecl_rules.specs.Canonical.{declaration_text, FixesAll, IsIdentifier}
 use Rattle.ffi3_cdecl_rules.specs.Prototype.{Prototype, read_as, sign_unsaid, IsPrototype, prototype_text}
 use Rattle.ffi3_cdecl_rules.specs.Reading as declaration
+use Rattle.ffi3_cdecl_rules.specs.Telling.{tell}
+use Rattle.ffi3_cdecl_rules.specs.Tokens.{signed}
+use Rattle.ffi3_cdecl_rules.specs.ToldText.{told_words, lines_at}
 use Rattle.ffi3_words.specs.Words.{target_word}
 use Rattle.ffi3_explain_rules.specs.Standards.{standard_of}
 use Rattle.ffi3_app.specs.Commands.{place_lines}
@@ -52,6 +55,15 @@ offset_line at words = a_line (codes "ffi3: at " ++ (decimal at ++ (codes ": " +
 -- the line of the first fault of a signature, told as scripts tell it
 abbrev pub reason_line : List ℕ → List ℕ
 reason_line words = a_line (codes "ffi3: " ++ words)
+
+-- of a text the same, and below it the line that has the place, with a mark
+abbrev pub marked_line : List ℕ → ℕ → List ℕ → List ℕ
+marked_line text at words = offset_line at words ++ lines_at text at
+
+-- of a place that is unexpected; what is told there is what is to be told (`fault_laws`), wherever a `char` is signed or not
+abbrev pub unexpected_line : List ℕ → ℕ → List ℕ
+unexpected_line text at =
+    marked_line text at (told_words text at (tell signed text at))
 
 -- the name of a value, as the lines of `place` have it
 abbrev pub position_name : Position → List ℕ

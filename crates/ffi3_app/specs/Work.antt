@@ -17,10 +17,12 @@ use Rattle.ffi3_script_rules.specs.ReasonText.{text_of_reason}
 use Rattle.ffi3_script_rules.specs.Script.{Script}
 use Rattle.ffi3_status.specs.FaultLines.{ReportsFault, no_memory_line, write_fault_line}
 use Rattle.ffi3_types.specs.SignatureFaultOf.{signature_fault_of}
-use Rattle.ffi3_app.specs.Declarations.{Input, a_text, IsInput, IsReadPlainly, offset_line, reason_line, sign_line}
+use Rattle.ffi3_app.specs.Declarations.{Input, a_text, IsInput, IsReadPlainly, offset_line, reason_line, marked_line}
+use Rattle.ffi3_app.specs.Declarations.{unexpected_line, sign_line}
 use Rattle.ffi3_app.specs.declared.unfinished.Unfinished.{Unfinished}
 use Rattle.ffi3_app.specs.declared.unfinished.Unfinished.TheVariants.{Refused, NoMemory, WriteFault}
-use Rattle.ffi3_app.specs.Outcome.{Outcome, refuses, located_line, outcome_of_input, IsOfScript, IsDone, IsDoneInPart}
+use Rattle.ffi3_app.specs.Outcome.{Outcome, refuses, located_line, outcome_of_input, outcome_of_prototype, IsOfScript}
+use Rattle.ffi3_app.specs.Outcome.{IsDone, IsDoneInPart}
 
 -- WHAT CAME OF WORK whose outcomes are these: one of them is done; or the input is refused by one of them; or one is done in part
 abbrev pub Works : (Outcome → Type 0) → SinkState → SinkState → State → State → Result ℕ Unfinished → Type 0
@@ -82,28 +84,41 @@ IsFaultToldAs (decl.Sig f) e =
     RefusesWith (reason_line (text_of_reason (reason_of_fault (signature_fault_of f)))) e
 IsFaultToldAs decl.NoMemory e = e ≡ NoMemory
 
--- By a reading of texts bytes are no declaration: they are refused, whatever is done with a declaration; or there was no memory.
-abbrev pub IsNoInput : (List ℕ → Prototype → Type 0) → List ℕ → Unfinished → Type 0
-IsNoInput IsRead bytes (Refused line) =
+-- A FAULT OF A PROTOTYPE in this text is told as this: by its lines, or as want of memory
+abbrev pub IsPlaceToldAs : List ℕ → DeclFault → Unfinished → Type 0
+IsPlaceToldAs text (decl.BadToken at) e =
+    RefusesWith (marked_line text at (codes "bad token")) e
+IsPlaceToldAs text (decl.Unexpected at) e = RefusesWith (unexpected_line text at) e
+IsPlaceToldAs text (decl.BadNumber at) e =
+    RefusesWith (marked_line text at (codes "bad number")) e
+IsPlaceToldAs text (decl.Sig f) e =
+    RefusesWith (reason_line (text_of_reason (reason_of_fault (signature_fault_of f)))) e
+IsPlaceToldAs text decl.NoMemory e = e ≡ NoMemory
+
+-- By a reading of texts, and what an input comes to by it, bytes are no declaration: they are refused, whatever is done with a declaration; or there was no memory.
+abbrev pub IsNoInput : (List ℕ → Prototype → Type 0) → ((Declaration → Outcome) → Input → Outcome) → List ℕ → Unfinished
+    → Type 0
+IsNoInput IsRead outcome_of bytes (Refused line) =
     (outcome : Declaration → Outcome)
-    → (i : Input) × IsInput IsRead bytes i × (refuses line ≡ outcome_of_input outcome i)
-IsNoInput IsRead bytes NoMemory = Unit {0}
-IsNoInput IsRead bytes WriteFault = ⊥
+    → (i : Input) × IsInput IsRead bytes i × (refuses line ≡ outcome_of outcome i)
+IsNoInput IsRead outcome_of bytes NoMemory = Unit {0}
+IsNoInput IsRead outcome_of bytes WriteFault = ⊥
 
 -- no declaration of the plain reading
 abbrev pub IsNoDeclaration : List ℕ → Unfinished → Type 0
-IsNoDeclaration bytes e = IsNoInput IsReadPlainly bytes e
+IsNoDeclaration bytes e = IsNoInput IsReadPlainly outcome_of_input bytes e
 
 -- no prototype for all targets
 abbrev pub IsNoPrototype : List ℕ → Unfinished → Type 0
-IsNoPrototype bytes e = IsNoInput IsPrototype bytes e
+IsNoPrototype bytes e =
+    IsNoInput IsPrototype (outcome_of_prototype bytes) bytes e
 
 -- a text is no prototype for all targets, and this line says so; or there was no memory
 abbrev pub IsNoText : List ℕ → Unfinished → Type 0
 IsNoText text (Refused line) =
     (p : Prototype)
     × IsPrototype text p
-    × ((outcome : Declaration → Outcome) → refuses line ≡ outcome_of_input outcome (a_text p))
+    × ((outcome : Declaration → Outcome) → refuses line ≡ outcome_of_prototype text outcome (a_text p))
 IsNoText text NoMemory = Unit {0}
 IsNoText text WriteFault = ⊥
 

@@ -30,8 +30,8 @@ pub fn declaration_in(alloc: Global, bytes: &[u8]) -> Result<Declaration, Unfini
     }
 }
 
-/// What a fault of a declaration is told as.
-pub fn refusal(alloc: Global, fault: &DeclFault) -> Unfinished
+// What a fault of a declaration is told as.
+fn refusal(alloc: Global, fault: &DeclFault) -> Unfinished
     ensures { IsFaultToldAs fault.now result }
 {
     match fault {

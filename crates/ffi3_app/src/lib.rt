@@ -5,6 +5,7 @@ mod cdecl;
 mod cplace;
 mod declaration;
 mod layout;
+mod marking;
 mod names;
 mod place;
 mod prototype;

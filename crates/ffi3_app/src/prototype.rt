@@ -10,7 +10,8 @@ ghost use Rattle.ffi3_types.specs.SignatureFaultOf.{position_of};
 ghost use Rattle.ffi3_types.specs.TreeOf.{tree_of};
 ghost use Rattle.ffi3_app.specs.Work.{IsNoPrototype, IsNoText, IsSignUnsaid};
 
-use crate::declaration::{reason_line, refusal};
+use crate::declaration::reason_line;
+use crate::marking::place_refusal;
 use crate::unfinished::{Unfinished, refused, words};
 use ffi3_cdecl::{Declaration, Sign, read_wide_decl};
 use ffi3_json::MAX_LENGTH;
@@ -43,7 +44,7 @@ fn by_both_signs(alloc: Global, text: &str) -> Result<Declaration, Unfinished>
 {
     match read_wide_decl(alloc, Sign::Signed, text) {
         Ok(declaration) => by_other_sign(alloc, text, declaration),
-        Err(fault) => Err(refusal(alloc, &fault)),
+        Err(fault) => Err(place_refusal(alloc, text, &fault)),
     }
 }
 
@@ -59,7 +60,7 @@ fn by_other_sign(
 {
     match read_wide_decl(alloc, Sign::Unsigned, text) {
         Ok(other) => if_alike(alloc, declaration, &other),
-        Err(fault) => Err(refusal(alloc, &fault)),
+        Err(fault) => Err(place_refusal(alloc, text, &fault)),
     }
 }
 

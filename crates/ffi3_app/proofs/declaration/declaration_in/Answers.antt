@@ -3,18 +3,19 @@ use Rattle.std.specs.Prelude.{codes}
 use Rattle.ffi3_run_rules.specs.Lines.{a_line}
 use Rattle.ffi3_script_rules.specs.Reading.{max_length}
 use Rattle.ffi3_app.specs.Declarations.{too_many_bytes, not_utf8, IsReadPlainly}
+use Rattle.ffi3_app.specs.Outcome.{outcome_of_input}
 use Rattle.ffi3_app.proofs.Working.{refused_input, refused_fault, read_is_writable, tells_lent}
 use Rattle.ffi3_app.proofs.declaration.declaration_in.Goals as goal
 
 pub returns-then-bytes-gt-MAX_LENGTH-clause-refused : goal.returns-then-bytes-gt-MAX_LENGTH-clause-refused
 returns-then-bytes-gt-MAX_LENGTH-clause-refused c =
     let long : max_length < length c.args.bytes.now = search rules in
-    refused_input IsReadPlainly c.args.bytes.now too_many_bytes (a_line (codes "ffi3: input too long")) c.refused.result long (λ outcome. refl) (c.refused.ensures (a_line (codes "ffi3: input too long")) c.words.ensures)
+    refused_input IsReadPlainly outcome_of_input c.args.bytes.now too_many_bytes (a_line (codes "ffi3: input too long")) c.refused.result long (λ outcome. refl) (c.refused.ensures (a_line (codes "ffi3: input too long")) c.words.ensures)
 
 pub returns-in_default-clause-refused : goal.returns-in_default-clause-refused
 returns-in_default-clause-refused c =
     let short : length c.args.bytes.now ≤ max_length = search rules in
-    refused_input IsReadPlainly c.args.bytes.now not_utf8 (a_line (codes "ffi3: not UTF-8")) c.refused-in_default.result (short, c.in_default.ensures.cases.0) (λ outcome. refl) (c.refused-in_default.ensures (a_line (codes "ffi3: not UTF-8")) c.words-in_default.ensures)
+    refused_input IsReadPlainly outcome_of_input c.args.bytes.now not_utf8 (a_line (codes "ffi3: not UTF-8")) c.refused-in_default.result (short, c.in_default.ensures.cases.0) (λ outcome. refl) (c.refused-in_default.ensures (a_line (codes "ffi3: not UTF-8")) c.words-in_default.ensures)
 
 pub returns-in-Ok-read_decl-clause-writable : goal.returns-in-Ok-read_decl-clause-writable
 returns-in-Ok-read_decl-clause-writable c =

@@ -1,0 +1,24 @@
+use Rattle.std.specs.Prelude.{codes}
+use Rattle.ffi3_cdecl.specs.declared.fault.DeclFault.TheVariants.{BadToken, Unexpected, BadNumber}
+use Rattle.ffi3_json.specs.ReasonOf.{reason_of}
+use Rattle.ffi3_script_rules.specs.ReasonText.{text_of_reason}
+use Rattle.ffi3_app.specs.Declarations.{marked_line, unexpected_line, reason_line}
+use Rattle.ffi3_app.proofs.Working.{place_told_as, reason_told_there}
+use Rattle.ffi3_app.proofs.marking.place_refusal.Goals as goal
+
+pub returns-in-BadToken : goal.returns-in-BadToken
+returns-in-BadToken c =
+    place_told_as c.args.text.now c.args.fault.now (BadToken c.in-BadToken.at) c.refused.result c.in-BadToken.is (c.refused.ensures (marked_line c.args.text.now c.in-BadToken.at (codes "bad token")) c.marked_line.ensures)
+
+pub returns-in-Unexpected : goal.returns-in-Unexpected
+returns-in-Unexpected c =
+    place_told_as c.args.text.now c.args.fault.now (Unexpected c.in-Unexpected.at) c.refused-in-Unexpected.result c.in-Unexpected.is (c.refused-in-Unexpected.ensures (unexpected_line c.args.text.now c.in-Unexpected.at) c.unexpected_line.ensures)
+
+pub returns-in-BadNumber : goal.returns-in-BadNumber
+returns-in-BadNumber c =
+    place_told_as c.args.text.now c.args.fault.now (BadNumber c.in-BadNumber.at) c.refused-in-BadNumber.result c.in-BadNumber.is (c.refused-in-BadNumber.ensures (marked_line c.args.text.now c.in-BadNumber.at (codes "bad number")) c.marked_line-in-BadNumber.ensures)
+
+pub returns-in-Sig : goal.returns-in-Sig
+returns-in-Sig c =
+    let words = text_of_reason (reason_of c.reason_of_signature-reason.result) in
+    reason_told_there c.args.text.now c.args.fault.now c.in-Sig.fault c.reason_of_signature-reason.result c.refused-in-Sig.result c.in-Sig.is c.reason_of_signature-reason.ensures (c.refused-in-Sig.ensures (reason_line words) (c.reason_line.ensures words c.reason_text.ensures))

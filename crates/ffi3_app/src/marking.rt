@@ -1,0 +1,56 @@
+//! The lines that refuse a prototype: the fault of its text, and the text's line with a mark at the place.
+ghost use Rattle.std.specs.Prelude.{◌≡◌, IfOk};
+ghost use Rattle.ffi3_app.specs.Declarations.{marked_line, unexpected_line};
+ghost use Rattle.ffi3_app.specs.Work.{IsPlaceToldAs};
+
+use crate::declaration::reason_line;
+use crate::unfinished::{Unfinished, refused};
+use ffi3_cdecl::{DeclFault, Sign, lines_at, tell, told_words};
+use ffi3_json::{reason_of_signature, reason_text};
+use ffi3_types::{Bytes, NoMemory};
+use std::alloc::Global;
+
+/// What a fault of a prototype in a text is told as.
+pub fn place_refusal(alloc: Global, text: &str, fault: &DeclFault) -> Unfinished
+    ensures { IsPlaceToldAs text.now fault.now result }
+{
+    match fault {
+        DeclFault::BadToken { at } => refused(marked_line(
+            alloc,
+            text,
+            *at,
+            "bad token".as_bytes(),
+        )),
+        DeclFault::Unexpected { at } => refused(unexpected_line(alloc, text, *at)),
+        DeclFault::BadNumber { at } => {
+            refused(marked_line(alloc, text, *at, "bad number".as_bytes()))
+        }
+        DeclFault::Sig(fault) => {
+            let reason = reason_of_signature(fault);
+            refused(reason_line(alloc, reason_text(alloc, &reason)))
+        }
+        DeclFault::NoMemory => Unfinished::NoMemory,
+    }
+}
+
+// The line of a fault at an offset, and the text's line with a mark.
+fn marked_line(alloc: Global, text: &str, at: u64, words: &[u8]) -> Result<Bytes, NoMemory>
+    ensures { IfOk result (λ lines. lines ≡ marked_line text.now at words.now) }
+{
+    let mut lines = Bytes::from_slice(alloc, "ffi3: at ".as_bytes())?;
+    lines.extend(format!(in alloc; "{at}")?.as_bytes())?;
+    lines.extend(": ".as_bytes())?;
+    lines.extend(words)?;
+    lines.push(b'\n')?;
+    lines.extend(lines_at(alloc, text, at as usize)?.as_slice())?;
+    Ok(lines)
+}
+
+// Those of a place that is unexpected.
+fn unexpected_line(alloc: Global, text: &str, at: u64) -> Result<Bytes, NoMemory>
+    ensures { IfOk result (λ lines. lines ≡ unexpected_line text.now at) }
+{
+    let told = tell(alloc, Sign::Signed, text, at as usize)?;
+    let words = told_words(alloc, text, at as usize, &told)?;
+    marked_line(alloc, text, at, words.as_slice())
+}
