@@ -5,7 +5,8 @@ ghost use Rattle.ffi3_app.specs.Work.{IsPlaceToldAs};
 
 use crate::declaration::reason_line;
 use crate::unfinished::{Unfinished, refused};
-use ffi3_cdecl::{DeclFault, Sign, lines_at, tell, told_words};
+use ffi3_cdecl::{DeclFault, Sign};
+use ffi3_diagnostics::{lines_at, tell, told_words};
 use ffi3_json::{reason_of_signature, reason_text};
 use ffi3_types::{Bytes, NoMemory};
 use std::alloc::Global;

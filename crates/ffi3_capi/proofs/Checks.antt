@@ -7,8 +7,8 @@ use Rattle.ffi3_type_rules.specs.Signature.{Signature, SignatureFault, too_many,
 use Rattle.ffi3_cdecl_rules.specs.Tokens.{wide, Sign}
 use Rattle.ffi3_cdecl_rules.specs.Reading.{bad_token, unexpected, bad_number, bad_signature, IsReadingIn}
 use Rattle.ffi3_cdecl_rules.specs.Reasons.{Told, IsTold}
-use Rattle.ffi3_cdecl.specs.declared.expected.Expected.{Expected}
-use Rattle.ffi3_cdecl.specs.ToldOf.{expected_of, kinds_of}
+use Rattle.ffi3_diagnostics.specs.declared.expected.Expected.{Expected}
+use Rattle.ffi3_diagnostics.specs.ToldOf.{expected_of, kinds_of}
 use Rattle.ffi3_capi.specs.declared.codes.TheConstants.{DONE, NOT_DECLARED}
 use Rattle.ffi3_capi.specs.declared.checking.CheckedText.{CheckedText}
 use Rattle.ffi3_capi.specs.declared.fault.TextFault.{TextFault}

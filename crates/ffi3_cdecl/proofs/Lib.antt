@@ -13,5 +13,3 @@ pub mod Comments
 pub mod Following
 pub mod Attributes
 pub mod Marks
-pub mod Reaching
-pub mod Wording

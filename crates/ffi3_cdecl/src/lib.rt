@@ -6,7 +6,6 @@ mod bytes;
 mod decl;
 mod declaration;
 mod declarator;
-mod expected;
 mod fault;
 mod followed;
 mod integers;
@@ -19,20 +18,19 @@ mod settled;
 mod state;
 mod step;
 mod text;
-mod token;
-mod told;
-mod told_text;
-mod track;
+pub mod token;
 mod words;
 
+/// Whether a byte is a blank between tokens.
+pub use bytes::is_blank;
 pub use decl::{read_decl, read_wide_decl};
 pub use declaration::Declaration;
-pub use expected::Expected;
 pub use fault::DeclFault;
 /// A want of memory: the one answer that no clause ties to a cause.
 pub use ffi3_types::NoMemory;
+/// The reader's states, and its step, for what tells how far a text could have gone.
+pub use read::{finished, is_dead, step};
+pub use said::Kind;
+pub use state::{State, Where, Wide, declarator};
 pub use text::{decl_text, prototype_text};
 pub use token::Sign;
-pub use told::{Reason, Told, tell};
-pub use told_text::{lines_at, told_words};
-pub use track::Base;

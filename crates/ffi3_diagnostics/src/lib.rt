@@ -1,0 +1,12 @@
+//! What a person is told of a text that is no declaration: what stands at the place, what could, why, and the line.
+#![tactic(auto)]
+
+mod expected;
+mod told;
+mod told_text;
+mod track;
+
+pub use expected::Expected;
+pub use told::{Reason, Told, tell};
+pub use told_text::{lines_at, told_words};
+pub use track::Base;
