@@ -1,16 +1,17 @@
 -- What is reached and told, one byte, one word and one kind at a time.
 use Rattle.std.proofs.Common.{◌≡◌, ℕ, zero, suc, ◌+◌, ◌-◌, ◌<◌, ◌≤◌, Bool, true, false, List, [], ◌∷◌, ◌++◌, length, get_or, drop, take, ap, sym, refl, subst, ◌∙◌, arith}
-use Rattle.std.specs.Prelude.{cond, not, ◌||◌, Option, None}
+use Rattle.std.specs.Prelude.{cond, not, ◌||◌, Option, None, is_some}
 use Rattle.std.proofs.lemmas.List.{drop_more, drop_all}
 use Rattle.ffi3_cdecl_rules.specs.Tokens.{wide, Sign, Token, type_word, sign_word, const_word, short_word, int_word, long_word, int128_word, char_word, void_word, struct_word, union_word, enum_word, complex_word, attribute_word, other_keyword, name, number, open_round, close_round, open_curly, close_curly, open_square, close_square, comma, semicolon, star, dots, Found, blank, skipped, nothing_known, found, found_in}
-use Rattle.ffi3_cdecl_rules.specs.Machine.{State, is_dead}
+use Rattle.ffi3_cdecl_rules.specs.Machine.{State, is_dead, finish}
 use Rattle.ffi3_cdecl_rules.specs.OnePass.{keeping}
 use Rattle.ffi3_cdecl_rules.specs.Expected as rules
-use Rattle.ffi3_cdecl_rules.specs.Expected.{every_kind, a_word}
+use Rattle.ffi3_cdecl_rules.specs.Expected.{every_kind, a_word, the_end}
+use Rattle.ffi3_cdecl_rules.specs.Grammar.{Declaration}
 use Rattle.ffi3_cdecl_rules.specs.Reading.{unexpected, IsReadingIn}
 use Rattle.ffi3_cdecl_rules.specs.Reasons as reasons
 use Rattle.ffi3_cdecl_rules.specs.Reasons.{Base, IsTold}
-use Rattle.ffi3_cdecl_rules.specs.Telling.{lives, could, those, expected, one_lives, specifier_words, Track, behind_base, tracked, sized, reason_of_base, reason_by, reason_at, told_at_end, Reached, reaching, reach, reach_found, nothing_reached, told_found, told_behind, tell}
+use Rattle.ffi3_cdecl_rules.specs.Telling.{lives, wants_a_type, could, those, expected, one_lives, specifier_words, Track, behind_base, tracked, sized, reason_of_base, reason_by, reason_at, told_at_end, Reached, reaching, reach, reach_found, nothing_reached, told_found, told_behind, tell}
 use Rattle.ffi3_cdecl_rules.proofs.Told.{kept_count, told}
 use Rattle.ffi3_diagnostics.specs.declared.expected.Expected.{Expected}
 use Rattle.ffi3_diagnostics.specs.declared.track.Base.{Base as CodeBase}
@@ -63,16 +64,24 @@ reach_end c bs at inside stop q h =
 
 -- ---- a token more
 
-pub kept_lives : (s t : State) (x : Token) → t ≡ keeping wide s x → not (is_dead t) ≡ lives s x
-kept_lives s t x e = ap (λ r. not (is_dead r)) e ∙ ap not (kept_count s x)
+pub kept_lives : (s t : State) (x : Token) (d : Bool) → t ≡ keeping wide s x → d ≡ is_dead t → not d ≡ lives s x
+kept_lives s t x d e f =
+    ap not f ∙ ap (λ r. not (is_dead r)) e ∙ ap not (kept_count s x)
 
 -- what is reached with one token more
 pub reached_with : (s t : State) (y z : Track) (x : Token) → s ≡ keeping wide t x → z ≡ tracked t y x → record { state = s; track = z } ≡ reaching (record { state = t; track = y }) x
 reached_with s t y z x e f = λ i. record { state = e i; track = f i }
 
--- the state of what is reached, and what is kept beside it
-pub state_reached : (s : State) (y : Track) (q : Reached) → record { state = s; track = y } ≡ q → s ≡ q.state
-state_reached s y q e = ap (λ (r : Reached). r.state) e
+-- what is said of the state of what is reached
+pub lives_reached : (s : State) (y : Track) (q : Reached) (x : Token) (b : Bool) → record { state = s; track = y } ≡ q → b ≡ lives s x → b ≡ lives q.state x
+lives_reached s y q x b e f = f ∙ ap (λ (r : Reached). lives r.state x) e
+
+pub type_reached : (s : State) (y : Track) (q : Reached) (b : Bool) → record { state = s; track = y } ≡ q → b ≡ wants_a_type s → b ≡ wants_a_type q.state
+type_reached s y q b e f = f ∙ ap (λ (r : Reached). wants_a_type r.state) e
+
+pub end_reached : (s : State) (y : Track) (q : Reached) (d : Option Declaration) (b : Bool) → record { state = s; track = y } ≡ q → d ≡ finish s → b ≡ is_some d → b ≡ could q.state the_end
+end_reached s y q d b e f g =
+    g ∙ ap (λ o. is_some o) f ∙ ap (λ (r : Reached). is_some (finish r.state)) e
 
 pub reason_by_base : (s : State) (b : Base) (q : Reached) (x : Token) (l : Bool) → record { state = s; track = behind_base b } ≡ q → l ≡ lives (sized s) x → reason_of_base l b ≡ reason_by q.state q.track x
 reason_by_base s b q x l e f =
@@ -131,8 +140,8 @@ words_more s i h =
     ap (λ xs. one_lives s xs) (drop_more specifier_words i complex_word h)
 
 pub word_lives : (s : State) (i : ℕ) (x : Token) (b : Bool) → i < 11 → x ≡ get_or specifier_words i complex_word → b ≡ lives s x → b ≡ true → true ≡ one_lives s (drop i specifier_words)
-word_lives s i x b h e l yes =
-    or_more (lives s (get_or specifier_words i complex_word)) (one_lives s (drop (i + 1) specifier_words)) (ap (λ y. lives s y) (sym e) ∙ sym l ∙ yes) ∙ sym (words_more s i h)
+word_lives s i x b h e l live =
+    or_more (lives s (get_or specifier_words i complex_word)) (one_lives s (drop (i + 1) specifier_words)) (ap (λ y. lives s y) (sym e) ∙ sym l ∙ live) ∙ sym (words_more s i h)
 
 pub word_dead : (s : State) (i : ℕ) (x : Token) (b : Bool) → i < 11 → x ≡ get_or specifier_words i complex_word → b ≡ lives s x → b ≡ false → one_lives s (drop (i + 1) specifier_words) ≡ one_lives s (drop i specifier_words)
 word_dead s i x b h e l none =
@@ -163,8 +172,8 @@ kinds_push [] k more = refl
 kinds_push (t ∷ told) k more = ap (λ ks. expected_of t ∷ ks) (kinds_push told k more)
 
 pub kind_told : (s : State) (i : ℕ) (told : List Expected) (k : Expected) (b : Bool) → i < 15 → expected_of k ≡ get_or every_kind i a_word → b ≡ could s (expected_of k) → b ≡ true → with_those s (told ++ k ∷ []) (i + 1) ≡ with_those s told i
-kind_told s i told k b h e l yes =
-    let first : could s (get_or every_kind i a_word) ≡ true = ap (λ j. could s j) (sym e) ∙ sym l ∙ yes in
+kind_told s i told k b h e l can =
+    let first : could s (get_or every_kind i a_word) ≡ true = ap (λ j. could s j) (sym e) ∙ sym l ∙ can in
     let here : those s (drop i every_kind) ≡ get_or every_kind i a_word ∷ those s (drop (i + 1) every_kind) = kind_more s i h ∙ by_true (could s (get_or every_kind i a_word)) (get_or every_kind i a_word ∷ those s (drop (i + 1) every_kind)) (those s (drop (i + 1) every_kind)) first in
     kinds_push told k (those s (drop (i + 1) every_kind)) ∙ ap (λ j. kinds_of told ++ (j ∷ those s (drop (i + 1) every_kind))) e ∙ ap (λ ks. kinds_of told ++ ks) (sym here)
 
@@ -178,12 +187,12 @@ take_front : (xs ys : List rules.Expected) → take (length xs) (xs ++ ys) ≡ x
 take_front [] ys = refl
 take_front (x ∷ xs) ys = ap (λ zs. x ∷ zs) (take_front xs ys)
 
+take_none : (n : ℕ) → take {A = rules.Expected} n [] ≡ []
+take_none zero = refl
+take_none (suc n) = refl
+
 take_few : (n : ℕ) (xs : List rules.Expected) → length xs ≤ n → take n (xs ++ []) ≡ xs
 take_few n [] h = take_none n
-  where
-    take_none : (n : ℕ) → take n [] ≡ []
-    take_none zero = refl
-    take_none (suc n) = refl
 take_few zero (x ∷ xs) h = absurd (omega (arith, h))
 take_few (suc n) (x ∷ xs) h =
     ap (λ zs. x ∷ zs) (take_few n xs (omega (arith, h)))
@@ -223,7 +232,7 @@ module _ (c : Sign) (text : List ℕ) (at : ℕ) where
   by_found f h e =
       ap (λ bs. told_behind c there bs) (drop_more text at 0 h) ∙ ap (λ g. told_found there g) (sym e)
 
-  same_told : (n m : ℕ) (o p : Option reasons.Reason) (ks js : List rules.Expected) → n ≡ m → o ≡ p → ks ≡ js → record { taken = n; reason = o; expected = ks } ≡ record { taken = m; reason = p; expected = js }
+  same_told : (n m : ℕ) (o p : Option reasons.Reason) (ks js : List rules.Expected) → n ≡ m → o ≡ p → ks ≡ js → ◌≡◌ {A = reasons.Told} (record { taken = n; reason = o; expected = ks }) (record { taken = m; reason = p; expected = js })
   same_told n m o p ks js e f g =
       λ i. record { taken = e i; reason = f i; expected = g i }
 

@@ -15,6 +15,7 @@ use ffi3_cdecl::token::{Dialect, Found, Sign, Token, TypeWord, found_in};
 use ffi3_cdecl::{State, Where, finished, is_dead, step};
 use ffi3_types::NoMemory;
 use std::alloc::{AllocError, Global};
+use std::mem;
 
 /// Why a token is unexpected, where a word tells it.
 #[derive(Clone, Copy, Debug)]
@@ -100,11 +101,13 @@ fn lives(alloc: Global, state: State, token: Token<'_>) -> Result<bool, NoMemory
     ensures { IfOk result (λ b. b ≡ lives (state_of state) (token_of token.entry)) }
 {
     let next = step(alloc, Dialect::Wide, state, token)?;
-    Ok(!is_dead(&next))
+    let dead = is_dead(&next);
+    mem::drop(next);
+    Ok(!dead)
 }
 
 /// Whether the token could stand at an offset.
-#[tactic(auto, using(crate::proofs::Reaching::state_reached))]
+#[tactic(auto, using(crate::proofs::Reaching::lives_reached))]
 fn lives_there(
     alloc: Global,
     c: Sign,
@@ -116,7 +119,8 @@ fn lives_there(
 {
     let q = reach(alloc, c, bytes, stop)?;
     let Reached { state, track: _ } = q;
-    lives(alloc, state, token)
+    let live = lives(alloc, state, token)?;
+    Ok(live)
 }
 
 /// Whether one of the words of lists that name types could, from this number on.
@@ -153,22 +157,28 @@ fn specifier_word(i: usize) -> Token<'static>
 }
 
 /// Whether a type may stand at an offset.
-#[tactic(auto, using(crate::proofs::Reaching::state_reached))]
+#[tactic(auto, using(crate::proofs::Reaching::type_reached))]
 fn type_there(alloc: Global, c: Sign, bytes: &[u8], stop: usize) -> Result<bool, NoMemory>
     ensures { IfOk result (λ b. b ≡ wants_a_type (reach (sign_of c) stop 0 nothing_reached bytes.now).state) }
 {
     let q = reach(alloc, c, bytes, stop)?;
-    Ok(wants_a_type(&q.state))
+    let Reached { state, track: _ } = q;
+    let wanted = wants_a_type(&state);
+    mem::drop(state);
+    Ok(wanted)
 }
 
 /// Whether the text may end there.
-#[tactic(auto, using(crate::proofs::Reaching::state_reached))]
+#[tactic(auto, using(crate::proofs::Reaching::end_reached))]
 fn end_there(alloc: Global, c: Sign, bytes: &[u8], stop: usize) -> Result<bool, NoMemory>
     ensures { IfOk result (λ b. b ≡ could (reach (sign_of c) stop 0 nothing_reached bytes.now).state the_end) }
 {
     let q = reach(alloc, c, bytes, stop)?;
     let Reached { state, track: _ } = q;
-    Ok(finished(state).is_some())
+    let declared = finished(state);
+    let ends = declared.is_some();
+    mem::drop(declared);
+    Ok(ends)
 }
 
 /// Whether a token of this kind could stand at an offset.
@@ -290,25 +300,25 @@ fn reason_of_base<'a>(
                 Ok(None)
             }
         }
-        _ => Ok(None),
+        _ => {
+            mem::drop(state);
+            Ok(None)
+        }
     }
 }
 
-/// What is told of a place of the text that is unexpected, as the fault of `read_wide_decl` has it: how many bytes the
-/// token takes that stands there, the reason where a word tells it, and what could have stood there.
-#[tactic(auto, using(crate::proofs::Reaching::tell_token, crate::proofs::Reaching::tell_blank, crate::proofs::Reaching::tell_skipped, crate::proofs::Reaching::tell_nothing, crate::proofs::Reaching::tell_end, crate::proofs::Reaching::is_told))]
-pub fn tell<'a>(
+/// What is told of a place.
+#[tactic(auto, using(crate::proofs::Reaching::tell_token, crate::proofs::Reaching::tell_blank, crate::proofs::Reaching::tell_skipped, crate::proofs::Reaching::tell_nothing, crate::proofs::Reaching::tell_end))]
+fn told_there<'a>(
     alloc: Global,
-    char_sign: Sign,
-    text: &'a str,
+    c: Sign,
+    bytes: &'a [u8],
     at: usize,
 ) -> Result<Told<'a>, NoMemory>
-    ensures computed { IfOk result (λ t. told_of t ≡ tell (sign_of char_sign) text.now at) }
-    ensures told { IfOk result (λ t. IsReadingIn wide (sign_of char_sign) text.now (unexpected at) → IsTold (sign_of char_sign) text.now at (told_of t)) }
+    ensures computed { IfOk result (λ t. told_of t ≡ tell (sign_of c) bytes.now at) }
     ensures few { IfOk result (λ t. length t.expected.items ≤ 4) }
 {
-    let bytes = text.as_bytes();
-    let expected = kinds(alloc, char_sign, bytes, at)?;
+    let expected = kinds(alloc, c, bytes, at)?;
     if at >= bytes.len() {
         return Ok(Told {
             taken: 0,
@@ -316,12 +326,12 @@ pub fn tell<'a>(
             expected,
         });
     }
-    match found_in(Dialect::Wide, char_sign, bytes, at) {
+    match found_in(Dialect::Wide, c, bytes, at) {
         Found::Token(token, more) => {
             let Some(taken) = more.checked_add(1) else {
                 return Err(AllocError);
             };
-            let reason = reason_there(alloc, char_sign, bytes, at, token)?;
+            let reason = reason_there(alloc, c, bytes, at, token)?;
             Ok(Told {
                 taken,
                 reason,
@@ -344,4 +354,21 @@ pub fn tell<'a>(
             expected,
         }),
     }
+}
+
+/// What is told of a place of the text that is unexpected, as the fault of `read_wide_decl` has it: how many bytes the
+/// token takes that stands there, the reason where a word tells it, and what could have stood there.
+#[tactic(auto, using(crate::proofs::Reaching::is_told))]
+pub fn tell<'a>(
+    alloc: Global,
+    char_sign: Sign,
+    text: &'a str,
+    at: usize,
+) -> Result<Told<'a>, NoMemory>
+    ensures computed { IfOk result (λ t. told_of t ≡ tell (sign_of char_sign) text.now at) }
+    ensures told { IfOk result (λ t. IsReadingIn wide (sign_of char_sign) text.now (unexpected at) → IsTold (sign_of char_sign) text.now at (told_of t)) }
+    ensures few { IfOk result (λ t. length t.expected.items ≤ 4) }
+{
+    let told = told_there(alloc, char_sign, text.as_bytes(), at)?;
+    Ok(told)
 }
