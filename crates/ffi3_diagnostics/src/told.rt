@@ -1,5 +1,5 @@
 // What is told of a place where a text is no declaration, in the wide reading.
-ghost use Rattle.std.specs.Prelude.{◌≡◌, IfOk, ◌<◌, ◌≤◌, get_or, length};
+ghost use Rattle.std.specs.Prelude.{◌≡◌, IfOk, OnOk, ◌<◌, ◌≤◌, get_or, length, cond, ◌++◌, ◌∷◌, []};
 ghost use Rattle.ffi3_cdecl_rules.specs.Tokens.{wide, complex_word};
 ghost use Rattle.ffi3_cdecl_rules.specs.Reading.{IsReadingIn, unexpected};
 ghost use Rattle.ffi3_cdecl_rules.specs.Expected.{every_kind, a_word, the_end};
@@ -69,7 +69,7 @@ fn reaching<'a>(alloc: Global, q: Reached<'a>, token: Token<'a>) -> Result<Reach
 }
 
 /// Behind the tokens that begin before an offset.
-#[tactic(auto, using(crate::proofs::Reaching::reach_inside, crate::proofs::Reaching::reach_blank, crate::proofs::Reaching::reach_skipped, crate::proofs::Reaching::reach_nothing, crate::proofs::Reaching::reach_token, crate::proofs::Reaching::reach_there, crate::proofs::Reaching::reach_end))]
+#[tactic(auto, using(crate::proofs::Reaching::reach_nothing, crate::proofs::Reaching::reach_there, crate::proofs::Reaching::reach_end))]
 fn reach<'a>(alloc: Global, c: Sign, bytes: &'a [u8], stop: usize) -> Result<Reached<'a>, NoMemory>
     ensures { IfOk result (λ q. reached_of q ≡ reach (sign_of c) stop 0 nothing_reached bytes.now) }
 {
@@ -97,7 +97,6 @@ fn reach<'a>(alloc: Global, c: Sign, bytes: &'a [u8], stop: usize) -> Result<Rea
 }
 
 /// Whether the token leads somewhere.
-#[tactic(auto, using(crate::proofs::Reaching::kept_lives))]
 fn lives(alloc: Global, state: State, token: Token<'_>) -> Result<bool, NoMemory>
     ensures { IfOk result (λ b. b ≡ lives (state_of state) (token_of token.entry)) }
 {
@@ -243,8 +242,18 @@ fn kind_number(i: usize) -> Expected
     }
 }
 
+/// One kind more, if it could stand there.
+fn push_if(told: &mut Vec<Expected>, kind: Expected, can: bool) -> Result<(), NoMemory>
+    ensures { OnOk result (told.new.items ≡ cond can (told.old.items ++ kind ∷ []) told.old.items) }
+{
+    if can {
+        told.push(kind)?;
+    }
+    Ok(())
+}
+
 /// The kinds that could stand at an offset: four at most, the first of them.
-#[tactic(auto, using(crate::proofs::Reaching::kind_told, crate::proofs::Reaching::kind_not_told, crate::proofs::Reaching::enough_told, crate::proofs::Reaching::all_told, crate::proofs::Reaching::one_more_is_few))]
+#[tactic(auto, using(crate::proofs::Reaching::kind_turn, crate::proofs::Reaching::still_few, crate::proofs::Reaching::no_kind_told, crate::proofs::Reaching::enough_told, crate::proofs::Reaching::all_told))]
 fn kinds(alloc: Global, c: Sign, bytes: &[u8], stop: usize) -> Result<Vec<Expected>, NoMemory>
     ensures value { IfOk result (λ v. kinds_of v.items ≡ expected (reach (sign_of c) stop 0 nothing_reached bytes.now).state) }
     ensures few { IfOk result (λ v. length v.items ≤ 4) }
@@ -255,9 +264,8 @@ fn kinds(alloc: Global, c: Sign, bytes: &[u8], stop: usize) -> Result<Vec<Expect
             return Ok(told);
         }
         let kind = kind_number(i);
-        if could(alloc, c, bytes, stop, kind)? {
-            told.push(kind)?;
-        }
+        let can = could(alloc, c, bytes, stop, kind)?;
+        push_if(&mut told, kind, can)?;
     }
     Ok(told)
 }
