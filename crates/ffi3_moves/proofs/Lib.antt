@@ -8,5 +8,5 @@ pub mod Passing
 pub mod Whole
 pub mod Collecting
 pub mod Returning
-pub mod Told
+pub mod Telling
 mod Rows

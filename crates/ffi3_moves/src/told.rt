@@ -75,13 +75,7 @@ fn put_pieces_in(
 }
 
 // From the last to the first.
-fn put_pieces_out(
-    told: &mut [ToldMove],
-    at: usize,
-    part: u32,
-    to: u64,
-    pieces: &Pieces,
-) -> usize
+fn put_pieces_out(told: &mut [ToldMove], at: usize, part: u32, to: u64, pieces: &Pieces) -> usize
     requires low { to < 2 ^ 32 }
     requires room { at + length pieces.now ≤ length told.old }
     ensures end { result ≡ at + length pieces.now }

@@ -1,6 +1,6 @@
 use Rattle.std.proofs.Common.{length, ap, sym, ◌∙◌}
 use Rattle.ffi3_moves.specs.Moves.{argument_in}
-use Rattle.ffi3_moves.proofs.Told.{pieces_in_count}
+use Rattle.ffi3_moves.proofs.Telling.{pieces_in_count}
 use Rattle.ffi3_moves.proofs.told.count_of_argument_in.Goals as goal
 
 pub returns-in-Direct : goal.returns-in-Direct

@@ -3,7 +3,7 @@ use Rattle.ffi3_type_rules.specs.Tree.{tree_at}
 use Rattle.ffi3_place_rules.specs.Standard.{plan_of}
 use Rattle.ffi3_place_rules.proofs.Elements.{argument_read}
 use Rattle.ffi3_moves.proofs.Turns.{place_read}
-use Rattle.ffi3_moves.proofs.Told.{counted_in}
+use Rattle.ffi3_moves.proofs.Telling.{counted_in}
 use Rattle.ffi3_moves.proofs.told.count_of_arguments_in.Goals as goal
 
 pub loop-i-preserved : goal.loop-i-preserved

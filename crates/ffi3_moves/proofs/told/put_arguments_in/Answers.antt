@@ -5,7 +5,7 @@ use Rattle.ffi3_place_rules.specs.Standard.{plan_of, round8}
 use Rattle.ffi3_place_rules.proofs.Elements.{argument_read}
 use Rattle.ffi3_moves.specs.Moves.{argument_in, arguments_in}
 use Rattle.ffi3_moves.proofs.Turns.{place_read}
-use Rattle.ffi3_moves.proofs.Told.{argument_told_in, left_in}
+use Rattle.ffi3_moves.proofs.Telling.{argument_told_in, left_in}
 use Rattle.ffi3_moves.proofs.told.put_arguments_in.Goals as goal
 
 pub put_argument_in-at-requires-clause-room : goal.put_argument_in-at-requires-clause-room

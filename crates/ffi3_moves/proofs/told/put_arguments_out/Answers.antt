@@ -5,7 +5,7 @@ use Rattle.ffi3_place_rules.specs.Standard.{plan_of, round8}
 use Rattle.ffi3_place_rules.proofs.Elements.{argument_read}
 use Rattle.ffi3_moves.specs.Moves.{argument_out, arguments_out}
 use Rattle.ffi3_moves.proofs.Turns.{place_read}
-use Rattle.ffi3_moves.proofs.Told.{argument_told_out, left_out}
+use Rattle.ffi3_moves.proofs.Telling.{argument_told_out, left_out}
 use Rattle.ffi3_moves.proofs.told.put_arguments_out.Goals as goal
 
 pub put_argument_out-at-requires-clause-room : goal.put_argument_out-at-requires-clause-room

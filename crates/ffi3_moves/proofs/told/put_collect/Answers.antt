@@ -1,5 +1,5 @@
 use Rattle.ffi3_moves.specs.Moves.{collect_moves}
-use Rattle.ffi3_moves.proofs.Told.{told_front}
+use Rattle.ffi3_moves.proofs.Telling.{told_front}
 use Rattle.ffi3_moves.proofs.told.put_collect.Goals as goal
 
 pub returns : goal.returns

@@ -1,5 +1,5 @@
 use Rattle.std.proofs.Common.{◌<◌, length, arith}
-use Rattle.ffi3_moves.proofs.Told.{piece_told_in}
+use Rattle.ffi3_moves.proofs.Telling.{piece_told_in}
 use Rattle.ffi3_moves.proofs.told.put_pieces_in.Goals as goal
 
 pub loop-j-preserved : goal.loop-j-preserved

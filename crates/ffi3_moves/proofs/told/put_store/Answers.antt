@@ -2,7 +2,8 @@ use Rattle.std.proofs.Common.{◌≡◌, ◌+◌, ◌≤◌, length, map, ap, �
 use Rattle.std.proofs.lemmas.List.{length-append}
 use Rattle.ffi3_place_rules.specs.Standard.{plan_of}
 use Rattle.ffi3_moves.specs.Moves.{arguments_in, count_in, store_moves}
-use Rattle.ffi3_moves.proofs.Told.{length_sets, told_both, told_front}
+use Rattle.ffi3_moves.specs.Told.{told_move}
+use Rattle.ffi3_moves.proofs.Telling.{length_sets, told_both, told_front}
 use Rattle.ffi3_moves.proofs.told.put_store.Goals as goal
 
 pub put_arguments_in-end-requires : goal.put_arguments_in-end-requires
@@ -16,7 +17,7 @@ put_count-requires g c =
     let plan = plan_of g.A.Abi.standard c.args.cif.now in
     let arguments = arguments_in 0 0 c.args.cif.now.arguments plan.places in
     let same = ap (λ at. length (count_in at c.vectors.result)) c.vector_count.ensures ∙ ap (λ n. length (count_in g.A.Abi.standard.vector_count n)) c.vectors.ensures in
-    omega (arith, c.requires, same, c.put_arguments_in-end.ensures.end, ap length c.put_arguments_in-end.ensures.put ∙ length_sets _ _ _, length-append arguments (count_in g.A.Abi.standard.vector_count plan.vectors))
+    omega (arith, c.requires, same, c.put_arguments_in-end.ensures.end, ap length c.put_arguments_in-end.ensures.put ∙ length_sets c.args.told.now 0 (map told_move arguments), length-append arguments (count_in g.A.Abi.standard.vector_count plan.vectors))
 
 pub returns : goal.returns
 returns g c =

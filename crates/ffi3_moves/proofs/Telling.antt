@@ -1,6 +1,6 @@
 -- Moves that are written into an array one behind another.
 use Rattle.std.proofs.Common.{◌≡◌, ℕ, suc, ◌+◌, ◌-◌, ◌<◌, ◌≤◌, List, [], ◌∷◌, ◌++◌, length, map, take, drop, set, get_or, cond, ap, sym, ◌∙◌, refl, arith}
-use Rattle.std.proofs.lemmas.List.{map-append, length-map, length-append, length-set, take_more, take-length}
+use Rattle.std.proofs.lemmas.List.{map-append, length-map, length-append, length-set, take_more, take_all}
 use Rattle.std.proofs.lemmas.List.Edits.{sets, sets-eq}
 use Rattle.std.proofs.lemmas.Bool.{le-leb, lt-leb}
 use Rattle.ffi3_type_rules.specs.Tree.{Tree}
@@ -67,8 +67,8 @@ module _ (i at k j n : ℕ) (ps : List Piece) (p : Piece) (m : Move) (x : ToldMo
 
 pub all_taken : {X : Type 0} (ps : List X) (n : ℕ) → n ≡ length ps → take (n - 0) ps ≡ ps
 all_taken ps n is =
-    let all : n - 0 ≡ length ps = omega (arith, is) in
-    ap (λ (l : ℕ). take l ps) all ∙ take-length ps
+    let all : length ps ≤ n - 0 = omega (arith, is) in
+    take_all (n - 0) ps all
 
 pub pieces_out_count : (i at : ℕ) (ps : List Piece) → length (pieces_out i at ps) ≡ length ps
 pieces_out_count i at [] = refl
@@ -146,7 +146,9 @@ pub told_front : (ms : List Move) (old new : List ToldMove) → length ms ≤ le
 told_front ms old new room wrote =
     let xs : List ToldMove = map told_move ms in
     let fits : length xs ≤ length old = omega (arith, room, length-map ms told_move) in
-    wrote ∙ sets-eq xs old 0 fits ∙ sym (ap (λ b. cond {A = List ToldMove} b (xs ++ drop (length xs) old) old) (le-leb (length xs) (length old) fits))
+    let front : 0 + length xs ≤ length old = omega (arith, fits) in
+    let end : 0 + length xs ≡ length xs = omega arith in
+    wrote ∙ sets-eq xs old 0 front ∙ ap (λ (n : ℕ). xs ++ drop n old) end ∙ sym (ap (λ b. cond {A = List ToldMove} b (xs ++ drop (length xs) old) old) (le-leb (length xs) (length old) fits))
 
 -- or not
 pub told_none : (ms : List Move) (old new : List ToldMove) → length old < length ms → new ≡ old → new ≡ told_in ms old
@@ -158,4 +160,5 @@ told_none ms old new short same =
 -- two lists, one behind the other
 pub told_both : (first second : List Move) (old between new : List ToldMove) (end : ℕ) → end ≡ length first → between ≡ sets old 0 (map told_move first) → new ≡ sets between end (map told_move second) → new ≡ sets old 0 (map told_move (first ++ second))
 told_both first second old between new end ends wrote behind =
-    behind ∙ told_turn first second (first ++ second) 0 end old between (sets old 0 (map told_move (first ++ second))) refl ends wrote refl
+    let at_end : end ≡ 0 + length first = omega (arith, ends) in
+    behind ∙ told_turn first second (first ++ second) 0 end old between (sets old 0 (map told_move (first ++ second))) refl at_end wrote refl
