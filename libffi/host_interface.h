@@ -17,8 +17,8 @@ extern const unsigned char slot_code[];
 
 /* ---- stand_in.c */
 
-/* Adds to the key, for a type that its client laid out itself and whose alignment the library has, one that is placed as
- * it is: of the same size, alignment and classes. Answers false where there is none. */
+/* Adds to the key, for a type that its client laid out itself and whose alignment the library has, one that is placed
+ * as it is: of the same size, alignment and classes. Answers false where there is none. */
 bool host_put_stand_in(struct key *key, const ffi_type *type, ffi_abi abi);
 
 /* ---- long_double.c: long double has no proved places yet. What stands here is no proof's. */

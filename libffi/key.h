@@ -61,8 +61,8 @@ static inline void key_put(struct key *key, uint32_t kind, uint32_t count)
     key->kinds |= kind;
 }
 
-/* Adds so many bytes, with its alignment, in the place of a type of which nothing else counts. Answers false where there
- * are none such. */
+/* Adds so many bytes, with its alignment, in the place of a type of which nothing else counts. Answers false where
+ * there are none such. */
 bool key_put_bytes(struct key *key, const ffi_type *type);
 
 /* Where in nodes the type ends that begins at `at`. */

@@ -34,9 +34,9 @@ static bool may_have_long_double(const ffi_type *type, int depth, unsigned *look
     return may;
 }
 
-/* A type of up to 16 bytes that is not homogeneous is in general registers or on the stack by its size, and a larger one
- * is passed by the address of a copy. By which rule one in registers is aligned that its client aligned to 16, compilers
- * do not agree. */
+/* A type of up to 16 bytes that is not homogeneous is in general registers or on the stack by its size, and a larger
+ * one is passed by the address of a copy. By which rule one in registers is aligned that its client aligned to 16,
+ * compilers do not agree. */
 bool host_put_stand_in(struct key *key, const ffi_type *type, ffi_abi abi)
 {
     struct shape shape;

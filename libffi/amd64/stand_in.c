@@ -37,8 +37,8 @@ static bool put_eightbytes(struct key *key, const ffi_type *type)
     return true;
 }
 
-/* By Microsoft's convention size and alignment decide alone, and by the psABI they do of what has over 16 bytes, which is
- * in memory. */
+/* By Microsoft's convention size and alignment decide alone, and by the psABI they do so of what has over 16 bytes,
+ * which is in memory. */
 bool host_put_stand_in(struct key *key, const ffi_type *type, ffi_abi abi)
 {
     return is_win64(abi) || type->size > 16 ? key_put_bytes(key, type) : put_eightbytes(key, type);

@@ -34,6 +34,7 @@ static void use_others(const char *library)
 {
     ffi_cif cif;
     void *handle = library ? dlopen(library, RTLD_NOW | RTLD_LOCAL) : NULL;
+    EXPECT(handle || !library);
     if (handle) {
         __typeof__(ffi_prep_cif) *prepare = (__typeof__(ffi_prep_cif) *)dlsym(handle, "ffi_prep_cif");
         EXPECT(prepare(&cif, FFI_DEFAULT_ABI, 2, &ffi_type_sint32, two) == FFI_OK);

@@ -145,6 +145,7 @@ static void compare(const char *library, ffi_cif *cif, ffi_cif *java)
     void *other = library ? dlopen(library, RTLD_NOW | RTLD_LOCAL) : NULL;
     ffi_raw words[2 * ALL], their_words[2 * ALL];
     void *at[ALL] = {NULL}, *their_at[ALL] = {NULL};
+    EXPECT(other || !library);
     if (!other)
         return;
     memset(words, 0xEE, sizeof words);

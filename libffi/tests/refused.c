@@ -1,5 +1,5 @@
-/* Memory that malloc refuses, from each of the requests on: what needs it says so, and nothing is left by which a later
- * one would be wrong; and calls need none.  refused  links -lffi. */
+/* Memory that malloc refuses, behind each of the first requests and some of the others: what needs it says so, and
+ * nothing is left by which what comes later would be wrong; and calls need none.  refused  links -lffi. */
 #include "expect.h"
 #include <ffi.h>
 #include <stddef.h>
@@ -119,8 +119,8 @@ int main(void)
     for (int i = 0; i < MOST; i++)
         values[i] = numbers;
     while (is_refused_behind(given) && given < 10000)
-        given++;
-    printf("%ld requests\n", given);
+        given += 1 + given / 16;
+    printf("refused behind up to %ld requests\n", given);
     EXPECT(given > 5);
     return ended();
 }

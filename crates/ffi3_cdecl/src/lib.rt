@@ -11,11 +11,11 @@ mod followed;
 mod integers;
 mod members;
 mod place;
-mod read;
+pub mod read;
 mod round;
 mod said;
 mod settled;
-mod state;
+pub mod state;
 mod step;
 mod text;
 pub mod token;
@@ -28,9 +28,6 @@ pub use declaration::Declaration;
 pub use fault::DeclFault;
 /// A want of memory: the one answer that no clause ties to a cause.
 pub use ffi3_types::NoMemory;
-/// The reader's states, and its step, for what tells how far a text could have gone.
-pub use read::{finished, is_dead, step};
 pub use said::Kind;
-pub use state::{State, Where, Wide, declarator};
 pub use text::{decl_text, prototype_text};
 pub use token::Sign;

@@ -11,8 +11,9 @@ ghost use Rattle.ffi3_diagnostics.specs.ToldOf.{expected_of, kinds_of, reached_o
 
 use crate::expected::Expected;
 use crate::track::{Base, Track, sized, tracked, wants_a_type};
+use ffi3_cdecl::read::{finished, is_dead, step};
+use ffi3_cdecl::state::{State, Where};
 use ffi3_cdecl::token::{Dialect, Found, Sign, Token, TypeWord, found_in};
-use ffi3_cdecl::{State, Where, finished, is_dead, step};
 use ffi3_types::NoMemory;
 use std::alloc::{AllocError, Global};
 

@@ -5,8 +5,9 @@ ghost use Rattle.ffi3_cdecl.specs.TokenOf.{token_of};
 ghost use Rattle.ffi3_cdecl.specs.StateOf.{state_of, wide_of};
 ghost use Rattle.ffi3_diagnostics.specs.ToldOf.{track_of};
 
+use ffi3_cdecl::Kind;
+use ffi3_cdecl::state::{State, Wide, declarator};
 use ffi3_cdecl::token::Token;
-use ffi3_cdecl::{Kind, State, Wide, declarator};
 use ffi3_types::FfiType;
 use std::mem;
 
