@@ -251,9 +251,9 @@ uint32_t ffi3_layout(const char *text, size_t length, uint32_t value, struct ffi
 /* REASONS why a token does not fit, where a word tells it. More may come. */
 #define FFI3_REASON_NONE 0
 #define FFI3_REASON_ATTRIBUTE 1 /* an attribute that may change how a value is passed */
-#define FFI3_REASON_KEYWORD 2   /* a keyword that stands in no prototype */
+#define FFI3_REASON_KEYWORD 2   /* a keyword that is not read here */
 #define FFI3_REASON_STRUCT 3    /* before it a struct stands by value, by its tag alone: its members are wanted */
-#define FFI3_REASON_UNION 4     /* so a union by its tag: write a pointer */
+#define FFI3_REASON_UNION 4     /* so a union by its tag, which is not read */
 #define FFI3_REASON_ENUM 5      /* so an enum: write the integer that its compiler chose */
 #define FFI3_REASON_NAMED 6     /* so a type by a name that is not known: write what it stands for */
 

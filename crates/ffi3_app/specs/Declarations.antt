@@ -13,7 +13,7 @@ use Rattle.ffi3_cdecl_rules.specs.Prototype.{Prototype, read_as, sign_unsaid, Is
 use Rattle.ffi3_cdecl_rules.specs.Reading as declaration
 use Rattle.ffi3_cdecl_rules.specs.Telling.{tell}
 use Rattle.ffi3_cdecl_rules.specs.Tokens.{signed}
-use Rattle.ffi3_cdecl_rules.specs.ToldText.{told_words, lines_at}
+use Rattle.ffi3_diagnostics_rules.specs.ToldText.{told_words, lines_at}
 use Rattle.ffi3_words.specs.Words.{target_word}
 use Rattle.ffi3_explain_rules.specs.Standards.{standard_of}
 use Rattle.ffi3_app.specs.Commands.{place_lines}

@@ -6,7 +6,7 @@ use Rattle.ffi3_type_rules.specs.Signature.{Signature, SignatureFault}
 use Rattle.ffi3_cdecl_rules.specs.Tokens.{wide}
 use Rattle.ffi3_cdecl_rules.specs.Reading.{bad_token, unexpected, bad_number, bad_signature, IsReadingIn}
 use Rattle.ffi3_cdecl_rules.specs.Reasons.{Told, IsTold}
-use Rattle.ffi3_cdecl_rules.specs.ToldText.{told_words, lines_at}
+use Rattle.ffi3_diagnostics_rules.specs.ToldText.{told_words, lines_at}
 use Rattle.ffi3_capi.specs.declared.fault.TextFault.{TextFault}
 use Rattle.ffi3_capi.specs.declared.fault.FaultKind.TheVariants.{NotUtf8}
 use Rattle.ffi3_capi.specs.Chars.{char_sign}

@@ -2,7 +2,7 @@
 ghost use Rattle.std.specs.Prelude.{◌≡◌, ◌++◌, ◌∷◌, [], IfOk, IsSome, IsUtf8, slice_get};
 ghost use Rattle.ffi3_cdecl_rules.specs.Tokens.{wide};
 ghost use Rattle.ffi3_cdecl_rules.specs.Reading.{IsReadingIn, unexpected};
-ghost use Rattle.ffi3_cdecl_rules.specs.ToldText.{lines_at};
+ghost use Rattle.ffi3_diagnostics_rules.specs.ToldText.{lines_at};
 ghost use Rattle.ffi3_cdecl.specs.Tells.{Tells};
 ghost use Rattle.ffi3_capi.specs.Chars.{char_sign};
 ghost use Rattle.ffi3_capi.specs.FaultLines.{place_line, AreFaultLines, TellsLines};

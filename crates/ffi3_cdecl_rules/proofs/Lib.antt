@@ -33,4 +33,3 @@ pub mod Told
 mod Rows
 mod WideRows
 mod ToldRows
-mod TextRows

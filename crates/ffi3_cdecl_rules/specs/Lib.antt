@@ -10,4 +10,3 @@ pub mod Expected
 pub mod Reasons
 pub mod Telling
 pub mod FaultLaws
-pub mod ToldText

@@ -20,7 +20,7 @@ base_tokens (an_enum_of tag) = enum_word ∷ name tag ∷ []
 base_tokens (a_type_named called) = name called ∷ []
 
 pub data Reason : Type 0 where
-  -- attributes that may move a value, and a keyword that no declaration has
+  -- attributes that may move a value, and a keyword that is not read here
   an_attribute : Reason
   a_keyword : Reason
   -- a type of which there are pointers alone stands by value

@@ -1,4 +1,4 @@
--- What is told of an unexpected place, computed by the machine of the wide reading; it need not be believed, since that it computes what is to be told is proved.
+-- What is told of an unexpected place, computed by the machine of the wide reading. That it is so as the definitions of what is told have it is proved; a reason that stands there need not be told where a comma of members stands between.
 use Rattle.std.specs.Prelude.{ℕ, zero, suc, Bool, true, false, cond, not, ◌&&◌, ◌||◌, List, [], ◌∷◌, take, drop, Option}
 use Rattle.std.specs.Prelude.{Some, None, is_some}
 use Rattle.ffi3_type_rules.specs.Tree.{s32, float, double, scalar}

@@ -3,8 +3,9 @@ use Rattle.std.proofs.Common.{◌≡◌, ℕ, zero, suc, ◌+◌, ◌-◌, ◌<�
 use Rattle.std.specs.Prelude.{◌==◌, ◌&&◌, codes, Some, None}
 use Rattle.std.proofs.lemmas.List.{drop_more, drop_all}
 use Rattle.ffi3_cdecl_rules.specs.Tokens.{is_blank, front}
+use Rattle.ffi3_cdecl_rules.specs.Expected as rules
 use Rattle.ffi3_cdecl_rules.specs.Reasons.{Reason, Told}
-use Rattle.ffi3_cdecl_rules.specs.ToldText.{kind_words, between, one_of, expected_words, reason_words, why_words, shown, stood_words, told_words, goes_on_line, last_line, without_end, marked_at, goes_on_character, blanks_below, marked_lines, lines_at}
+use Rattle.ffi3_diagnostics_rules.specs.ToldText.{kind_words, between, one_of, expected_words, reason_words, why_words, shown, printable, stood_words, told_words, goes_on_line, last_line, without_end, marked_at, goes_on_character, blanks_below, marked_lines, lines_at}
 use Rattle.ffi3_diagnostics.specs.declared.expected.Expected.{Expected}
 use Rattle.ffi3_diagnostics.specs.ToldOf.{expected_of, kinds_of}
 use Rattle.ffi3_cdecl.proofs.Fronts.{take-front}
@@ -47,34 +48,43 @@ pub three_words : (old a b new first second third : List ℕ) → a ≡ old ++ f
 three_words old a b new first second third e f g =
     g ∙ ap (λ ws. ws ++ third) (f ∙ ap (λ ws. ws ++ second) e ∙ append_assoc old first second) ∙ append_assoc old (first ++ second) third ∙ ap (λ ws. old ++ ws) (append_assoc first second third)
 
-pub no_reason : (out : List ℕ) → out ≡ out ++ why_words None
-no_reason out = sym (append-nil out)
-
-pub some_reason : (old now new : List ℕ) (why : Reason) → now ≡ old ++ codes ": " → new ≡ now ++ reason_words why → new ≡ old ++ why_words (Some why)
-some_reason old now new why e f =
+pub some_reason : (old now new : List ℕ) (why : Reason) (kinds : List rules.Expected) → now ≡ old ++ codes ": " → new ≡ now ++ reason_words why → new ≡ old ++ why_words (Some why) kinds
+some_reason old now new why kinds e f =
     f ∙ ap (λ ws. ws ++ reason_words why) e ∙ append_assoc old (codes ": ") (reason_words why)
 
+mapped_more : (g : ℕ → ℕ) (old out bs : List ℕ) (i b : ℕ) → i < length bs → b ≡ g (get_or bs i 0) → out ≡ old ++ b ∷ [] → out ++ map g (drop (i + 1) bs) ≡ old ++ map g (drop i bs)
+mapped_more g old out bs i b h e f =
+    let rest = map g (drop (i + 1) bs) in
+    ap (λ ws. ws ++ rest) f ∙ append_assoc old (b ∷ []) rest ∙ ap (λ c. old ++ (c ∷ rest)) e ∙ ap (λ cs. old ++ map g cs) (sym (drop_more bs i 0 h))
+
+mapped_end : (g : ℕ → ℕ) (out bs : List ℕ) (i : ℕ) → length bs ≤ i → out ++ map g (drop i bs) ≡ out
+mapped_end g out bs i h =
+    ap (λ cs. out ++ map g cs) (drop_all i bs h) ∙ append-nil out
+
 pub shown_more : (old out bs : List ℕ) (i b : ℕ) → i < length bs → b ≡ shown (get_or bs i 0) → out ≡ old ++ b ∷ [] → out ++ map shown (drop (i + 1) bs) ≡ old ++ map shown (drop i bs)
-shown_more old out bs i b h e f =
-    let rest = map shown (drop (i + 1) bs) in
-    ap (λ ws. ws ++ rest) f ∙ append_assoc old (b ∷ []) rest ∙ ap (λ c. old ++ (c ∷ rest)) e ∙ ap (λ cs. old ++ map shown cs) (sym (drop_more bs i 0 h))
+shown_more old out bs i b h e f = mapped_more shown old out bs i b h e f
 
 pub shown_end : (out bs : List ℕ) (i : ℕ) → length bs ≤ i → out ++ map shown (drop i bs) ≡ out
-shown_end out bs i h =
-    ap (λ cs. out ++ map shown cs) (drop_all i bs h) ∙ append-nil out
+shown_end out bs i h = mapped_end shown out bs i h
+
+pub printable_more : (old out bs : List ℕ) (i b : ℕ) → i < length bs → b ≡ printable (get_or bs i 0) → out ≡ old ++ b ∷ [] → out ++ map printable (drop (i + 1) bs) ≡ old ++ map printable (drop i bs)
+printable_more old out bs i b h e f = mapped_more printable old out bs i b h e f
+
+pub printable_end : (out bs : List ℕ) (i : ℕ) → length bs ≤ i → out ++ map printable (drop i bs) ≡ out
+printable_end out bs i h = mapped_end printable out bs i h
 
 pub end_stood : (old out rest : List ℕ) (taken : ℕ) → taken ≡ 0 → out ≡ old ++ codes "end" → out ≡ old ++ stood_words taken rest
 end_stood old out rest zero e f = f
 end_stood old out rest (suc n) e f = absurd (omega (arith, e))
 
-pub token_stood : (old a b new rest : List ℕ) (taken : ℕ) → (taken ≡ 0 → ⊥) → a ≡ old ++ codes "'" → b ≡ a ++ map shown (take (min taken 40) rest) → new ≡ b ++ codes "'" → new ≡ old ++ stood_words taken rest
+pub token_stood : (old a b new rest : List ℕ) (taken : ℕ) → (taken ≡ 0 → ⊥) → a ≡ old ++ codes "'" → b ≡ a ++ map printable (take (min taken 40) rest) → new ≡ b ++ codes "'" → new ≡ old ++ stood_words taken rest
 token_stood old a b new rest zero h e f g = absurd (h refl)
 token_stood old a b new rest (suc n) h e f g =
-    three_words old a b new (codes "'") (map shown (take (min (suc n) 40) rest)) (codes "'") e f g
+    three_words old a b new (codes "'") (map printable (take (min (suc n) 40) rest)) (codes "'") e f g
 
-pub all_words : (a b c new text : List ℕ) (at : ℕ) (t : Told) → a ≡ codes "unexpected " → b ≡ a ++ stood_words t.taken (drop at text) → c ≡ b ++ expected_words t.expected → new ≡ c ++ why_words t.reason → new ≡ told_words text at t
-all_words a b c new text at t e f g h =
-    three_words (codes "unexpected ") b c new (stood_words t.taken (drop at text)) (expected_words t.expected) (why_words t.reason) (f ∙ ap (λ ws. ws ++ stood_words t.taken (drop at text)) e) g h
+pub all_words : (a b new text : List ℕ) (at : ℕ) (t : Told) → a ≡ codes "unexpected " → b ≡ a ++ stood_words t.taken (drop at text) → new ≡ b ++ why_words t.reason t.expected → new ≡ told_words text at t
+all_words a b new text at t e f g =
+    g ∙ ap (λ ws. ws ++ why_words t.reason t.expected) (f ∙ ap (λ ws. ws ++ stood_words t.taken (drop at text)) e) ∙ append_assoc (codes "unexpected ") (stood_words t.taken (drop at text)) (why_words t.reason t.expected)
 
 -- ---- parts of a text
 

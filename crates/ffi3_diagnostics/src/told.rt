@@ -22,7 +22,7 @@ use std::alloc::{AllocError, Global};
 pub enum Reason<'a> {
     /// Attributes that may move a value.
     Attribute,
-    /// A keyword that no declaration has.
+    /// A keyword that is not read here.
     Keyword,
     /// A type of which there are pointers alone stands by value.
     ByValue(Base<'a>),

@@ -1,7 +1,7 @@
 // What is told of an unexpected place, in words, and the line of a text with a mark below a place.
 ghost use Rattle.std.specs.Prelude.{◌≡◌, ◌++◌, ◌≤◌, [], IfOk, OnOk, length, map, min, take, drop};
 ghost use Rattle.ffi3_cdecl_rules.specs.Tokens.{front};
-ghost use Rattle.ffi3_cdecl_rules.specs.ToldText.{kind_words, between, one_of, expected_words, named_words, base_words, reason_words, why_words, shown, stood_words, told_words, goes_on_line, last_line, without_end, marked_at, goes_on_character, blanks_below, marked_lines, lines_at};
+ghost use Rattle.ffi3_diagnostics_rules.specs.ToldText.{kind_words, between, one_of, expected_words, named_words, base_words, reason_words, why_words, shown, printable, stood_words, told_words, goes_on_line, last_line, without_end, marked_at, goes_on_character, blanks_below, marked_lines, lines_at};
 ghost use Rattle.ffi3_diagnostics.specs.ToldOf.{expected_of, kinds_of, base_of, reason_of, reason_or_not, told_of};
 
 use crate::expected::Expected;
@@ -115,9 +115,7 @@ fn put_base(out: &mut Bytes, base: Base<'_>) -> Result<(), NoMemory>
             tag,
             " has no members here: write them behind the tag, in { }, or a pointer",
         ),
-        Base::Union(tag) => {
-            put_three(out, "union ", tag, " by value is not read: write a pointer")
-        }
+        Base::Union(tag) => put_three(out, "union ", tag, " by value is not read"),
         Base::Enum(tag) => put_three(
             out,
             "enum ",
@@ -136,33 +134,51 @@ fn put_reason(out: &mut Bytes, reason: Reason<'_>) -> Result<(), NoMemory>
         Reason::Attribute => {
             out.extend("an attribute that may change how a value is passed".as_bytes())
         }
-        Reason::Keyword => out.extend("a keyword that stands in no prototype".as_bytes()),
+        Reason::Keyword => out.extend("a keyword that is not read here".as_bytes()),
         Reason::ByValue(base) => put_base(out, base),
     }
 }
 
-/// The same behind what could have stood there, where it is told.
-#[tactic(auto, using(crate::proofs::Wording::no_reason, crate::proofs::Wording::some_reason))]
-fn put_why(out: &mut Bytes, why: Option<Reason<'_>>) -> Result<(), NoMemory>
-    ensures { OnOk result (out.new ≡ out.old ++ why_words (reason_or_not why.entry)) }
+/// The reason, where a word tells it, or what could have stood there.
+#[tactic(auto, using(crate::proofs::Wording::some_reason))]
+fn put_why(out: &mut Bytes, why: Option<Reason<'_>>, kinds: &[Expected]) -> Result<(), NoMemory>
+    ensures { OnOk result (out.new ≡ out.old ++ why_words (reason_or_not why.entry) (kinds_of kinds.now)) }
 {
     match why {
         Some(reason) => {
             out.extend(": ".as_bytes())?;
             put_reason(out, reason)
         }
-        None => Ok(()),
+        None => put_expected(out, kinds),
     }
 }
 
-/// A byte, as it can be shown: a control character is a blank.
+/// A byte of a token, as it is shown: what is no printable character of ASCII is a blank.
+fn printable(b: u8) -> u8
+    ensures { result ≡ printable b }
+{
+    if b >= 32 && b <= 126 { b } else { 32 }
+}
+
+/// Bytes of a token, as they are shown.
+#[tactic(auto, using(crate::proofs::Wording::printable_more, crate::proofs::Wording::printable_end))]
+fn put_printable(out: &mut Bytes, bytes: &[u8]) -> Result<(), NoMemory>
+    ensures { OnOk result (out.new ≡ out.old ++ map printable bytes.now) }
+{
+    for i in 0..bytes.len() {
+        out.push(printable(bytes[i]))?;
+    }
+    Ok(())
+}
+
+/// A byte of a line, as it is shown: a control character is a blank.
 fn shown(b: u8) -> u8
     ensures { result ≡ shown b }
 {
     if b >= 32 && b != 127 { b } else { 32 }
 }
 
-/// Bytes, as they can be shown.
+/// Bytes of a line, as they are shown.
 #[tactic(auto, using(crate::proofs::Wording::shown_more, crate::proofs::Wording::shown_end))]
 fn put_shown(out: &mut Bytes, bytes: &[u8]) -> Result<(), NoMemory>
     ensures { OnOk result (out.new ≡ out.old ++ map shown bytes.now) }
@@ -182,7 +198,7 @@ fn put_stood(out: &mut Bytes, taken: usize, rest: &[u8]) -> Result<(), NoMemory>
         return out.extend("end".as_bytes());
     }
     out.extend("'".as_bytes())?;
-    put_shown(out, first(rest, taken.min(40)))?;
+    put_printable(out, first(rest, taken.min(40)))?;
     out.extend("'".as_bytes())
 }
 
@@ -210,15 +226,15 @@ fn behind(bytes: &[u8], n: usize) -> &[u8]
     }
 }
 
-/// What is told of an unexpected place, in words: what stands there, what could have, and why it does not fit.
+/// What is told of an unexpected place, in words: what stands there, and why it does not fit or what could have stood
+/// there.
 #[tactic(auto, using(crate::proofs::Wording::all_words))]
 pub fn told_words(alloc: Global, text: &str, at: usize, told: &Told<'_>) -> Result<Bytes, NoMemory>
     ensures { IfOk result (λ words. words ≡ told_words text.now at (told_of told.now)) }
 {
     let mut out = Bytes::from_slice(alloc, "unexpected ".as_bytes())?;
     put_stood(&mut out, told.taken, behind(text.as_bytes(), at))?;
-    put_expected(&mut out, told.expected.as_slice())?;
-    put_why(&mut out, told.reason)?;
+    put_why(&mut out, told.reason, told.expected.as_slice())?;
     Ok(out)
 }
 

@@ -3,15 +3,15 @@ use Rattle.std.proofs.Common.{◌≡◌, refl}
 use Rattle.std.specs.Prelude.{codes}
 use Rattle.ffi3_cdecl_rules.specs.Tokens.{signed}
 use Rattle.ffi3_cdecl_rules.specs.Telling.{tell}
-use Rattle.ffi3_cdecl_rules.specs.ToldText.{told_words, lines_at}
+use Rattle.ffi3_diagnostics_rules.specs.ToldText.{told_words, lines_at}
 
-a_file : told_words (codes "int f(FILE x)") 12 (tell signed (codes "int f(FILE x)") 12) ≡ codes "unexpected ')', expected '(' or '[': FILE is no type that is known here: write the type that it stands for, or a pointer"
+a_file : told_words (codes "int f(FILE x)") 12 (tell signed (codes "int f(FILE x)") 12) ≡ codes "unexpected ')': FILE is no type that is known here: write the type that it stands for, or a pointer"
 a_file = refl
 
-a_wide_character : told_words (codes "wchar_t f(void)") 8 (tell signed (codes "wchar_t f(void)") 8) ≡ codes "unexpected 'f', expected '*' or '(': wchar_t is another type on each machine: write int, unsigned int or unsigned short"
+a_wide_character : told_words (codes "wchar_t f(void)") 8 (tell signed (codes "wchar_t f(void)") 8) ≡ codes "unexpected 'f': wchar_t is another type on each machine: write int, unsigned int or unsigned short"
 a_wide_character = refl
 
-an_attribute : told_words (codes "int f(int) __attribute__((ms_abi));") 11 (tell signed (codes "int f(int) __attribute__((ms_abi));") 11) ≡ codes "unexpected '__attribute__((ms_abi))', expected ';' or the end: an attribute that may change how a value is passed"
+an_attribute : told_words (codes "int f(int) __attribute__((ms_abi));") 11 (tell signed (codes "int f(int) __attribute__((ms_abi));") 11) ≡ codes "unexpected '__attribute__((ms_abi))': an attribute that may change how a value is passed"
 an_attribute = refl
 
 no_reason : told_words (codes "int f(,)") 6 (tell signed (codes "int f(,)") 6) ≡ codes "unexpected ',', expected a type or ')'"

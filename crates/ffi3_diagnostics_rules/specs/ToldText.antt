@@ -1,4 +1,4 @@
--- The words in which a fault at a place of a text is told: what stands there, what could have stood there, and why it does not fit; and the line of the text with a mark below the place.
+-- The words in which a fault at a place of a text is told: what stands there, and why it does not fit or what could have stood there; and the line of the text with a mark below the place.
 use Rattle.std.specs.Prelude.{ℕ, zero, suc, min, Bool, cond, not, ◌&&◌, ◌==◌, nat_le, List, [], ◌∷◌, ◌++◌, length, map}
 use Rattle.std.specs.Prelude.{take, drop, codes, bytes_eq, Option, Some, None}
 use Rattle.ffi3_cdecl_rules.specs.Tokens.{is_blank, front}
@@ -10,9 +10,9 @@ use Rattle.ffi3_cdecl_rules.specs.Reasons.{an_attribute, a_keyword, by_value, To
 
 -- ---- what stands there
 
--- a control character of ASCII is shown as a blank
-abbrev pub shown : ℕ → ℕ
-shown b = cond (nat_le 32 b && not (b == 127)) b 32
+-- a byte that is no printable character of ASCII is shown as a blank
+abbrev pub printable : ℕ → ℕ
+printable b = cond (nat_le 32 b && nat_le b 126) b 32
 
 -- so many bytes of a token are told at most
 abbrev pub MOST_SHOWN : ℕ
@@ -22,7 +22,7 @@ MOST_SHOWN = 40
 abbrev pub stood_words : ℕ → List ℕ → List ℕ
 stood_words zero bs = codes "end"
 stood_words (suc n) bs =
-    codes "'" ++ (map shown (take (min (suc n) MOST_SHOWN) bs) ++ codes "'")
+    codes "'" ++ (map printable (take (min (suc n) MOST_SHOWN) bs) ++ codes "'")
 
 -- ---- what could have
 
@@ -71,24 +71,25 @@ abbrev pub base_words : Base → List ℕ
 base_words (a_struct_of tag) =
     codes "struct " ++ (tag ++ codes " has no members here: write them behind the tag, in { }, or a pointer")
 base_words (a_union_of tag) =
-    codes "union " ++ (tag ++ codes " by value is not read: write a pointer")
+    codes "union " ++ (tag ++ codes " by value is not read")
 base_words (an_enum_of tag) =
     codes "enum " ++ (tag ++ codes " is the type that its compiler chose: write int or unsigned int")
 base_words (a_type_named called) = named_words called
 
 abbrev pub reason_words : Reason → List ℕ
 reason_words an_attribute = codes "an attribute that may change how a value is passed"
-reason_words a_keyword = codes "a keyword that stands in no prototype"
+reason_words a_keyword = codes "a keyword that is not read here"
 reason_words (by_value b) = base_words b
 
-abbrev pub why_words : Option Reason → List ℕ
-why_words None = []
-why_words (Some why) = codes ": " ++ reason_words why
+-- the reason, where a word tells it, or what could have stood there
+abbrev pub why_words : Option Reason → List Expected → List ℕ
+why_words None kinds = expected_words kinds
+why_words (Some why) kinds = codes ": " ++ reason_words why
 
 -- THE WORDS OF AN UNEXPECTED PLACE, of which this is told
 abbrev pub told_words : List ℕ → ℕ → Told → List ℕ
 told_words text at t =
-    codes "unexpected " ++ (stood_words t.taken (drop at text) ++ (expected_words t.expected ++ why_words t.reason))
+    codes "unexpected " ++ (stood_words t.taken (drop at text) ++ why_words t.reason t.expected)
 
 -- ---- the line of the text
 
@@ -120,6 +121,10 @@ abbrev pub blanks_below : List ℕ → List ℕ
 blanks_below [] = []
 blanks_below (b ∷ bs) =
     cond (goes_on_character b) (blanks_below bs) (32 ∷ blanks_below bs)
+
+-- a control character of ASCII is shown as a blank
+abbrev pub shown : ℕ → ℕ
+shown b = cond (nat_le 32 b && not (b == 127)) b 32
 
 -- of a line what stands before a place, and the text from the place on
 abbrev pub marked_lines : List ℕ → List ℕ → List ℕ

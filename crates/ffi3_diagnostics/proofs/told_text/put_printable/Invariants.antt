@@ -1,0 +1,7 @@
+use Rattle.std.proofs.Common.{◌≡◌, ◌++◌, drop, map}
+use Rattle.ffi3_diagnostics_rules.specs.ToldText.{printable}
+use Rattle.ffi3_diagnostics.proofs.told_text.put_printable.Given as goal
+
+abbrev pub invariant-loop-i : goal.invariant-loop-i
+invariant-loop-i l =
+    l.out ++ map printable (drop l.i l.bytes) ≡ l.fn.out ++ map printable l.fn.bytes
