@@ -1,7 +1,7 @@
 -- What is told of a text that is checked.
 use Rattle.std.proofs.Common.{◌≡◌, ℕ, List, [], ◌∷◌, length, map, ap, sym, subst, refl, ◌∙◌, zero, suc}
 use Rattle.std.specs.Prelude.{IsUtf8, IsSome, Some, None, slice_get, slice_index_or}
-use Rattle.ffi3_type_rules.specs.Fault.{Fault, bad_typedef, left_out_type, too_large, too_deep}
+use Rattle.ffi3_type_rules.specs.Fault.{bad_typedef, left_out_type, too_large, too_deep}
 use Rattle.ffi3_type_rules.specs.Tree.{Tree, void, scalar, left_out, structure, array, long_double, complex, vector}
 use Rattle.ffi3_type_rules.specs.Signature.{Signature, SignatureFault, too_many, bad_type, bad_fixed, bad_argument_type}
 use Rattle.ffi3_cdecl_rules.specs.Tokens.{wide, Sign}
