@@ -32,7 +32,8 @@
  * them overlap, and no other thread writes what a call reads, or touches what it writes. What is only written need not
  * be initialized: a struct ffi3_interface is read too; ffi3_store reads sp of REGISTERS, and ffi3_give REGISTERS and
  * STACK. Where malloc may not be called, as in a signal handler or in the forked child of a process with threads, these
- * may: ffi3_sizes, ffi3_store, ffi3_load, ffi3_collect, ffi3_give, ffi3_register_name and ffi3_version. No other may.
+ * may: ffi3_sizes, ffi3_moves, ffi3_store, ffi3_load, ffi3_collect, ffi3_give, ffi3_register_name and ffi3_version. No
+ * other may.
  *
  * What the library makes does not outlive a call, but for the interfaces that ffi3_prepare and ffi3_share leave, each
  * of which ffi3_release gives back. Any number of threads may call, each with interfaces of its own. Memory is taken
