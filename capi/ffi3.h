@@ -32,7 +32,8 @@
  * them overlap, and no other thread writes what a call reads, or touches what it writes. What is only written need not
  * be initialized: a struct ffi3_interface is read too; ffi3_store reads sp of REGISTERS, and ffi3_give REGISTERS and
  * STACK. Where malloc may not be called, as in a signal handler or in the forked child of a process with threads, these
- * may: ffi3_sizes, ffi3_store, ffi3_load, ffi3_collect, ffi3_give, ffi3_register_name and ffi3_version. No other may.
+ * may: ffi3_sizes, ffi3_moves, ffi3_store, ffi3_load, ffi3_collect, ffi3_give, ffi3_register_name and ffi3_version. No
+ * other may.
  *
  * What the library makes does not outlive a call, but for the interfaces that ffi3_prepare and ffi3_share leave, each
  * of which ffi3_release gives back. Any number of threads may call, each with interfaces of its own. Memory is taken
@@ -93,7 +94,7 @@ extern "C" {
 #define FFI3_BAD_NUMBER 4            /* the number at `offset` is over 4,294,967,295 */
 #define FFI3_BAD_TYPEDEF 5           /* an array of no elements; of nodes also a struct of no members, a void that is no
                                         result, or an array that is no member and no element */
-#define FFI3_LEFT_OUT_LONG_DOUBLE 6  /* kinds 6 to 8, 12 and 13 are of nodes: no text of today says so */
+#define FFI3_LEFT_OUT_LONG_DOUBLE 6  /* a long double by value; and its complex. Kinds 8 and 12 are of nodes alone */
 #define FFI3_LEFT_OUT_COMPLEX 7
 #define FFI3_LEFT_OUT_VECTOR 8
 #define FFI3_TOO_LARGE 9             /* a struct or an array of `number` bytes, more than 4,096 */
@@ -231,7 +232,7 @@ struct ffi3_layout {
 uint32_t ffi3_layout(const char *text, size_t length, uint32_t value, struct ffi3_layout *layout,
                      struct ffi3_leaf *leaves, size_t capacity);
 
-/* KINDS OF TOKEN, as ffi3_check_text tells what could have stood in a place. */
+/* KINDS OF TOKEN, as ffi3_check_text tells what could have stood in a place. More may come: 0 is none. */
 #define FFI3_EXPECTED_TYPE 1         /* a name or a word with which a type begins */
 #define FFI3_EXPECTED_NAME 2         /* a name, where no type could stand */
 #define FFI3_EXPECTED_NUMBER 3       /* the number of an array's elements */
@@ -248,7 +249,7 @@ uint32_t ffi3_layout(const char *text, size_t length, uint32_t value, struct ffi
 #define FFI3_EXPECTED_DOTS 14        /* ... */
 #define FFI3_EXPECTED_WORD 15        /* one more of the words that name a type, as behind `unsigned` */
 
-/* REASONS why a token does not fit, where a word tells it. */
+/* REASONS why a token does not fit, where a word tells it. More may come. */
 #define FFI3_REASON_NONE 0
 #define FFI3_REASON_ATTRIBUTE 1 /* an attribute that may change how a value is passed */
 #define FFI3_REASON_KEYWORD 2   /* a keyword that is not read here */
@@ -257,13 +258,12 @@ uint32_t ffi3_layout(const char *text, size_t length, uint32_t value, struct ffi
 #define FFI3_REASON_ENUM 5      /* so an enum: write the integer that its compiler chose */
 #define FFI3_REASON_NAMED 6     /* so a type by a name that is not known: write what it stands for */
 
-/* Whether a text declares a function; and of a fault FFI3_UNEXPECTED what stands at its offset, and what could have.
- * All but `fault` is 0 where there is no such fault. */
+/* What is wrong with a text; and of a fault FFI3_UNEXPECTED what stands at its `offset`, and what could have. */
 struct ffi3_checked {
     size_t length;        /* how many bytes the token takes that stands there; 0 where the text ends */
-    uint32_t reason;      /* FFI3_REASON_NONE and so on */
-    uint32_t count;       /* how many kinds are told, four at most */
-    uint32_t expected[4]; /* the first of the kinds of which a token could stand there, FFI3_EXPECTED_TYPE and so on */
+    uint32_t reason;      /* why it does not fit: FFI3_REASON_NONE and so on */
+    uint32_t count;       /* how many elements of `expected` are told, four at most */
+    uint32_t expected[4]; /* kinds of which a token could stand there, the first: FFI3_EXPECTED_TYPE and so on */
     uint64_t reserved[4]; /* 0 */
     struct ffi3_fault fault;
 };
@@ -273,7 +273,8 @@ struct ffi3_checked {
  * Whether the LENGTH bytes at TEXT declare a function for calls by the standard TARGET, as ffi3_place reads them.
  *
  * FFI3_OK: they do; CHECKED is 0.
- * FFI3_NOT_DECLARED: CHECKED says why.
+ * FFI3_NOT_DECLARED: CHECKED->fault says why, as ffi3_place does. Of FFI3_UNEXPECTED all of CHECKED is filled, and
+ *     elements of `expected` from `count` on are 0; of each other fault all else in CHECKED is 0.
  * FFI3_UNKNOWN_TARGET, FFI3_OUT_OF_MEMORY: CHECKED is 0. An unknown target is told before a fault.
  */
 uint32_t ffi3_check_text(uint32_t target, const char *text, size_t length, struct ffi3_checked *checked);
@@ -689,15 +690,17 @@ size_t ffi3_fault_text(const struct ffi3_fault *fault, char *text, size_t capaci
 /* size_t ffi3_fault_lines(uint32_t TARGET, const char *TEXT, size_t LENGTH, char *LINES, size_t CAPACITY)
  *
  * Why the LENGTH bytes at TEXT declare no function for calls by the standard TARGET, in lines for a person, each with
- * its newline: the fault; and of one that has a place in the text the line that has it, and a "^" below the place:
+ * its newline: the fault, as ffi3_fault_text has it, and of FFI3_UNEXPECTED what ffi3_check_text tells, in words; and
+ * of a fault at a byte of the text the line that has the byte, and a "^" below it:
  *
  *     at 12: unexpected 'y', expected ')', ',', '(' or '['
  *     int f(int x y)
  *                 ^
  *
- * Answers how long they are, without the terminating NUL; they are written, with that NUL, only where CAPACITY is
- * greater. Answers 0 where the text declares a function, where no standard has the number, and where malloc refused;
- * only then may LINES be as it was though it had room.
+ * A control character of the text is a blank there, and where only blanks follow, the "^" stands before them. Answers
+ * how long the lines are, without the terminating NUL; they are written, with that NUL, only where CAPACITY is greater:
+ * a CAPACITY of 0 asks for the length. Answers 0 where the text declares a function, where no standard has the number,
+ * and where malloc refused; only then may LINES be as it was though it had room.
  */
 size_t ffi3_fault_lines(uint32_t target, const char *text, size_t length, char *lines, size_t capacity);
 

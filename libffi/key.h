@@ -48,6 +48,10 @@ static inline uint64_t word_of(ffi_abi abi, unsigned nargs, const ffi_type *rtyp
     return word;
 }
 
+/* The key of an interface that has this word, from the word alone. Answers false, and makes none, where a type is
+ * passed otherwise than by its node: long double. */
+bool key_tell_word(struct key *key, const ffi_cif *cif, uint64_t word);
+
 bool key_has_more_room(struct key *key);
 
 /* Adds a node, or notes that memory was refused. */

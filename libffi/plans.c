@@ -204,7 +204,8 @@ __attribute__((noinline)) static const struct plan *make_by_word(const ffi_cif *
 {
     struct key key;
     const struct plan *plan = NULL;
-    key_tell(&key, cif, FFI3_NOT_VARIADIC);
+    if (!key_tell_word(&key, cif, word))
+        key_tell(&key, cif, FFI3_NOT_VARIADIC);
     if (key.status == FFI_OK)
         plan = make(&key, hash, word, cif, place);
     key_end(&key);

@@ -221,8 +221,9 @@ static int try_refused(uint32_t target, long number)
           "refused over an interface", round);
     kept = blocks;
     struct ffi3_move moves[32];
+    long taken = counted;
     uint32_t told = ffi3_moves(&one, FFI3_MOVES_TO_STORE, &count, moves, COUNT(moves));
-    check(blocks == kept && (told == FFI3_OK || (told == FFI3_OUT_OF_MEMORY && !count)), "moves or refused", round);
+    check(told == FFI3_OK && counted == taken, "moves take no memory", round);
     uint32_t shared = ffi3_share(&one, &two);
     check(shared == FFI3_OK ? has(&two, target, again == FFI3_OK)
                             : shared == FFI3_OUT_OF_MEMORY && !two.kept && blocks == kept,

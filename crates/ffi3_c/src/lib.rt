@@ -301,7 +301,6 @@ pub extern "C" fn ffi3_sizes(interface: &mut Handle, sizes: &mut InterfaceSizes)
 /// The moves of an interface, of one of the lists.
 #[unsafe(no_mangle)]
 pub extern "C" fn ffi3_moves(
-    alloc: Global,
     interface: &mut Handle,
     list: u32,
     count: &mut usize,
@@ -310,7 +309,7 @@ pub extern "C" fn ffi3_moves(
     ensures same { interface.new.kept ≡ interface.old.kept }
     ensures told { TellsMoves interface.old.kept list moves.old result count.new moves.new }
 {
-    ffi3_interface::tell_moves(alloc, interface, list, count, moves)
+    ffi3_interface::tell_moves(interface, list, count, moves)
 }
 
 /// The caller's values, before the call, to registers and stack.

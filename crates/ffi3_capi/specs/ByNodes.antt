@@ -7,7 +7,7 @@ use Rattle.ffi3_type_rules.specs.Signature.{Signature, SignatureFault, Signature
 use Rattle.ffi3_nodes.specs.declared.Node.{Node}
 use Rattle.ffi3_nodes.specs.Nodes.{IsWritten, AreWritten, IsSignatureOf}
 use Rattle.ffi3_nodes.specs.Faults.{NodeFault, ended, unknown_kind, bad_count, too_deep, first_node_fault}
-use Rattle.ffi3_nodes.specs.Read.{AreNodesOfTypes}
+use Rattle.ffi3_nodes.specs.Read.{AreNodesOfTypes, HasNoResultType}
 use Rattle.ffi3_capi.specs.declared.codes.TheConstants.{RESULT_PART, NOT_VARIADIC}
 use Rattle.ffi3_capi.specs.declared.fault.TextFault.{TextFault}
 use Rattle.ffi3_capi.specs.declared.fault.FaultKind.TheVariants.{NodesEnded, UnknownKind, BadCount, NodesTooDeep}
@@ -37,9 +37,11 @@ node_fault count (unknown_kind at) = fault_at UnknownKind at
 node_fault count (bad_count at) = fault_at BadCount at
 node_fault count (too_deep at) = fault_at NodesTooDeep at
 
--- WHY NODES DECLARE NO FUNCTION: they are too many, or have a fault as nodes, and then no signature without fault has them; or each signature that has them, and one does, has a fault, whose first is told
+-- WHY NODES DECLARE NO FUNCTION: they are too many, or have a fault as nodes, and in both cases no signature without fault has them; or each signature that has them, and one does, has a fault, whose first is told
 pub data IsFaultOfNodes (ns : List Node) (fixed : ℕ) : TextFault → Type 0 where
-  too_long : 2 ^ 32 ≤ length ns → IsFaultOfNodes ns fixed (fault_of_value 0 TooManyNodes (length ns))
+  too_long : 2 ^ 32 ≤ length ns
+      → ((s : Signature) → IsSignatureOf ns (fixed_of fixed) s → SignatureHasNoFault s → ⊥)
+      → IsFaultOfNodes ns fixed (fault_of_value 0 TooManyNodes (length ns))
   no_nodes : (f : NodeFault) → length ns < 2 ^ 32 → first_node_fault ns ≡ Some f
       → ((s : Signature) → IsSignatureOf ns (fixed_of fixed) s → SignatureHasNoFault s → ⊥)
       → IsFaultOfNodes ns fixed (node_fault (length ns) f)
@@ -48,12 +50,12 @@ pub data IsFaultOfNodes (ns : List Node) (fixed : ℕ) : TextFault → Type 0 wh
       → ((other : Signature) → IsSignatureOf ns (fixed_of fixed) other → IsFirstSignatureFault other f)
       → IsFaultOfNodes ns fixed (signature_fault f)
 
--- WHY NODES ARE NO TYPE: they are too many, none of types, those of several, or of one that has a fault as a result's
+-- WHY NODES ARE NO TYPE: they are too many, none of types, those of several, or of one that has a fault as a result's; and then no type that can be a result has them
 pub data IsFaultOfType (ns : List Node) : TextFault → Type 0 where
-  too_many : 2 ^ 32 ≤ length ns → IsFaultOfType ns (fault_of_value 0 TooManyNodes (length ns))
-  no_types : (f : NodeFault) → length ns < 2 ^ 32 → first_node_fault ns ≡ Some f
+  too_many : 2 ^ 32 ≤ length ns → HasNoResultType ns → IsFaultOfType ns (fault_of_value 0 TooManyNodes (length ns))
+  no_types : (f : NodeFault) → length ns < 2 ^ 32 → first_node_fault ns ≡ Some f → HasNoResultType ns
       → IsFaultOfType ns (node_fault (length ns) f)
-  several : AreNodesOfTypes ns → (ts : List Tree) → AreWritten ts ns → (length ts ≡ 1 → ⊥)
+  several : AreNodesOfTypes ns → (ts : List Tree) → AreWritten ts ns → (length ts ≡ 1 → ⊥) → HasNoResultType ns
       → IsFaultOfType ns (fault_of_value 0 NotOneType (length ts))
   no_result : AreNodesOfTypes ns → (t : Tree) (path : List ℕ) (f : Fault) → IsWritten t ns
-      → IsFirstFault 0 AsResult t path f → IsFaultOfType ns (type_fault RESULT_PART f)
+      → IsFirstFault 0 AsResult t path f → HasNoResultType ns → IsFaultOfType ns (type_fault RESULT_PART f)

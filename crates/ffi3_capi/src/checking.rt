@@ -85,13 +85,19 @@ fn reason_number(why: Option<Reason<'_>>) -> u32
     }
 }
 
-/// Kind `i` of those that are told, by number.
-#[tactic(auto, using(crate::proofs::Checks::number_there, crate::proofs::Checks::no_number_there))]
+/// Kind `i` of those that are told.
+fn kind_at(kinds: &[Expected], i: usize) -> Option<Expected>
+    ensures { result ≡ slice_get kinds.now i }
+{
+    kinds.get(i).copied()
+}
+
+/// The same by number.
 fn number_at(kinds: &[Expected], i: usize) -> u32
     ensures { result ≡ slice_index_or (map expected_number (kinds_of kinds.now)) i 0 }
 {
-    match kinds.get(i) {
-        Some(kind) => expected_number(*kind),
+    match kind_at(kinds, i) {
+        Some(kind) => expected_number(kind),
         None => 0,
     }
 }
@@ -172,7 +178,7 @@ fn tell_place(alloc: Global, target: u32, text: &str, at: u64, told: &mut Checke
 }
 
 /// What is told of a fault of the text.
-#[tactic(auto, using(crate::proofs::Checks::bad_token_told, crate::proofs::Checks::bad_number_told, crate::proofs::Checks::signature_told, crate::proofs::Checks::no_memory))]
+#[tactic(auto, using(crate::proofs::Checks::no_memory))]
 fn tell_fault(
     alloc: Global,
     target: u32,
@@ -180,7 +186,7 @@ fn tell_fault(
     fault: DeclFault,
     told: &mut CheckedText,
 ) -> u32
-    ensures { IsUtf8 text.now → IsSome (slice_get targets target) → Tells (IsReadingIn wide (char_sign target) text.now) fault.entry → ChecksText target text.now result told.new }
+    ensures { IsUtf8 text.now → IsSome (slice_get targets target) → Tells (IsReadingIn wide (char_sign target) text.now) fault → ChecksText target text.now result told.new }
 {
     match fault {
         DeclFault::BadToken { at } => {

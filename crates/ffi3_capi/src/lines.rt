@@ -70,7 +70,6 @@ fn fault_line(alloc: Global, fault: TextFault) -> Result<Bytes, NoMemory>
 }
 
 /// The lines of a fault.
-#[tactic(auto, using(crate::proofs::InLines::lines_bad_token, crate::proofs::InLines::lines_bad_number, crate::proofs::InLines::lines_of_signature))]
 fn lines_of(alloc: Global, target: u32, text: &str, fault: &DeclFault) -> Result<Bytes, NoMemory>
     ensures { IfOk result (λ lines. IsUtf8 text.now → IsSome (slice_get targets target) → Tells (IsReadingIn wide (char_sign target) text.now) fault.now → AreFaultLines target text.now lines) }
 {
@@ -84,7 +83,6 @@ fn lines_of(alloc: Global, target: u32, text: &str, fault: &DeclFault) -> Result
 }
 
 /// The lines of what is wrong with a text.
-#[tactic(auto, using(crate::proofs::InLines::no_lines))]
 fn lines_in(alloc: Global, target: u32, text: &str) -> Result<Bytes, NoMemory>
     ensures { IfOk result (λ lines. IsUtf8 text.now → IsSome (slice_get targets target) → AreFaultLines target text.now lines) }
 {

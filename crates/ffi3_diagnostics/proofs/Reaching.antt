@@ -1,16 +1,17 @@
 -- What is reached and told, one byte, one word and one kind at a time.
 use Rattle.std.proofs.Common.{◌≡◌, ℕ, zero, suc, ◌+◌, ◌-◌, ◌<◌, ◌≤◌, Bool, true, false, List, [], ◌∷◌, ◌++◌, length, get_or, drop, take, ap, sym, refl, subst, ◌∙◌, arith}
-use Rattle.std.specs.Prelude.{cond, not, ◌||◌, Option, None}
+use Rattle.std.specs.Prelude.{cond, not, ◌||◌, Option, None, is_some}
 use Rattle.std.proofs.lemmas.List.{drop_more, drop_all}
 use Rattle.ffi3_cdecl_rules.specs.Tokens.{wide, Sign, Token, type_word, sign_word, const_word, short_word, int_word, long_word, int128_word, char_word, void_word, struct_word, union_word, enum_word, complex_word, attribute_word, other_keyword, name, number, open_round, close_round, open_curly, close_curly, open_square, close_square, comma, semicolon, star, dots, Found, blank, skipped, nothing_known, found, found_in}
-use Rattle.ffi3_cdecl_rules.specs.Machine.{State, is_dead}
+use Rattle.ffi3_cdecl_rules.specs.Machine.{State, is_dead, finish}
 use Rattle.ffi3_cdecl_rules.specs.OnePass.{keeping}
 use Rattle.ffi3_cdecl_rules.specs.Expected as rules
-use Rattle.ffi3_cdecl_rules.specs.Expected.{every_kind, a_word}
+use Rattle.ffi3_cdecl_rules.specs.Expected.{every_kind, a_word, the_end}
+use Rattle.ffi3_cdecl_rules.specs.Grammar.{Declaration}
 use Rattle.ffi3_cdecl_rules.specs.Reading.{unexpected, IsReadingIn}
 use Rattle.ffi3_cdecl_rules.specs.Reasons as reasons
 use Rattle.ffi3_cdecl_rules.specs.Reasons.{Base, IsTold}
-use Rattle.ffi3_cdecl_rules.specs.Telling.{lives, could, those, expected, one_lives, specifier_words, Track, behind_base, tracked, sized, reason_of_base, reason_by, reason_at, told_at_end, Reached, reaching, reach, reach_found, nothing_reached, told_found, told_behind, tell}
+use Rattle.ffi3_cdecl_rules.specs.Telling.{lives, wants_a_type, could, those, expected, one_lives, specifier_words, Track, behind_base, tracked, sized, reason_of_base, reason_by, reason_at, told_at_end, Reached, reaching, reach, reach_found, nothing_reached, told_found, told_behind, tell}
 use Rattle.ffi3_cdecl_rules.proofs.Told.{kept_count, told}
 use Rattle.ffi3_diagnostics.specs.declared.expected.Expected.{Expected}
 use Rattle.ffi3_diagnostics.specs.declared.track.Base.{Base as CodeBase}
@@ -20,7 +21,7 @@ use Rattle.ffi3_diagnostics.specs.ToldOf.{expected_of, kinds_of, track_of}
 
 -- ---- bytes
 
-pub reach_inside : (c : Sign) (bs : List ℕ) (at inside stop : ℕ) (q : Reached) → at < length bs → at < stop → 0 < inside → reach c (stop - at) inside q (drop at bs) ≡ reach c (stop - (at + 1)) (inside - 1) q (drop (at + 1) bs)
+reach_inside : (c : Sign) (bs : List ℕ) (at inside stop : ℕ) (q : Reached) → at < length bs → at < stop → 0 < inside → reach c (stop - at) inside q (drop at bs) ≡ reach c (stop - (at + 1)) (inside - 1) q (drop (at + 1) bs)
 reach_inside c bs at zero stop q h l some = absurd (omega arith)
 reach_inside c bs at (suc inside) stop q h l some =
     let n : stop - at ≡ suc (stop - (at + 1)) = omega (arith, l) in
@@ -32,10 +33,10 @@ reach_one c bs at stop q f h l e =
     let n : stop - at ≡ suc (stop - (at + 1)) = omega (arith, l) in
     ap (λ k. reach c k 0 q (drop at bs)) n ∙ ap (λ cs. reach c (suc (stop - (at + 1))) 0 q cs) (drop_more bs at 0 h) ∙ ap (λ g. reach_found g q (λ inside p. reach c (stop - (at + 1)) inside p (drop (at + 1) bs))) (sym e)
 
-pub reach_blank : (c : Sign) (bs : List ℕ) (at stop : ℕ) (q : Reached) → at < length bs → at < stop → blank ≡ found_in wide c (get_or bs at 0) (drop (at + 1) bs) → reach c (stop - at) 0 q (drop at bs) ≡ reach c (stop - (at + 1)) 0 q (drop (at + 1) bs)
+reach_blank : (c : Sign) (bs : List ℕ) (at stop : ℕ) (q : Reached) → at < length bs → at < stop → blank ≡ found_in wide c (get_or bs at 0) (drop (at + 1) bs) → reach c (stop - at) 0 q (drop at bs) ≡ reach c (stop - (at + 1)) 0 q (drop (at + 1) bs)
 reach_blank c bs at stop q h l e = reach_one c bs at stop q blank h l e
 
-pub reach_skipped : (c : Sign) (bs : List ℕ) (at stop : ℕ) (q : Reached) (more : ℕ) → at < length bs → at < stop → skipped more ≡ found_in wide c (get_or bs at 0) (drop (at + 1) bs) → reach c (stop - at) 0 q (drop at bs) ≡ reach c (stop - (at + 1)) more q (drop (at + 1) bs)
+reach_skipped : (c : Sign) (bs : List ℕ) (at stop : ℕ) (q : Reached) (more : ℕ) → at < length bs → at < stop → skipped more ≡ found_in wide c (get_or bs at 0) (drop (at + 1) bs) → reach c (stop - at) 0 q (drop at bs) ≡ reach c (stop - (at + 1)) more q (drop (at + 1) bs)
 reach_skipped c bs at stop q more h l e =
     reach_one c bs at stop q (skipped more) h l e
 
@@ -43,9 +44,29 @@ pub reach_nothing : (c : Sign) (bs : List ℕ) (at stop : ℕ) (q : Reached) →
 reach_nothing c bs at stop q h l e =
     reach_one c bs at stop q nothing_known h l e
 
-pub reach_token : (c : Sign) (bs : List ℕ) (at stop : ℕ) (q : Reached) (x : Token) (more : ℕ) → at < length bs → at < stop → found x more ≡ found_in wide c (get_or bs at 0) (drop (at + 1) bs) → reach c (stop - at) 0 q (drop at bs) ≡ reach c (stop - (at + 1)) more (reaching q x) (drop (at + 1) bs)
+reach_token : (c : Sign) (bs : List ℕ) (at stop : ℕ) (q : Reached) (x : Token) (more : ℕ) → at < length bs → at < stop → found x more ≡ found_in wide c (get_or bs at 0) (drop (at + 1) bs) → reach c (stop - at) 0 q (drop at bs) ≡ reach c (stop - (at + 1)) more (reaching q x) (drop (at + 1) bs)
 reach_token c bs at stop q x more h l e =
     reach_one c bs at stop q (found x more) h l e
+
+-- what a turn leaves, where what is reached at the end is as before it
+pub turn_inside : (c : Sign) (bs : List ℕ) (at inside more stop : ℕ) (q p all : Reached) → at < length bs → at < stop → 0 < inside → more ≡ inside - 1 → p ≡ q → reach c (stop - at) inside q (drop at bs) ≡ all → reach c (stop - (at + 1)) more p (drop (at + 1) bs) ≡ all
+turn_inside c bs at inside more stop q p all h l some e f same =
+    ap (λ i. reach c (stop - (at + 1)) i p (drop (at + 1) bs)) e ∙ ap (λ r. reach c (stop - (at + 1)) (inside - 1) r (drop (at + 1) bs)) f ∙ sym (reach_inside c bs at inside stop q h l some) ∙ same
+
+pub turn_blank : (c : Sign) (bs : List ℕ) (at inside more stop : ℕ) (q p all : Reached) → at < length bs → at < stop → inside ≤ 0 → more ≡ inside → p ≡ q → blank ≡ found_in wide c (get_or bs at 0) (drop (at + 1) bs) → reach c (stop - at) inside q (drop at bs) ≡ all → reach c (stop - (at + 1)) more p (drop (at + 1) bs) ≡ all
+turn_blank c bs at inside more stop q p all h l none e f g same =
+    let z : inside ≡ 0 = omega (arith, none) in
+    ap (λ i. reach c (stop - (at + 1)) i p (drop (at + 1) bs)) (e ∙ z) ∙ ap (λ r. reach c (stop - (at + 1)) 0 r (drop (at + 1) bs)) f ∙ sym (reach_blank c bs at stop q h l g) ∙ ap (λ i. reach c (stop - at) i q (drop at bs)) (sym z) ∙ same
+
+pub turn_skipped : (c : Sign) (bs : List ℕ) (at inside more stop n : ℕ) (q p all : Reached) → at < length bs → at < stop → inside ≤ 0 → more ≡ n → p ≡ q → skipped n ≡ found_in wide c (get_or bs at 0) (drop (at + 1) bs) → reach c (stop - at) inside q (drop at bs) ≡ all → reach c (stop - (at + 1)) more p (drop (at + 1) bs) ≡ all
+turn_skipped c bs at inside more stop n q p all h l none e f g same =
+    let z : inside ≡ 0 = omega (arith, none) in
+    ap (λ i. reach c (stop - (at + 1)) i p (drop (at + 1) bs)) e ∙ ap (λ r. reach c (stop - (at + 1)) n r (drop (at + 1) bs)) f ∙ sym (reach_skipped c bs at stop q n h l g) ∙ ap (λ i. reach c (stop - at) i q (drop at bs)) (sym z) ∙ same
+
+pub turn_token : (c : Sign) (bs : List ℕ) (at inside more stop n : ℕ) (x : Token) (q p all : Reached) → at < length bs → at < stop → inside ≤ 0 → more ≡ n → p ≡ reaching q x → found x n ≡ found_in wide c (get_or bs at 0) (drop (at + 1) bs) → reach c (stop - at) inside q (drop at bs) ≡ all → reach c (stop - (at + 1)) more p (drop (at + 1) bs) ≡ all
+turn_token c bs at inside more stop n x q p all h l none e f g same =
+    let z : inside ≡ 0 = omega (arith, none) in
+    ap (λ i. reach c (stop - (at + 1)) i p (drop (at + 1) bs)) e ∙ ap (λ r. reach c (stop - (at + 1)) n r (drop (at + 1) bs)) f ∙ sym (reach_token c bs at stop q x n h l g) ∙ ap (λ i. reach c (stop - at) i q (drop at bs)) (sym z) ∙ same
 
 reach_none : (c : Sign) (n inside : ℕ) (q : Reached) → reach c n inside q [] ≡ q
 reach_none c zero inside q = refl
@@ -63,16 +84,24 @@ reach_end c bs at inside stop q h =
 
 -- ---- a token more
 
-pub kept_lives : (s t : State) (x : Token) → t ≡ keeping wide s x → not (is_dead t) ≡ lives s x
-kept_lives s t x e = ap (λ r. not (is_dead r)) e ∙ ap not (kept_count s x)
+pub kept_lives : (s t : State) (x : Token) (d : Bool) → t ≡ keeping wide s x → d ≡ is_dead t → not d ≡ lives s x
+kept_lives s t x d e f =
+    ap not f ∙ ap (λ r. not (is_dead r)) e ∙ ap not (kept_count s x)
 
 -- what is reached with one token more
 pub reached_with : (s t : State) (y z : Track) (x : Token) → s ≡ keeping wide t x → z ≡ tracked t y x → record { state = s; track = z } ≡ reaching (record { state = t; track = y }) x
 reached_with s t y z x e f = λ i. record { state = e i; track = f i }
 
--- the state of what is reached, and what is kept beside it
-pub state_reached : (s : State) (y : Track) (q : Reached) → record { state = s; track = y } ≡ q → s ≡ q.state
-state_reached s y q e = ap (λ (r : Reached). r.state) e
+-- what is said of the state of what is reached
+pub lives_reached : (s : State) (y : Track) (q : Reached) (x : Token) (b : Bool) → record { state = s; track = y } ≡ q → b ≡ lives s x → b ≡ lives q.state x
+lives_reached s y q x b e f = f ∙ ap (λ (r : Reached). lives r.state x) e
+
+pub type_reached : (s : State) (y : Track) (q : Reached) (b : Bool) → record { state = s; track = y } ≡ q → b ≡ wants_a_type s → b ≡ wants_a_type q.state
+type_reached s y q b e f = f ∙ ap (λ (r : Reached). wants_a_type r.state) e
+
+pub end_reached : (s : State) (y : Track) (q : Reached) (d : Option Declaration) (b : Bool) → record { state = s; track = y } ≡ q → d ≡ finish s → b ≡ is_some d → b ≡ could q.state the_end
+end_reached s y q d b e f g =
+    g ∙ ap (λ o. is_some o) f ∙ ap (λ (r : Reached). is_some (finish r.state)) e
 
 pub reason_by_base : (s : State) (b : Base) (q : Reached) (x : Token) (l : Bool) → record { state = s; track = behind_base b } ≡ q → l ≡ lives (sized s) x → reason_of_base l b ≡ reason_by q.state q.track x
 reason_by_base s b q x l e f =
@@ -131,8 +160,8 @@ words_more s i h =
     ap (λ xs. one_lives s xs) (drop_more specifier_words i complex_word h)
 
 pub word_lives : (s : State) (i : ℕ) (x : Token) (b : Bool) → i < 11 → x ≡ get_or specifier_words i complex_word → b ≡ lives s x → b ≡ true → true ≡ one_lives s (drop i specifier_words)
-word_lives s i x b h e l yes =
-    or_more (lives s (get_or specifier_words i complex_word)) (one_lives s (drop (i + 1) specifier_words)) (ap (λ y. lives s y) (sym e) ∙ sym l ∙ yes) ∙ sym (words_more s i h)
+word_lives s i x b h e l live =
+    or_more (lives s (get_or specifier_words i complex_word)) (one_lives s (drop (i + 1) specifier_words)) (ap (λ y. lives s y) (sym e) ∙ sym l ∙ live) ∙ sym (words_more s i h)
 
 pub word_dead : (s : State) (i : ℕ) (x : Token) (b : Bool) → i < 11 → x ≡ get_or specifier_words i complex_word → b ≡ lives s x → b ≡ false → one_lives s (drop (i + 1) specifier_words) ≡ one_lives s (drop i specifier_words)
 word_dead s i x b h e l none =
@@ -154,36 +183,45 @@ by_false : {A : Type 0} (b : Bool) (x y : A) → b ≡ false → cond b x y ≡ 
 by_false true x y e = absurd (cc)
 by_false false x y e = refl
 
+-- those of the kinds from this one on that could stand there
+unfoldable pub those_from : State → ℕ → List rules.Expected
+those_from s i = those s (drop i every_kind)
+
 -- the kinds that are told already, and those that come
 abbrev pub with_those : State → List Expected → ℕ → List rules.Expected
-with_those s told i = kinds_of told ++ those s (drop i every_kind)
+with_those s told i = kinds_of told ++ those_from s i
+
+pub no_kind_told : (s : State) (told : List Expected) → told ≡ [] → with_those s told 0 ≡ those_from s 0
+no_kind_told s told e = ap (λ ks. with_those s ks 0) e
 
 kinds_push : (told : List Expected) (k : Expected) (more : List rules.Expected) → kinds_of (told ++ k ∷ []) ++ more ≡ kinds_of told ++ (expected_of k ∷ more)
 kinds_push [] k more = refl
 kinds_push (t ∷ told) k more = ap (λ ks. expected_of t ∷ ks) (kinds_push told k more)
 
-pub kind_told : (s : State) (i : ℕ) (told : List Expected) (k : Expected) (b : Bool) → i < 15 → expected_of k ≡ get_or every_kind i a_word → b ≡ could s (expected_of k) → b ≡ true → with_those s (told ++ k ∷ []) (i + 1) ≡ with_those s told i
-kind_told s i told k b h e l yes =
-    let first : could s (get_or every_kind i a_word) ≡ true = ap (λ j. could s j) (sym e) ∙ sym l ∙ yes in
+kind_told : (s : State) (i : ℕ) (told new : List Expected) (k : Expected) (b : Bool) → i < 15 → expected_of k ≡ get_or every_kind i a_word → b ≡ could s (expected_of k) → new ≡ cond b (told ++ k ∷ []) told → kinds_of new ++ those s (drop (i + 1) every_kind) ≡ kinds_of told ++ those s (drop i every_kind)
+kind_told s i told new k true h e l f =
+    let first : could s (get_or every_kind i a_word) ≡ true = ap (λ j. could s j) (sym e) ∙ sym l in
     let here : those s (drop i every_kind) ≡ get_or every_kind i a_word ∷ those s (drop (i + 1) every_kind) = kind_more s i h ∙ by_true (could s (get_or every_kind i a_word)) (get_or every_kind i a_word ∷ those s (drop (i + 1) every_kind)) (those s (drop (i + 1) every_kind)) first in
-    kinds_push told k (those s (drop (i + 1) every_kind)) ∙ ap (λ j. kinds_of told ++ (j ∷ those s (drop (i + 1) every_kind))) e ∙ ap (λ ks. kinds_of told ++ ks) (sym here)
-
-pub kind_not_told : (s : State) (i : ℕ) (told : List Expected) (k : Expected) (b : Bool) → i < 15 → expected_of k ≡ get_or every_kind i a_word → b ≡ could s (expected_of k) → b ≡ false → with_those s told (i + 1) ≡ with_those s told i
-kind_not_told s i told k b h e l none =
-    let first : could s (get_or every_kind i a_word) ≡ false = ap (λ j. could s j) (sym e) ∙ sym l ∙ none in
+    ap (λ ks. kinds_of ks ++ those s (drop (i + 1) every_kind)) f ∙ kinds_push told k (those s (drop (i + 1) every_kind)) ∙ ap (λ j. kinds_of told ++ (j ∷ those s (drop (i + 1) every_kind))) e ∙ ap (λ ks. kinds_of told ++ ks) (sym here)
+kind_told s i told new k false h e l f =
+    let first : could s (get_or every_kind i a_word) ≡ false = ap (λ j. could s j) (sym e) ∙ sym l in
     let here : those s (drop i every_kind) ≡ those s (drop (i + 1) every_kind) = kind_more s i h ∙ by_false (could s (get_or every_kind i a_word)) (get_or every_kind i a_word ∷ those s (drop (i + 1) every_kind)) (those s (drop (i + 1) every_kind)) first in
-    ap (λ ks. kinds_of told ++ ks) (sym here)
+    ap (λ ks. kinds_of ks ++ those s (drop (i + 1) every_kind)) f ∙ ap (λ ks. kinds_of told ++ ks) (sym here)
+
+pub kind_turn : (s : State) (i : ℕ) (told new : List Expected) (k : Expected) (b : Bool) → i < 15 → expected_of k ≡ get_or every_kind i a_word → b ≡ could s (expected_of k) → new ≡ cond b (told ++ k ∷ []) told → with_those s new (i + 1) ≡ with_those s told i
+unfolding those_from
+kind_turn s i told new k b h e l f = kind_told s i told new k b h e l f
 
 take_front : (xs ys : List rules.Expected) → take (length xs) (xs ++ ys) ≡ xs
 take_front [] ys = refl
 take_front (x ∷ xs) ys = ap (λ zs. x ∷ zs) (take_front xs ys)
 
+take_none : (n : ℕ) → take {A = rules.Expected} n [] ≡ []
+take_none zero = refl
+take_none (suc n) = refl
+
 take_few : (n : ℕ) (xs : List rules.Expected) → length xs ≤ n → take n (xs ++ []) ≡ xs
 take_few n [] h = take_none n
-  where
-    take_none : (n : ℕ) → take n [] ≡ []
-    take_none zero = refl
-    take_none (suc n) = refl
 take_few zero (x ∷ xs) h = absurd (omega (arith, h))
 take_few (suc n) (x ∷ xs) h =
     ap (λ zs. x ∷ zs) (take_few n xs (omega (arith, h)))
@@ -196,22 +234,27 @@ length_push : (told : List Expected) (k : Expected) → length (told ++ k ∷ []
 length_push [] k = refl
 length_push (t ∷ told) k = ap suc (length_push told k)
 
-pub one_more_is_few : (told new : List Expected) (k : Expected) → length told < 4 → new ≡ told ++ k ∷ [] → length new ≤ 4
-one_more_is_few told new k few e =
-    subst (λ n. n ≤ 4) (sym (ap length e ∙ length_push told k)) few
+pub still_few : (told new : List Expected) (k : Expected) (b : Bool) → length told < 4 → new ≡ cond b (told ++ k ∷ []) told → length new ≤ 4
+still_few told new k true few e =
+    subst (λ n. n ≤ 4) (sym (ap (λ ks. length ks) e ∙ length_push told k)) few
+still_few told new k false few e =
+    let n : length new ≡ length told = ap (λ ks. length ks) e in
+    omega (arith, few, n)
 
 -- where four are told, and where there is no further kind
-pub enough_told : (s : State) (told : List Expected) (i : ℕ) → 4 ≤ length told → length told ≤ 4 → with_those s told i ≡ those s every_kind → kinds_of told ≡ expected s
+pub enough_told : (s : State) (told : List Expected) (i : ℕ) → 4 ≤ length told → length told ≤ 4 → with_those s told i ≡ those_from s 0 → kinds_of told ≡ expected s
+unfolding those_from
 enough_told s told i enough few e =
     let four : length told ≡ 4 = omega (arith, enough, few) in
     let n : length (kinds_of told) ≡ 4 = kinds_length told ∙ four in
-    sym (take_front (kinds_of told) (those s (drop i every_kind))) ∙ ap (λ m. take m (with_those s told i)) n ∙ ap (take 4) e
+    sym (take_front (kinds_of told) (those s (drop i every_kind))) ∙ ap (λ m. take m (with_those s told i)) n ∙ ap (λ ks. take 4 ks) e
 
-pub all_told : (s : State) (told : List Expected) (i : ℕ) → 15 ≤ i → length told ≤ 4 → with_those s told i ≡ those s every_kind → kinds_of told ≡ expected s
+pub all_told : (s : State) (told : List Expected) (i : ℕ) → 15 ≤ i → length told ≤ 4 → with_those s told i ≡ those_from s 0 → kinds_of told ≡ expected s
+unfolding those_from
 all_told s told i done few e =
     let none : those s (drop i every_kind) ≡ [] = ap (λ ks. those s ks) (drop_all i every_kind done) in
     let n : length (kinds_of told) ≤ 4 = subst (λ m. m ≤ 4) (sym (kinds_length told)) few in
-    sym (take_few 4 (kinds_of told) n) ∙ ap (λ ks. take 4 (kinds_of told ++ ks)) (sym none) ∙ ap (take 4) e
+    sym (take_few 4 (kinds_of told) n) ∙ ap (λ ks. take 4 (kinds_of told ++ ks)) (sym none) ∙ ap (λ ks. take 4 ks) e
 
 -- ---- what is told
 
@@ -223,7 +266,7 @@ module _ (c : Sign) (text : List ℕ) (at : ℕ) where
   by_found f h e =
       ap (λ bs. told_behind c there bs) (drop_more text at 0 h) ∙ ap (λ g. told_found there g) (sym e)
 
-  same_told : (n m : ℕ) (o p : Option reasons.Reason) (ks js : List rules.Expected) → n ≡ m → o ≡ p → ks ≡ js → record { taken = n; reason = o; expected = ks } ≡ record { taken = m; reason = p; expected = js }
+  same_told : (n m : ℕ) (o p : Option reasons.Reason) (ks js : List rules.Expected) → n ≡ m → o ≡ p → ks ≡ js → ◌≡◌ {A = reasons.Told} (record { taken = n; reason = o; expected = ks }) (record { taken = m; reason = p; expected = js })
   same_told n m o p ks js e f g =
       λ i. record { taken = e i; reason = f i; expected = g i }
 

@@ -1,14 +1,14 @@
 -- Words and lines that are put one after another.
-use Rattle.std.proofs.Common.{◌≡◌, ℕ, zero, suc, ◌+◌, ◌-◌, ◌<◌, ◌≤◌, Bool, true, false, cond, min, List, [], ◌∷◌, ◌++◌, length, get_or, drop, take, map, ap, sym, refl, ◌∙◌, append_assoc, append-nil, arith}
+use Rattle.std.proofs.Common.{◌≡◌, ℕ, zero, suc, ◌+◌, ◌-◌, ◌<◌, ◌≤◌, Bool, true, false, cond, min, List, [], ◌∷◌, ◌++◌, length, get_or, drop, take, map, ap, sym, refl, ◌∙◌, append_assoc, append-nil, arith, ne_eqb}
 use Rattle.std.specs.Prelude.{◌==◌, ◌&&◌, codes, Some, None}
-use Rattle.std.proofs.lemmas.List.{drop_more, drop_all}
+use Rattle.std.proofs.lemmas.List.{drop_more, drop_all, length-drop}
 use Rattle.ffi3_cdecl_rules.specs.Tokens.{is_blank, front}
 use Rattle.ffi3_cdecl_rules.specs.Expected as rules
 use Rattle.ffi3_cdecl_rules.specs.Reasons.{Reason, Told}
 use Rattle.ffi3_diagnostics_rules.specs.ToldText.{kind_words, between, one_of, expected_words, reason_words, why_words, shown, printable, stood_words, told_words, goes_on_line, last_line, without_end, marked_at, goes_on_character, blanks_below, marked_lines, lines_at}
 use Rattle.ffi3_diagnostics.specs.declared.expected.Expected.{Expected}
 use Rattle.ffi3_diagnostics.specs.ToldOf.{expected_of, kinds_of}
-use Rattle.ffi3_cdecl.proofs.Fronts.{take-front}
+use Rattle.ffi3_cdecl.proofs.Fronts.{front_more, front_stops, front_ends, take-front}
 
 -- ---- kinds
 
@@ -17,9 +17,9 @@ kinds_length [] = refl
 kinds_length (k ∷ kinds) = ap suc (kinds_length kinds)
 
 length_left : (kinds : List Expected) (i : ℕ) → length (drop (i + 1) kinds) ≡ length kinds - i - 1
-length_left [] i = refl
-length_left (k ∷ kinds) zero = refl
-length_left (k ∷ kinds) (suc i) = length_left kinds i
+length_left kinds i =
+    let n : length kinds - (i + 1) ≡ length kinds - i - 1 = omega arith in
+    length-drop (i + 1) kinds ∙ n
 
 -- one more, of which so many stand behind
 pub one_kind : (old out : List ℕ) (kinds : List Expected) (i left : ℕ) (k : Expected) → i < length kinds → k ≡ get_or kinds i k → left ≡ length kinds - i - 1 → out ≡ (old ++ kind_words (expected_of k)) ++ between left → out ++ one_of (kinds_of (drop (i + 1) kinds)) ≡ old ++ one_of (kinds_of (drop i kinds))
@@ -115,6 +115,15 @@ line_begins line new bs i h e f =
 pub line_end : (line bs : List ℕ) (i : ℕ) → length bs ≤ i → last_line line (drop i bs) ≡ line
 line_end line bs i h = ap (λ cs. last_line line cs) (drop_all i bs h)
 
+pub on_line_more : (bs : List ℕ) (n : ℕ) → n < length bs → goes_on_line (get_or bs n 0) ≡ true → length (front goes_on_line (drop n bs)) ≡ length (front goes_on_line (drop (n + 1) bs)) + 1
+on_line_more bs n h e = front_more goes_on_line bs n h e
+
+pub on_line_stops : (bs : List ℕ) (n : ℕ) → n < length bs → goes_on_line (get_or bs n 0) ≡ false → length (front goes_on_line (drop n bs)) ≡ 0
+on_line_stops bs n h e = front_stops goes_on_line bs n h e
+
+pub on_line_ends : (bs : List ℕ) (n : ℕ) → length bs ≤ n → length (front goes_on_line (drop n bs)) ≡ 0
+on_line_ends bs n h = front_ends goes_on_line bs n h
+
 -- ---- the end without its blanks
 
 -- how many bytes stand before the blanks at the end, where the last that is none stood before this place, or so many from it on
@@ -124,7 +133,7 @@ whole_end end i (suc n) = i + suc n
 
 pub from_nothing : (n : ℕ) → whole_end 0 0 n ≡ n
 from_nothing zero = refl
-from_nothing (suc n) = refl
+from_nothing (suc n) = omega arith
 
 goes_to_solid : (end new i n : ℕ) (b : Bool) → b ≡ false → new ≡ i + 1 → whole_end new (i + 1) n ≡ whole_end end i (cond (b && (n == 0)) 0 (suc n))
 goes_to_solid end new i n true e f = absurd (cc)
@@ -134,7 +143,10 @@ goes_to_solid end new i (suc n) false e f = omega arith
 goes_to_blank : (end i n : ℕ) (b : Bool) → b ≡ true → whole_end end (i + 1) n ≡ whole_end end i (cond (b && (n == 0)) 0 (suc n))
 goes_to_blank end i n false e = absurd (cc)
 goes_to_blank end i zero true e = refl
-goes_to_blank end i (suc n) true e = omega arith
+goes_to_blank end i (suc n) true e =
+    let more : (suc n == 0) ≡ false = ne_eqb (suc n) 0 (λ none. absurd (omega (arith, none))) in
+    let same : i + 1 + suc n ≡ i + suc (suc n) = omega arith in
+    same ∙ ap (λ t. whole_end end i (cond (true && t) 0 (suc (suc n)))) (sym more)
 
 pub solid_more : (bs : List ℕ) (i end new : ℕ) → i < length bs → is_blank (get_or bs i 0) ≡ false → new ≡ i + 1 → whole_end new (i + 1) (without_end (drop (i + 1) bs)) ≡ whole_end end i (without_end (drop i bs))
 solid_more bs i end new h e f =

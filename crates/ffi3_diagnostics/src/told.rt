@@ -1,5 +1,5 @@
 // What is told of a place where a text is no declaration, in the wide reading.
-ghost use Rattle.std.specs.Prelude.{◌≡◌, IfOk, ◌<◌, ◌≤◌, get_or, length};
+ghost use Rattle.std.specs.Prelude.{◌≡◌, IfOk, OnOk, ◌<◌, ◌≤◌, get_or, length, cond, ◌++◌, ◌∷◌, []};
 ghost use Rattle.ffi3_cdecl_rules.specs.Tokens.{wide, complex_word};
 ghost use Rattle.ffi3_cdecl_rules.specs.Reading.{IsReadingIn, unexpected};
 ghost use Rattle.ffi3_cdecl_rules.specs.Expected.{every_kind, a_word, the_end};
@@ -16,6 +16,7 @@ use ffi3_cdecl::state::{State, Where};
 use ffi3_cdecl::token::{Dialect, Found, Sign, Token, TypeWord, found_in};
 use ffi3_types::NoMemory;
 use std::alloc::{AllocError, Global};
+use std::mem;
 
 /// Why a token is unexpected, where a word tells it.
 #[derive(Clone, Copy, Debug)]
@@ -68,7 +69,7 @@ fn reaching<'a>(alloc: Global, q: Reached<'a>, token: Token<'a>) -> Result<Reach
 }
 
 /// Behind the tokens that begin before an offset.
-#[tactic(auto, using(crate::proofs::Reaching::reach_inside, crate::proofs::Reaching::reach_blank, crate::proofs::Reaching::reach_skipped, crate::proofs::Reaching::reach_nothing, crate::proofs::Reaching::reach_token, crate::proofs::Reaching::reach_there, crate::proofs::Reaching::reach_end))]
+#[tactic(auto, using(crate::proofs::Reaching::reach_nothing, crate::proofs::Reaching::reach_there, crate::proofs::Reaching::reach_end))]
 fn reach<'a>(alloc: Global, c: Sign, bytes: &'a [u8], stop: usize) -> Result<Reached<'a>, NoMemory>
     ensures { IfOk result (λ q. reached_of q ≡ reach (sign_of c) stop 0 nothing_reached bytes.now) }
 {
@@ -96,16 +97,17 @@ fn reach<'a>(alloc: Global, c: Sign, bytes: &'a [u8], stop: usize) -> Result<Rea
 }
 
 /// Whether the token leads somewhere.
-#[tactic(auto, using(crate::proofs::Reaching::kept_lives))]
 fn lives(alloc: Global, state: State, token: Token<'_>) -> Result<bool, NoMemory>
     ensures { IfOk result (λ b. b ≡ lives (state_of state) (token_of token.entry)) }
 {
     let next = step(alloc, Dialect::Wide, state, token)?;
-    Ok(!is_dead(&next))
+    let dead = is_dead(&next);
+    mem::drop(next);
+    Ok(!dead)
 }
 
 /// Whether the token could stand at an offset.
-#[tactic(auto, using(crate::proofs::Reaching::state_reached))]
+#[tactic(auto, using(crate::proofs::Reaching::lives_reached))]
 fn lives_there(
     alloc: Global,
     c: Sign,
@@ -117,7 +119,8 @@ fn lives_there(
 {
     let q = reach(alloc, c, bytes, stop)?;
     let Reached { state, track: _ } = q;
-    lives(alloc, state, token)
+    let live = lives(alloc, state, token)?;
+    Ok(live)
 }
 
 /// Whether one of the words of lists that name types could, from this number on.
@@ -154,22 +157,28 @@ fn specifier_word(i: usize) -> Token<'static>
 }
 
 /// Whether a type may stand at an offset.
-#[tactic(auto, using(crate::proofs::Reaching::state_reached))]
+#[tactic(auto, using(crate::proofs::Reaching::type_reached))]
 fn type_there(alloc: Global, c: Sign, bytes: &[u8], stop: usize) -> Result<bool, NoMemory>
     ensures { IfOk result (λ b. b ≡ wants_a_type (reach (sign_of c) stop 0 nothing_reached bytes.now).state) }
 {
     let q = reach(alloc, c, bytes, stop)?;
-    Ok(wants_a_type(&q.state))
+    let Reached { state, track: _ } = q;
+    let wanted = wants_a_type(&state);
+    mem::drop(state);
+    Ok(wanted)
 }
 
 /// Whether the text may end there.
-#[tactic(auto, using(crate::proofs::Reaching::state_reached))]
+#[tactic(auto, using(crate::proofs::Reaching::end_reached))]
 fn end_there(alloc: Global, c: Sign, bytes: &[u8], stop: usize) -> Result<bool, NoMemory>
     ensures { IfOk result (λ b. b ≡ could (reach (sign_of c) stop 0 nothing_reached bytes.now).state the_end) }
 {
     let q = reach(alloc, c, bytes, stop)?;
     let Reached { state, track: _ } = q;
-    Ok(finished(state).is_some())
+    let declared = finished(state);
+    let ends = declared.is_some();
+    mem::drop(declared);
+    Ok(ends)
 }
 
 /// Whether a token of this kind could stand at an offset.
@@ -233,8 +242,18 @@ fn kind_number(i: usize) -> Expected
     }
 }
 
+/// One kind more, if it could stand there.
+fn push_if(told: &mut Vec<Expected>, kind: Expected, can: bool) -> Result<(), NoMemory>
+    ensures { OnOk result (told.new.items ≡ cond can (told.old.items ++ kind ∷ []) told.old.items) }
+{
+    if can {
+        told.push(kind)?;
+    }
+    Ok(())
+}
+
 /// The kinds that could stand at an offset: four at most, the first of them.
-#[tactic(auto, using(crate::proofs::Reaching::kind_told, crate::proofs::Reaching::kind_not_told, crate::proofs::Reaching::enough_told, crate::proofs::Reaching::all_told, crate::proofs::Reaching::one_more_is_few))]
+#[tactic(auto, using(crate::proofs::Reaching::kind_turn, crate::proofs::Reaching::still_few, crate::proofs::Reaching::no_kind_told, crate::proofs::Reaching::enough_told, crate::proofs::Reaching::all_told))]
 fn kinds(alloc: Global, c: Sign, bytes: &[u8], stop: usize) -> Result<Vec<Expected>, NoMemory>
     ensures value { IfOk result (λ v. kinds_of v.items ≡ expected (reach (sign_of c) stop 0 nothing_reached bytes.now).state) }
     ensures few { IfOk result (λ v. length v.items ≤ 4) }
@@ -245,9 +264,8 @@ fn kinds(alloc: Global, c: Sign, bytes: &[u8], stop: usize) -> Result<Vec<Expect
             return Ok(told);
         }
         let kind = kind_number(i);
-        if could(alloc, c, bytes, stop, kind)? {
-            told.push(kind)?;
-        }
+        let can = could(alloc, c, bytes, stop, kind)?;
+        push_if(&mut told, kind, can)?;
     }
     Ok(told)
 }
@@ -291,25 +309,25 @@ fn reason_of_base<'a>(
                 Ok(None)
             }
         }
-        _ => Ok(None),
+        _ => {
+            mem::drop(state);
+            Ok(None)
+        }
     }
 }
 
-/// What is told of a place of the text that is unexpected, as the fault of `read_wide_decl` has it: how many bytes the
-/// token takes that stands there, the reason where a word tells it, and what could have stood there.
-#[tactic(auto, using(crate::proofs::Reaching::tell_token, crate::proofs::Reaching::tell_blank, crate::proofs::Reaching::tell_skipped, crate::proofs::Reaching::tell_nothing, crate::proofs::Reaching::tell_end, crate::proofs::Reaching::is_told))]
-pub fn tell<'a>(
+/// What is told of a place.
+#[tactic(auto, using(crate::proofs::Reaching::tell_token, crate::proofs::Reaching::tell_blank, crate::proofs::Reaching::tell_skipped, crate::proofs::Reaching::tell_nothing, crate::proofs::Reaching::tell_end))]
+fn told_there<'a>(
     alloc: Global,
-    char_sign: Sign,
-    text: &'a str,
+    c: Sign,
+    bytes: &'a [u8],
     at: usize,
 ) -> Result<Told<'a>, NoMemory>
-    ensures computed { IfOk result (λ t. told_of t ≡ tell (sign_of char_sign) text.now at) }
-    ensures told { IfOk result (λ t. IsReadingIn wide (sign_of char_sign) text.now (unexpected at) → IsTold (sign_of char_sign) text.now at (told_of t)) }
+    ensures computed { IfOk result (λ t. told_of t ≡ tell (sign_of c) bytes.now at) }
     ensures few { IfOk result (λ t. length t.expected.items ≤ 4) }
 {
-    let bytes = text.as_bytes();
-    let expected = kinds(alloc, char_sign, bytes, at)?;
+    let expected = kinds(alloc, c, bytes, at)?;
     if at >= bytes.len() {
         return Ok(Told {
             taken: 0,
@@ -317,12 +335,12 @@ pub fn tell<'a>(
             expected,
         });
     }
-    match found_in(Dialect::Wide, char_sign, bytes, at) {
+    match found_in(Dialect::Wide, c, bytes, at) {
         Found::Token(token, more) => {
             let Some(taken) = more.checked_add(1) else {
                 return Err(AllocError);
             };
-            let reason = reason_there(alloc, char_sign, bytes, at, token)?;
+            let reason = reason_there(alloc, c, bytes, at, token)?;
             Ok(Told {
                 taken,
                 reason,
@@ -345,4 +363,21 @@ pub fn tell<'a>(
             expected,
         }),
     }
+}
+
+/// What is told of a place of the text that is unexpected, as the fault of `read_wide_decl` has it: how many bytes the
+/// token takes that stands there, the reason where a word tells it, and what could have stood there.
+#[tactic(auto, using(crate::proofs::Reaching::is_told))]
+pub fn tell<'a>(
+    alloc: Global,
+    char_sign: Sign,
+    text: &'a str,
+    at: usize,
+) -> Result<Told<'a>, NoMemory>
+    ensures computed { IfOk result (λ t. told_of t ≡ tell (sign_of char_sign) text.now at) }
+    ensures told { IfOk result (λ t. IsReadingIn wide (sign_of char_sign) text.now (unexpected at) → IsTold (sign_of char_sign) text.now at (told_of t)) }
+    ensures few { IfOk result (λ t. length t.expected.items ≤ 4) }
+{
+    let told = told_there(alloc, char_sign, text.as_bytes(), at)?;
+    Ok(told)
 }

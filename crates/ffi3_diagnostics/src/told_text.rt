@@ -269,7 +269,7 @@ fn last_line(alloc: Global, bytes: &[u8]) -> Result<Bytes, NoMemory>
 }
 
 /// How many bytes stand before the end of the line.
-#[tactic(auto, using(crate::proofs::Fronts::front_more, crate::proofs::Fronts::front_ends, crate::proofs::Fronts::front_stops))]
+#[tactic(auto, using(crate::proofs::Wording::on_line_more, crate::proofs::Wording::on_line_ends, crate::proofs::Wording::on_line_stops))]
 fn rest_of_line(bytes: &[u8]) -> usize
     ensures count { result ≡ length (front goes_on_line bytes.now) }
     ensures within { result ≤ length bytes.now }

@@ -12,6 +12,9 @@ pub struct Kept {
     pub prepared: Arc<Prepared>,
 }
 
+// Does nothing. What it is called with may go to another thread, and be read by several at once.
+fn crosses<T: Send + Sync>(_kept: &T) {}
+
 impl Kept {
     /// Keeps an interface.
     pub fn new(alloc: Global, prepared: Prepared) -> Result<Box<Kept>, AllocError>
@@ -30,6 +33,8 @@ impl Kept {
     pub fn share(&self, alloc: Global) -> Result<Box<Kept>, AllocError>
         ensures { IfOk result (λ b. arc_value b.value.prepared ≡ arc_value self.now.prepared) }
     {
+        // each handle may be another thread's
+        crosses(self);
         let prepared = Arc::try_clone(&self.prepared)?;
         match Box::new(alloc, Kept { prepared }) {
             Ok(kept) => Ok(kept),

@@ -85,12 +85,22 @@ impl Handle {
     }
 }
 
+// What is kept goes to another thread with its handle.
+unsafe impl Send for Handle {}
+
+// What it is called with, which may go to another thread.
+fn sendable<T: Send>(it: T) -> T
+    ensures { result ≡ it }
+{
+    it
+}
+
 impl Handle {
     /// A handle that keeps the value in the box.
     pub fn of(kept: Box<Kept>) -> Handle
         ensures { result.kept ≡ Some kept.value }
     {
-        Handle::from_loose(Loose::of(kept))
+        sendable(Handle::from_loose(Loose::of(kept)))
     }
 
     /// What is kept, in its box.

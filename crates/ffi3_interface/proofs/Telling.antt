@@ -1,32 +1,35 @@
 -- What C is answered where it asks for moves, from what the calls say.
-use Rattle.std.proofs.Common.{◌≡◌, ℕ, ◌+◌, ◌<◌, List, ◌++◌, length, map, take, drop, set, get_or, Bool, sym, subst, ap, ◌∙◌, slice_get, arith}
-use Rattle.std.proofs.lemmas.List.{length-map, get_or-map}
-use Rattle.std.specs.Prelude.{Option, Some}
+use Rattle.std.proofs.Common.{◌≡◌, ℕ, List, length, map, Bool, sym, subst, ap, ◌∙◌, slice_get}
+use Rattle.std.proofs.lemmas.List.{length-map}
+use Rattle.std.specs.Prelude.{Option, Some, nat_le}
 use Rattle.ffi3_moves.specs.declared.Move.{Move}
+use Rattle.ffi3_moves.specs.declared.told.ToldMove.{ToldMove}
+use Rattle.ffi3_moves.specs.Told.{told_in, told_move}
 use Rattle.ffi3_prepared.specs.declared.Prepared.{Prepared}
 use Rattle.ffi3_handle.specs.declared.kept.Kept.{Kept}
 use Rattle.ffi3_prepared.specs.Prepared.{signature_in, standard_in}
+use Rattle.ffi3_capi.specs.declared.codes.TheConstants.{OUT_OF_MEMORY}
 use Rattle.ffi3_capi.specs.Filled.{has_room, filled, room_status}
-use Rattle.ffi3_capi.proofs.Filling.{set_front}
 use Rattle.ffi3_interface.specs.declared.listing.MoveList.{MoveList}
-use Rattle.ffi3_interface.specs.declared.listing.ToldMove.{ToldMove}
 use Rattle.ffi3_interface.specs.Keeping.{interface_in}
-use Rattle.ffi3_interface.specs.Listing.{lists, moves_by, told_move, told_moves, TellsMoves, told}
+use Rattle.ffi3_interface.specs.Listing.{lists, moves_by, told_moves, TellsMoves, told, untold}
 
--- one more
-pub set_told : (ms : List Move) (ys now : List ToldMove) (i : ℕ) (m : Move) (x : ToldMove) → i < length ms → i < length ys → now ≡ take i (map told_move ms) ++ drop i ys → m ≡ get_or ms i m → x ≡ told_move m → set now i x ≡ take (i + 1) (map told_move ms) ++ drop (i + 1) ys
-set_told ms ys now i m x in_ms in_ys e at is =
-    let counted : length (map told_move ms) ≡ length ms = length-map ms told_move in
-    let in_told : i < length (map told_move ms) = omega (arith, in_ms, counted) in
-    let told_at : x ≡ get_or (map told_move ms) i x = is ∙ ap told_move at ∙ sym (get_or-map told_move ms i m x in_ms) in
-    set_front (map told_move ms) ys now i x in_told in_ys e told_at
+-- the room of two numbers is that of lists of so many
+pub room_is : (count room : ℕ) (fits : Bool) (moves old : List ToldMove) → nat_le count room ≡ fits → count ≡ length moves → room ≡ length old → room_status fits ≡ room_status (has_room moves old)
+room_is count room fits moves old test counted has =
+    ap room_status (sym test ∙ ap (λ (n : ℕ). nat_le n room) counted ∙ ap (nat_le (length moves)) has)
 
-pub moves_told : {it : Option Kept} {number : ℕ} {old : List ToldMove} (k : Kept) (list : MoveList) (p : Prepared) (moves : List Move) (new : List ToldMove) (fits : Bool) (status count : ℕ) → it ≡ Some k → slice_get lists number ≡ Some list → p ≡ interface_in k → moves ≡ moves_by (standard_in p) (signature_in p) list → count ≡ length moves → fits ≡ has_room (map told_move moves) old → status ≡ room_status fits → new ≡ filled (map told_move moves) old → TellsMoves it number old status count new
-moves_told {it} {number} {old} k list p moves new fits status count is which at are counted_moves room answered wrote =
+pub moves_told : {it : Option Kept} {number : ℕ} {old : List ToldMove} (k : Kept) (list : MoveList) (p : Prepared) (new : List ToldMove) (status count room : ℕ) → it ≡ Some k → slice_get lists number ≡ Some list → p ≡ interface_in k → count ≡ length (moves_by (standard_in p) (signature_in p) list) → new ≡ told_in (moves_by (standard_in p) (signature_in p) list) old → room ≡ length old → ((moves ys : List ToldMove) → count ≡ length moves → room ≡ length ys → status ≡ room_status (has_room moves ys)) → TellsMoves it number old status count new
+moves_told {it} {number} {old} k list p new status count room is which at counted_moves wrote has answered =
+    let moves : List Move = moves_by (standard_in p) (signature_in p) list in
     let found : List ToldMove = map told_move moves in
     let counted : count ≡ length found = counted_moves ∙ sym (length-map moves told_move) in
-    let found_is : found ≡ told_moves (interface_in k) list = ap (map told_move) are ∙ ap (λ (q : Prepared). told_moves q list) at in
+    let found_is : found ≡ told_moves (interface_in k) list = ap (λ (q : Prepared). told_moves q list) at in
     let base = subst (λ (ms : List ToldMove). TellsMoves it number old (room_status (has_room ms old)) (length ms) (filled ms old)) (sym found_is) (told k list is which) in
     let with_count = subst (λ (n : ℕ). TellsMoves it number old (room_status (has_room found old)) n (filled found old)) (sym counted) base in
     let with_array = subst (λ (ms : List ToldMove). TellsMoves it number old (room_status (has_room found old)) count ms) (sym wrote) with_count in
-    subst (λ (n : ℕ). TellsMoves it number old n count new) (sym (answered ∙ ap room_status room)) with_array
+    subst (λ (n : ℕ). TellsMoves it number old n count new) (sym (answered found old counted has)) with_array
+
+pub untold_as : {it : Option Kept} {number : ℕ} {old : List ToldMove} (k : Kept) (list : MoveList) (new : List ToldMove) → it ≡ Some k → slice_get lists number ≡ Some list → new ≡ old → TellsMoves it number old OUT_OF_MEMORY 0 new
+untold_as {it} {number} {old} k list new is which same =
+    subst (λ (ms : List ToldMove). TellsMoves it number old OUT_OF_MEMORY 0 ms) (sym same) (untold k list is which)

@@ -2,9 +2,9 @@
 use Rattle.std.specs.Prelude.{◌≡◌, ℕ, List, [], ◌∷◌, length, map, Option, Some, None, slice_get}
 use Rattle.ffi3_type_rules.specs.Signature.{Signature}
 use Rattle.ffi3_place_rules.specs.Standard.{Standard}
-use Rattle.ffi3_moves.specs.declared.Kind.{Kind}
-use Rattle.ffi3_moves.specs.declared.Kind.TheVariants.{Bytes, Zero, Sign, Ones, Number, Address, Behind}
 use Rattle.ffi3_moves.specs.declared.Move.{Move}
+use Rattle.ffi3_moves.specs.declared.told.ToldMove.{ToldMove}
+use Rattle.ffi3_moves.specs.Told.{told_move}
 use Rattle.ffi3_moves.specs.Moves.{store_moves, load_moves, collect_moves, give_moves, hidden_move, moves_of}
 use Rattle.ffi3_prepared.specs.declared.Prepared.{Prepared}
 use Rattle.ffi3_prepared.specs.Prepared.{signature_in, standard_in}
@@ -13,7 +13,6 @@ use Rattle.ffi3_capi.specs.declared.codes.TheConstants.{UNKNOWN_VALUE, OUT_OF_ME
 use Rattle.ffi3_capi.specs.Filled.{has_room, filled, room_status}
 use Rattle.ffi3_interface.specs.declared.listing.MoveList.{MoveList}
 use Rattle.ffi3_interface.specs.declared.listing.MoveList.TheVariants.{Store, Load, Collect, Give, Hidden}
-use Rattle.ffi3_interface.specs.declared.listing.ToldMove.{ToldMove}
 use Rattle.ffi3_interface.specs.Keeping.{interface_in}
 
 -- by number, from 0
@@ -26,18 +25,6 @@ moves_by std s Load = load_moves std s
 moves_by std s Collect = collect_moves std s
 moves_by std s Give = give_moves std s
 moves_by std s Hidden = moves_of (hidden_move std s)
-
-abbrev pub kind_number : Kind → ℕ
-kind_number Bytes = 0
-kind_number Zero = 1
-kind_number Sign = 2
-kind_number Ones = 3
-kind_number Number = 4
-kind_number Address = 5
-kind_number Behind = 6
-
-abbrev pub told_move : Move → ToldMove
-told_move m = record { kind = kind_number m.kind; part = m.part; from = m.from; to = m.to; length = m.length }
 
 -- THE MOVES of a list, as C has them
 abbrev pub told_moves : Prepared → MoveList → List ToldMove

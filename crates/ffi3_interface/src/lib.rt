@@ -8,6 +8,7 @@ mod numbers;
 mod transfers;
 
 pub use keeping::{prepare, share};
-pub use listing::{MoveList, ToldMove, tell_moves};
+pub use ffi3_moves::ToldMove;
+pub use listing::{MoveList, tell_moves};
 pub use numbers::{InterfaceSizes, NOWHERE, find_sizes};
 pub use transfers::{Reason, collect, give, load, store};

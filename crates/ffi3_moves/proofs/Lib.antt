@@ -8,4 +8,5 @@ pub mod Passing
 pub mod Whole
 pub mod Collecting
 pub mod Returning
+pub mod Telling
 mod Rows

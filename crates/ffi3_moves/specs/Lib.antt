@@ -2,3 +2,4 @@ pub mod Play
 pub mod Moves
 pub mod Exchange
 pub mod Laws
+pub mod Told

@@ -111,12 +111,17 @@ fn push_count(moves: &mut Moves, at: Option<Loc>, vectors: u8) -> Result<(), NoM
     }
 }
 
+// How many moves there is room for at once: two of each argument, and one more. Few functions have more.
+fn likely_count<A: Abi>(cif: &Cif<A>) -> usize {
+    2 * cif.checked_sig().count() as usize + 1
+}
+
 /// The moves by which a caller passes its arguments: from the values to the exchange at the callee's entry. The address
 /// of a hidden result is apart: `hidden_move`.
 pub fn moves_to_store<A: Abi>(alloc: Global, cif: &Cif<A>) -> Result<Moves, NoMemory>
     ensures { IfOk result (λ moves. moves ≡ store_moves A.standard cif.now) }
 {
-    let mut moves = Moves::new(alloc);
+    let mut moves = Moves::with_capacity(alloc, likely_count(cif))?;
     push_arguments_in(&mut moves, cif)?;
     push_count(&mut moves, A::vector_count(), cif.vectors())?;
     Ok(moves)
@@ -126,7 +131,7 @@ pub fn moves_to_store<A: Abi>(alloc: Global, cif: &Cif<A>) -> Result<Moves, NoMe
 pub fn moves_to_collect<A: Abi>(alloc: Global, cif: &Cif<A>) -> Result<Moves, NoMemory>
     ensures { IfOk result (λ moves. moves ≡ collect_moves A.standard cif.now) }
 {
-    let mut moves = Moves::new(alloc);
+    let mut moves = Moves::with_capacity(alloc, likely_count(cif))?;
     push_arguments_out(&mut moves, cif)?;
     Ok(moves)
 }

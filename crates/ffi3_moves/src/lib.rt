@@ -22,11 +22,16 @@ mod kinds;
 mod laws;
 mod pieces;
 mod results;
+mod told;
 
 pub use arguments::{moves_to_collect, moves_to_store};
 use ffi3_place_rules::Listed;
 pub use laws::{collect_law, give_law, load_law, store_law};
 pub use results::{hidden_move, moves_to_give, moves_to_load, returned_at};
+pub use told::{
+    ToldMove, tell_hidden_move, tell_moves_to_collect, tell_moves_to_give, tell_moves_to_load,
+    tell_moves_to_store,
+};
 
 /// How a move makes the bytes that it writes.
 #[derive(Clone, Copy, Debug, PartialEq, Eq)]

@@ -8,4 +8,4 @@ returns-in-Ok-clause-ok c =
 
 pub returns-in-Err-clause-err : goal.returns-in-Err-clause-err
 returns-in-Err-clause-err c =
-    λ f is. is_type_fault c.args.nodes.now c.in-Err.refused f c.in-Err.ensures.err (sym c.type_told.ensures ∙ is)
+    λ f is. is_type_fault c.args.nodes.now c.in-Err.refused f c.in-Err.ensures.err c.in-Err.ensures.none (sym c.type_told.ensures ∙ is)

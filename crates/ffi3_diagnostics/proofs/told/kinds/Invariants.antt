@@ -1,10 +1,9 @@
 use Rattle.std.proofs.Common.{◌≡◌, ◌≤◌, length}
-use Rattle.ffi3_cdecl_rules.specs.Expected.{every_kind}
-use Rattle.ffi3_cdecl_rules.specs.Telling.{those, reach, nothing_reached}
+use Rattle.ffi3_cdecl_rules.specs.Telling.{reach, nothing_reached}
 use Rattle.ffi3_cdecl.specs.TokenOf.{sign_of}
-use Rattle.ffi3_diagnostics.proofs.Reaching.{with_those}
+use Rattle.ffi3_diagnostics.proofs.Reaching.{with_those, those_from}
 use Rattle.ffi3_diagnostics.proofs.told.kinds.Given as goal
 
 abbrev pub invariant-loop-i : goal.invariant-loop-i
 invariant-loop-i l =
-    (length l.told.items ≤ 4) × (with_those (reach (sign_of l.c) l.stop 0 nothing_reached l.bytes).state l.told.items l.i ≡ those (reach (sign_of l.c) l.stop 0 nothing_reached l.bytes).state every_kind)
+    (length l.told.items ≤ 4) × (with_those (reach (sign_of l.c) l.stop 0 nothing_reached l.bytes).state l.told.items l.i ≡ those_from (reach (sign_of l.c) l.stop 0 nothing_reached l.bytes).state 0)

@@ -1,7 +1,7 @@
-use Rattle.std.proofs.Common.{rules, sym, ◌∙◌}
-use Rattle.ffi3_interface.specs.Listing.{nothing, unknown, untold}
+use Rattle.std.proofs.Common.{length, rules, sym, refl, ◌∙◌}
+use Rattle.ffi3_interface.specs.Listing.{nothing, unknown}
 use Rattle.ffi3_interface.proofs.Answering.{none_if}
-use Rattle.ffi3_interface.proofs.Telling.{moves_told}
+use Rattle.ffi3_interface.proofs.Telling.{moves_told, untold_as}
 use Rattle.ffi3_interface.proofs.listing.tell_moves.Goals as goal
 
 pub returns-in_default-clause-told : goal.returns-in_default-clause-told
@@ -11,10 +11,10 @@ pub returns-then-not-is_kept-clause-told : goal.returns-then-not-is_kept-clause-
 returns-then-not-is_kept-clause-told c =
     nothing c.in-Some.which (none_if c.args.it.now.kept (search rules)) (sym c.list_numbered.ensures ∙ c.in-Some.is)
 
-pub returns-in-Ok-clause-told : goal.returns-in-Ok-clause-told
-returns-in-Ok-clause-told c =
-    moves_told c.value_mut-kept.result.now c.in-Some.which c.deref.result.now c.in-Ok.found c.fill_told.new.array c.fill_told.result c.room_status.result c.len.result (search rules) (sym c.list_numbered.ensures ∙ c.in-Some.is) c.deref.ensures c.in-Ok.ensures c.len.ensures c.fill_told.ensures.fits c.room_status.ensures c.fill_told.ensures.written
+pub returns-in-Some-tell_on-clause-told : goal.returns-in-Some-tell_on-clause-told
+returns-in-Some-tell_on-clause-told c =
+    moves_told c.value_mut-kept.result.now c.in-Some.which c.deref.result.now c.tell_on.new.array c.status_of.result c.in-Some-tell_on.found (length c.args.array.now) (search rules) (sym c.list_numbered.ensures ∙ c.in-Some.is) c.deref.ensures c.in-Some-tell_on.ensures.count c.in-Some-tell_on.ensures.told refl c.status_of.ensures
 
-pub returns-in-Err-clause-told : goal.returns-in-Err-clause-told
-returns-in-Err-clause-told c =
-    untold c.value_mut-kept.result.now c.in-Some.which (search rules) (sym c.list_numbered.ensures ∙ c.in-Some.is)
+pub returns-in-None-clause-told : goal.returns-in-None-clause-told
+returns-in-None-clause-told c =
+    untold_as c.value_mut-kept.result.now c.in-Some.which c.tell_on.new.array (search rules) (sym c.list_numbered.ensures ∙ c.in-Some.is) (c.tell_on.ensures.untold (search rules))

@@ -1,0 +1,20 @@
+use Rattle.std.proofs.Common.{◌<◌, length, ap, refl, arith, rules}
+use Rattle.ffi3_type_rules.specs.Tree.{tree_at}
+use Rattle.ffi3_place_rules.specs.Standard.{plan_of}
+use Rattle.ffi3_place_rules.proofs.Elements.{argument_read}
+use Rattle.ffi3_moves.specs.Moves.{arguments_out}
+use Rattle.ffi3_moves.proofs.Turns.{place_read}
+use Rattle.ffi3_moves.proofs.Telling.{counted_out}
+use Rattle.ffi3_moves.proofs.told.count_of_arguments_out.Goals as goal
+
+pub loop-i-preserved : goal.loop-i-preserved
+loop-i-preserved g c =
+    let ts = c.args.cif.now.arguments in
+    let ps = (plan_of g.A.Abi.standard c.args.cif.now).places in
+    let j = c.loop-i.i in
+    let t = tree_at ts j in
+    let p = c.place.result.now in
+    let below : c.loop-i.i < length c.args.cif.now.arguments = omega (arith, c.loop-i-test.true, c.count-i-end.ensures.value, ap (λ r. length r.arguments) c.checked_sig-sig.ensures.value) in
+    let types = argument_read ts j t below refl in
+    let places = place_read ps j p c.place.ensures in
+    counted_out ts ps j t p types places c.loop-i.count c.count_of_argument_out-here.result c.in-Some.more (length (arguments_out 0 0 ts ps)) (c.count_of_argument_out-here.ensures j 0 t) (search rules) c.loop-i.invariant

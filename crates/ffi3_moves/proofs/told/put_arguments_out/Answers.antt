@@ -1,0 +1,39 @@
+use Rattle.std.proofs.Common.{◌≡◌, ◌<◌, ◌+◌, length, ap, ◌∙◌, refl, arith}
+use Rattle.ffi3_type_rules.specs.Layout.{least_multiple, size_of}
+use Rattle.ffi3_type_rules.specs.Tree.{tree_at}
+use Rattle.ffi3_place_rules.specs.Standard.{plan_of, round8}
+use Rattle.ffi3_place_rules.proofs.Elements.{argument_read}
+use Rattle.ffi3_moves.proofs.Turns.{place_read}
+use Rattle.ffi3_moves.proofs.Telling.{argument_told_out, left_out}
+use Rattle.ffi3_moves.proofs.told.put_arguments_out.Goals as goal
+
+pub put_argument_out-at-requires-clause-room : goal.put_argument_out-at-requires-clause-room
+put_argument_out-at-requires-clause-room g c =
+    let ts = c.args.cif.now.arguments in
+    let ps = (plan_of g.A.Abi.standard c.args.cif.now).places in
+    let j = c.loop-i.i in
+    let t = c.arg-ty.result in
+    let p = c.place.result.now in
+    let below : c.loop-i.i < length c.args.cif.now.arguments = omega (arith, c.loop-i-test.true, c.count-i-end.ensures.value, ap (λ r. length r.arguments) c.checked_sig-sig.ensures.value) in
+    let type_is = c.arg-ty.ensures ∙ ap (λ r. tree_at r.arguments c.loop-i.i) c.checked_sig-sig.ensures.value in
+    let types = argument_read ts j t below type_is in
+    let places = place_read ps j p c.place.ensures in
+    omega (arith, c.loop-i.invariant.count, c.loop-i.auto.told, c.requires, left_out ts ps j t p types places c.loop-i.to (c.loop-i.to + round8 (size_of t)) refl)
+
+pub loop-i-preserved : goal.loop-i-preserved
+loop-i-preserved g c =
+    let ts = c.args.cif.now.arguments in
+    let ps = (plan_of g.A.Abi.standard c.args.cif.now).places in
+    let j = c.loop-i.i in
+    let t = c.arg-ty.result in
+    let p = c.place.result.now in
+    let below : c.loop-i.i < length c.args.cif.now.arguments = omega (arith, c.loop-i-test.true, c.count-i-end.ensures.value, ap (λ r. length r.arguments) c.checked_sig-sig.ensures.value) in
+    let type_is = c.arg-ty.ensures ∙ ap (λ r. tree_at r.arguments c.loop-i.i) c.checked_sig-sig.ensures.value in
+    let types = argument_read ts j t below type_is in
+    let places = place_read ps j p c.place.ensures in
+    let ends : c.loop-i.to + c.round_up-to.result ≡ c.loop-i.to + round8 (size_of c.arg-ty.result) = omega (arith, c.round_up-to.ensures.value, ap (least_multiple 8) c.size.ensures.value) in
+    record {
+      done = argument_told_out ts ps j t p types places c.loop-i.to (c.loop-i.to + c.round_up-to.result) ends c.loop-i.at c.put_argument_out-at.result c.loop-i.told c.put_argument_out-at.new.told _ c.put_argument_out-at.ensures.end c.put_argument_out-at.ensures.put c.loop-i.invariant.done;
+      count = omega (arith, c.loop-i.invariant.count, c.put_argument_out-at.ensures.end, left_out ts ps j t p types places c.loop-i.to (c.loop-i.to + c.round_up-to.result) ends);
+      low = omega (arith, c.loop-i.invariant.low, c.size.ensures.small, c.round_up-to.ensures.close);
+    }

@@ -1,0 +1,13 @@
+use Rattle.std.proofs.Common.{◌≡◌, ◌+◌, ◌*◌, ◌≤◌, drop, length, map}
+use Rattle.std.proofs.lemmas.List.Edits.{sets}
+use Rattle.ffi3_place_rules.specs.Standard.{plan_of}
+use Rattle.ffi3_moves.specs.Moves.{arguments_out}
+use Rattle.ffi3_moves.specs.Told.{told_move}
+use Rattle.ffi3_moves.proofs.told.put_arguments_out.Given as goal
+
+abbrev pub invariant-loop-i : goal.invariant-loop-i
+invariant-loop-i g l = record {
+  done : sets l.told l.at (map told_move (arguments_out l.i l.to (drop l.i l.cif.arguments) (drop l.i (plan_of g.A.Abi.standard l.cif).places))) ≡ sets l.initial.told 0 (map told_move (arguments_out 0 0 l.cif.arguments (plan_of g.A.Abi.standard l.cif).places));
+  count : l.at + length (arguments_out l.i l.to (drop l.i l.cif.arguments) (drop l.i (plan_of g.A.Abi.standard l.cif).places)) ≡ length (arguments_out 0 0 l.cif.arguments (plan_of g.A.Abi.standard l.cif).places);
+  low : l.to ≤ 4104 * l.i;
+}

@@ -1,0 +1,9 @@
+use Rattle.std.proofs.Common.{◌≡◌, ◌+◌, ◌-◌, take, map}
+use Rattle.std.proofs.lemmas.List.Edits.{sets}
+use Rattle.ffi3_moves.specs.Moves.{pieces_out}
+use Rattle.ffi3_moves.specs.Told.{told_move}
+use Rattle.ffi3_moves.proofs.told.put_pieces_out.Given as goal
+
+abbrev pub invariant-loop-j : goal.invariant-loop-j
+invariant-loop-j l =
+    sets l.told (l.at + l.j) (map told_move (pieces_out l.part l.to (take (l.count - l.j) l.pieces))) ≡ sets l.initial.told l.at (map told_move (pieces_out l.part l.to l.pieces))
