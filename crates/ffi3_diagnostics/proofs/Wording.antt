@@ -1,6 +1,6 @@
 -- Words and lines that are put one after another.
 use Rattle.std.proofs.Common.{◌≡◌, ℕ, zero, suc, ◌+◌, ◌-◌, ◌<◌, ◌≤◌, Bool, true, false, cond, min, List, [], ◌∷◌, ◌++◌, length, get_or, drop, take, map, ap, sym, refl, ◌∙◌, append_assoc, append-nil, arith, ne_eqb}
-use Rattle.std.specs.Prelude.{◌==◌, ◌&&◌, codes, Some, None}
+use Rattle.std.specs.Prelude.{◌==◌, ◌&&◌, codes, Some}
 use Rattle.std.proofs.lemmas.List.{drop_more, drop_all, length-drop}
 use Rattle.ffi3_cdecl_rules.specs.Tokens.{is_blank, front}
 use Rattle.ffi3_cdecl_rules.specs.Expected as rules

@@ -318,12 +318,7 @@ fn reason_of_base<'a>(
 
 /// What is told of a place.
 #[tactic(auto, using(crate::proofs::Reaching::tell_token, crate::proofs::Reaching::tell_blank, crate::proofs::Reaching::tell_skipped, crate::proofs::Reaching::tell_nothing, crate::proofs::Reaching::tell_end))]
-fn told_there<'a>(
-    alloc: Global,
-    c: Sign,
-    bytes: &'a [u8],
-    at: usize,
-) -> Result<Told<'a>, NoMemory>
+fn told_there<'a>(alloc: Global, c: Sign, bytes: &'a [u8], at: usize) -> Result<Told<'a>, NoMemory>
     ensures computed { IfOk result (λ t. told_of t ≡ tell (sign_of c) bytes.now at) }
     ensures few { IfOk result (λ t. length t.expected.items ≤ 4) }
 {

@@ -20,8 +20,8 @@ loop-at-preserved c =
     let h = c.loop-at-test.true in
     let l = c.if-at-stop.false in
     elim c.if-inside-gt0.branch [
-      then-inside-gt0 w ↦ turn_inside s bs at inside more stop q p all h l w.if-inside-gt0.true w.inside-is (ap reached_of w.q-is) c.loop-at.invariant
-    | else-inside-gt0+in-Blank w ↦ turn_blank s bs at inside more stop q p all h l w.if-inside-gt0.false w.inside-is (ap reached_of w.q-is) (sym (ap found_of w.in-Blank.is) ∙ w.found_in.ensures) c.loop-at.invariant
-    | else-inside-gt0+in-Skipped w ↦ turn_skipped s bs at inside more stop w.in-Skipped.more q p all h l w.if-inside-gt0.false w.inside-is (ap reached_of w.q-is) (sym (ap found_of w.in-Skipped.is) ∙ w.found_in.ensures) c.loop-at.invariant
-    | else-inside-gt0+in-Token+in_ok-q-in-Token w ↦ turn_token s bs at inside more stop w.in-Token.more (token_of w.in-Token.token) q p all h l w.if-inside-gt0.false w.inside-is (ap reached_of w.q-is ∙ w.in_ok-q-in-Token.ensures) (sym (ap found_of w.in-Token.is) ∙ w.found_in.ensures) c.loop-at.invariant
+      | then-inside-gt0 w ↦ turn_inside s bs at inside more stop q p all h l w.if-inside-gt0.true w.inside-is (ap reached_of w.q-is) c.loop-at.invariant
+      | else-inside-gt0+in-Blank w ↦ turn_blank s bs at inside more stop q p all h l w.if-inside-gt0.false w.inside-is (ap reached_of w.q-is) (sym (ap found_of w.in-Blank.is) ∙ w.found_in.ensures) c.loop-at.invariant
+      | else-inside-gt0+in-Skipped w ↦ turn_skipped s bs at inside more stop w.in-Skipped.more q p all h l w.if-inside-gt0.false w.inside-is (ap reached_of w.q-is) (sym (ap found_of w.in-Skipped.is) ∙ w.found_in.ensures) c.loop-at.invariant
+      | else-inside-gt0+in-Token+in_ok-q-in-Token w ↦ turn_token s bs at inside more stop w.in-Token.more (token_of w.in-Token.token) q p all h l w.if-inside-gt0.false w.inside-is (ap reached_of w.q-is ∙ w.in_ok-q-in-Token.ensures) (sym (ap found_of w.in-Token.is) ∙ w.found_in.ensures) c.loop-at.invariant
     ]
