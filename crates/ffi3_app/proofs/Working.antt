@@ -1,6 +1,6 @@
 -- What came of work, from what its parts came to.
 use Rattle.std.proofs.Common.{◌≡◌, ℕ, ◌≤◌, List, length, inl, inr, refl, sym, subst, ap, ◌∙◌}
-use Rattle.std.specs.Prelude.{Bool, Result, Ok, Err, OnOk, IsUtf8, codes}
+use Rattle.std.specs.Prelude.{Bool, Result, Ok, Err, IfOk, OnOk, IsUtf8, codes}
 use Rattle.ffi3_type_rules.specs.declared.Target.{Target}
 use Rattle.ffi3_type_rules.specs.Signature.{Position, SignatureHasNoFault}
 use Rattle.ffi3_io.specs.Sink.{SinkState}
@@ -147,7 +147,7 @@ module _ (IsRead : List ℕ → Prototype → Type 0) where
 
 -- a text that is read so is none, whatever is done with one
 refused_text : (text : List ℕ) (p : Prototype) (line : List ℕ) (e : Unfinished) → IsPrototype text p → ((outcome : Declaration → Outcome) → refuses line ≡ outcome_of_prototype text outcome (a_text p)) → RefusesWith line e → IsNoText text e
-refused_text text p line (Refused told) reads is same = (p, (reads, λ outcome. ap (λ (l : List ℕ). refuses l) same ∙ is outcome))
+refused_text text p line (Refused told) reads is same = (p, reads, λ outcome. ap (λ (l : List ℕ). refuses l) same ∙ is outcome)
 refused_text text p line NoMemory reads is same = tt
 refused_text text p line WriteFault reads is same = absurd same
 
@@ -195,7 +195,7 @@ reads_both text d e x p q (is, same) =
 -- or not
 pub reads_apart : (text : List ℕ) (d e : Declaration) (f : Unfinished) → declaration.IsReadingIn wide signed text (declaration.reads d) → declaration.IsReadingIn wide unsigned text (declaration.reads e) → IsSignUnsaid d e f → IsNoText text f
 reads_apart text d e (Refused line) p q (other, is) =
-    (sign_unsaid (first_other d.signature e.signature), (reads_by_sign p q other, λ outcome. ap (λ (l : List ℕ). refuses l) is))
+    (sign_unsaid (first_other d.signature e.signature), reads_by_sign p q other, λ outcome. ap (λ (l : List ℕ). refuses l) is)
 reads_apart text d e NoMemory p q apart = tt
 reads_apart text d e WriteFault p q apart = absurd apart
 
@@ -206,9 +206,9 @@ sign_unsaid_by d e position WriteFault other is same = absurd same
 
 -- the text is the input's
 pub no_prototype : (bytes lent : List ℕ) (e : Unfinished) → length bytes ≤ max_length → IsUtf8 bytes → lent ≡ bytes → IsNoText lent e → IsNoPrototype bytes e
-no_prototype bytes lent (Refused line) short utf8 same (p, (reads, is)) =
+no_prototype bytes lent (Refused line) short utf8 same (p, reads, is) =
     let P = λ (b : List ℕ). IsPrototype b p in
-    λ outcome. (a_text p, ((short, utf8, subst P same reads), is outcome ∙ ap (λ (b : List ℕ). outcome_of_prototype b outcome (a_text p)) same))
+    λ outcome. (a_text p, (short, utf8, subst P same reads), is outcome ∙ ap (λ (b : List ℕ). outcome_of_prototype b outcome (a_text p)) same)
 no_prototype bytes lent NoMemory short utf8 same is = tt
 no_prototype bytes lent WriteFault short utf8 same is = absurd is
 
@@ -227,6 +227,11 @@ fault_told_as f g e same told =
 pub place_told_as : (text : List ℕ) (f g : DeclFault) (e : Unfinished) → f ≡ g → IsPlaceToldAs text g e → IsPlaceToldAs text f e
 place_told_as text f g e same told =
     let P = λ (x : DeclFault). IsPlaceToldAs text x e in subst P (sym same) told
+
+-- the words are these
+pub marked_as : {E : Type 0} (text : List ℕ) (at : ℕ) (words said : List ℕ) (r : Result (List ℕ) E) → words ≡ said → IfOk r (λ l. l ≡ marked_line text at words) → IfOk r (λ l. l ≡ marked_line text at said)
+marked_as text at words said r same is =
+    let P = λ (w : List ℕ). IfOk r (λ l. l ≡ marked_line text at w) in subst P same is
 
 -- the fault of a signature, by its reason
 pub reason_told : (f : DeclFault) (s : SigFault) (r : Reason) (e : Unfinished) → f ≡ decl.Sig s → reason_of r ≡ reason_of_fault (signature_fault_of s) → RefusesWith (reason_line (text_of_reason (reason_of r))) e → IsFaultToldAs f e

@@ -7,6 +7,7 @@ use Rattle.ffi3_type_rules.specs.Signature.{Signature, SignatureFault, too_many,
 use Rattle.ffi3_cdecl_rules.specs.Tokens.{wide, Sign}
 use Rattle.ffi3_cdecl_rules.specs.Reading.{bad_token, unexpected, bad_number, bad_signature, IsReadingIn}
 use Rattle.ffi3_cdecl_rules.specs.Reasons.{Told, IsTold}
+use Rattle.ffi3_cdecl_rules.specs.Telling.{tell}
 use Rattle.ffi3_diagnostics.specs.declared.expected.Expected.{Expected}
 use Rattle.ffi3_diagnostics.specs.ToldOf.{expected_of, kinds_of}
 use Rattle.ffi3_capi.specs.declared.codes.TheConstants.{DONE, NOT_DECLARED}
@@ -38,14 +39,13 @@ no_number_there [] (suc i) e = refl
 no_number_there (j ∷ kinds) zero e = cc
 no_number_there (j ∷ kinds) (suc i) e = no_number_there kinds i e
 
-pub unexpected_there : (c : Sign) (text : List ℕ) (at : ℕ) (t : Told) (u : CheckedText) → u ≡ told_at at t → (IsReadingIn wide c text (unexpected at) → IsTold c text at t) → IsUtf8 text → IsReadingIn wide c text (unexpected at) → IsUnexpectedIn c text u
-unexpected_there c text at t u is told utf8 there = record {
+pub unexpected_there : (c : Sign) (text : List ℕ) (at : ℕ) (t : Told) (u : CheckedText) → u ≡ told_at at t → t ≡ tell c text at → (IsReadingIn wide c text (unexpected at) → IsTold c text at t) → IsUtf8 text → IsReadingIn wide c text (unexpected at) → IsUnexpectedIn c text u
+unexpected_there c text at t u is computed told utf8 there = record {
   at = at;
-  told = t;
   utf8 = utf8;
   there = there;
-  is_told = told there;
-  is = is;
+  is_told = subst (λ (s : Told). IsTold c text at s) computed (told there);
+  is = is ∙ ap (told_at at) computed;
 }
 
 module _ (target : ℕ) (text : List ℕ) where

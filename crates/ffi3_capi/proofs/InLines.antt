@@ -6,6 +6,7 @@ use Rattle.ffi3_type_rules.specs.Signature.{Signature, SignatureFault}
 use Rattle.ffi3_cdecl_rules.specs.Tokens.{wide}
 use Rattle.ffi3_cdecl_rules.specs.Reading.{bad_token, unexpected, bad_number, bad_signature, IsReadingIn}
 use Rattle.ffi3_cdecl_rules.specs.Reasons.{Told, IsTold}
+use Rattle.ffi3_cdecl_rules.specs.Telling.{tell}
 use Rattle.ffi3_diagnostics_rules.specs.ToldText.{told_words, lines_at}
 use Rattle.ffi3_capi.specs.declared.fault.TextFault.{TextFault}
 use Rattle.ffi3_capi.specs.declared.fault.FaultKind.TheVariants.{NotUtf8}
@@ -28,9 +29,10 @@ module _ (target : ℕ) (text : List ℕ) where
   told_lines ls ms e is =
       subst (λ ns. AreFaultLines target text ns) (sym e) is
 
-  pub lines_unexpected : (ls words : List ℕ) (at : ℕ) (t : Told) → ls ≡ place_line at words ++ lines_at text at → words ≡ told_words text at t → (IsReadingIn wide (char_sign target) text (unexpected at) → IsTold (char_sign target) text at t) → IsUtf8 text → IsSome (slice_get targets target) → IsReadingIn wide (char_sign target) text (unexpected at) → AreFaultLines target text ls
-  lines_unexpected ls words at t e f told utf8 some is =
-      told_lines ls (place_line at (told_words text at t) ++ lines_at text at) (e ∙ ap (λ ws. place_line at ws ++ lines_at text at) f) (at_unexpected at t some utf8 is (told is))
+  pub lines_unexpected : (ls words : List ℕ) (at : ℕ) (t : Told) → ls ≡ place_line at words ++ lines_at text at → words ≡ told_words text at t → t ≡ tell (char_sign target) text at → (IsReadingIn wide (char_sign target) text (unexpected at) → IsTold (char_sign target) text at t) → IsUtf8 text → IsSome (slice_get targets target) → IsReadingIn wide (char_sign target) text (unexpected at) → AreFaultLines target text ls
+  lines_unexpected ls words at t e f computed told utf8 some is =
+      let told_there = tell (char_sign target) text at in
+      told_lines ls (place_line at (told_words text at told_there) ++ lines_at text at) (e ∙ ap (λ ws. place_line at ws ++ lines_at text at) (f ∙ ap (told_words text at) computed)) (at_unexpected at some utf8 is (subst (λ (s : Told). IsTold (char_sign target) text at s) computed (told is)))
 
   pub lines_bad_token : (ls : List ℕ) (at : ℕ) → ls ≡ place_line at (codes "bad token") ++ lines_at text at → IsUtf8 text → IsSome (slice_get targets target) → IsReadingIn wide (char_sign target) text (bad_token at) → AreFaultLines target text ls
   lines_bad_token ls at e utf8 some is =

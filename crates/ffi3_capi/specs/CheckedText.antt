@@ -9,6 +9,7 @@ use Rattle.ffi3_cdecl_rules.specs.Expected.{the_end, a_star, closing_square, clo
 use Rattle.ffi3_cdecl_rules.specs.Expected.{opening_round, opening_square, the_dots, a_word}
 use Rattle.ffi3_cdecl_rules.specs.Reasons.{Base, a_struct_of, a_union_of, an_enum_of, a_type_named, Reason}
 use Rattle.ffi3_cdecl_rules.specs.Reasons.{an_attribute, a_keyword, by_value, Told, IsTold}
+use Rattle.ffi3_cdecl_rules.specs.Telling.{tell}
 use Rattle.ffi3_capi.specs.declared.codes.TheConstants.{DONE, NOT_DECLARED}
 use Rattle.ffi3_capi.specs.declared.checking.CheckedText.{CheckedText}
 use Rattle.ffi3_capi.specs.declared.fault.TextFault.{TextFault}
@@ -80,14 +81,13 @@ nothing_beside fault = record {
   fault = fault;
 }
 
--- WHAT IS TOLD of a text that has something unexpected, where a `char` is signed or not
+-- WHAT IS TOLD of a text that has something unexpected, where a `char` is signed or not: what is computed of the place, which is what is to be told of it
 pub record IsUnexpectedIn (c : Sign) (text : List ℕ) (u : CheckedText) : Type 0 where
   pub at : ℕ
-  pub told : Told
   pub utf8 : IsUtf8 text
   pub there : IsReadingIn wide c text (unexpected at)
-  pub is_told : IsTold c text at told
-  pub is : u ≡ told_at at told
+  pub is_told : IsTold c text at (tell c text at)
+  pub is : u ≡ told_at at (tell c text at)
 
 -- OR WHY NOTHING IS TOLD of a place: no standard has the number, or the text has another fault. Memory alone is free.
 abbrev pub IsCheckRefusal : ℕ → List ℕ → Refusal → Type 0

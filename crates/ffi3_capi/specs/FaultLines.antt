@@ -4,7 +4,8 @@ use Rattle.std.specs.Fmt.{decimal}
 use Rattle.ffi3_type_rules.specs.Signature.{Signature, SignatureFault}
 use Rattle.ffi3_cdecl_rules.specs.Tokens.{wide}
 use Rattle.ffi3_cdecl_rules.specs.Reading.{bad_token, unexpected, bad_number, bad_signature, IsReadingIn}
-use Rattle.ffi3_cdecl_rules.specs.Reasons.{Told, IsTold}
+use Rattle.ffi3_cdecl_rules.specs.Reasons.{IsTold}
+use Rattle.ffi3_cdecl_rules.specs.Telling.{tell}
 use Rattle.ffi3_diagnostics_rules.specs.ToldText.{told_words, lines_at}
 use Rattle.ffi3_capi.specs.declared.fault.FaultKind.TheVariants.{NotUtf8}
 use Rattle.ffi3_capi.specs.Chars.{char_sign}
@@ -28,9 +29,10 @@ pub data AreFaultLines (target : ℕ) (text : List ℕ) : List ℕ → Type 0 wh
   at_bad_token : (at : ℕ) → IsSome (slice_get targets target) → IsUtf8 text
       → IsReadingIn wide (char_sign target) text (bad_token at)
       → AreFaultLines target text (place_line at (codes "bad token") ++ lines_at text at)
-  at_unexpected : (at : ℕ) (t : Told) → IsSome (slice_get targets target) → IsUtf8 text
-      → IsReadingIn wide (char_sign target) text (unexpected at) → IsTold (char_sign target) text at t
-      → AreFaultLines target text (place_line at (told_words text at t) ++ lines_at text at)
+  at_unexpected : (at : ℕ) → IsSome (slice_get targets target) → IsUtf8 text
+      → IsReadingIn wide (char_sign target) text (unexpected at)
+      → IsTold (char_sign target) text at (tell (char_sign target) text at)
+      → AreFaultLines target text (place_line at (told_words text at (tell (char_sign target) text at)) ++ lines_at text at)
   at_bad_number : (at : ℕ) → IsSome (slice_get targets target) → IsUtf8 text
       → IsReadingIn wide (char_sign target) text (bad_number at)
       → AreFaultLines target text (place_line at (codes "bad number") ++ lines_at text at)

@@ -99,7 +99,7 @@ pub data IsFaultOf (c : Sign) (text : List ℕ) : TextFault → Type 0 where
   misread : (o : Outcome) (f : TextFault) → IsUtf8 text → IsReadingIn wide c text o → outcome_fault o ≡ Some f
       → IsFaultOf c text f
 
--- WHAT BYTES DECLARE, in the wide reading, where a `char` is signed or not: a function of some name and of this signature
+-- WHAT BYTES DECLARE that are UTF-8, in the wide reading, where a `char` is signed or not: a function of some name and of this signature
 abbrev pub Declares : Sign → List ℕ → Signature → Type 0
 Declares c text s =
-    (called : List ℕ) × IsReadingIn wide c text (reads (record { called = called; signature = s }))
+    IsUtf8 text × (called : List ℕ) × IsReadingIn wide c text (reads (record { called = called; signature = s }))

@@ -7,8 +7,8 @@ mod listing;
 mod numbers;
 mod transfers;
 
-pub use keeping::{prepare, share};
 pub use ffi3_moves::ToldMove;
+pub use keeping::{prepare, share};
 pub use listing::{MoveList, tell_moves};
 pub use numbers::{InterfaceSizes, NOWHERE, find_sizes};
 pub use transfers::{Reason, collect, give, load, store};

@@ -3,12 +3,12 @@ use Rattle.ffi3_cdecl.specs.declared.fault.DeclFault.TheVariants.{BadToken, Unex
 use Rattle.ffi3_json.specs.ReasonOf.{reason_of}
 use Rattle.ffi3_script_rules.specs.ReasonText.{text_of_reason}
 use Rattle.ffi3_app.specs.Declarations.{marked_line, unexpected_line, reason_line}
-use Rattle.ffi3_app.proofs.Working.{place_told_as, reason_told_there}
+use Rattle.ffi3_app.proofs.Working.{marked_as, place_told_as, reason_told_there}
 use Rattle.ffi3_app.proofs.marking.place_refusal.Goals as goal
 
 pub returns-in-BadToken : goal.returns-in-BadToken
 returns-in-BadToken c =
-    place_told_as c.args.text.now c.args.fault.now (BadToken c.in-BadToken.at) c.refused.result c.in-BadToken.is (c.refused.ensures (marked_line c.args.text.now c.in-BadToken.at (codes "bad token")) c.marked_line.ensures)
+    place_told_as c.args.text.now c.args.fault.now (BadToken c.in-BadToken.at) c.refused.result c.in-BadToken.is (c.refused.ensures (marked_line c.args.text.now c.in-BadToken.at (codes "bad token")) (marked_as c.args.text.now c.in-BadToken.at c.as_bytes.result.now (codes "bad token") c.marked_line.result c.as_bytes.ensures.value c.marked_line.ensures))
 
 pub returns-in-Unexpected : goal.returns-in-Unexpected
 returns-in-Unexpected c =
@@ -16,7 +16,7 @@ returns-in-Unexpected c =
 
 pub returns-in-BadNumber : goal.returns-in-BadNumber
 returns-in-BadNumber c =
-    place_told_as c.args.text.now c.args.fault.now (BadNumber c.in-BadNumber.at) c.refused-in-BadNumber.result c.in-BadNumber.is (c.refused-in-BadNumber.ensures (marked_line c.args.text.now c.in-BadNumber.at (codes "bad number")) c.marked_line-in-BadNumber.ensures)
+    place_told_as c.args.text.now c.args.fault.now (BadNumber c.in-BadNumber.at) c.refused-in-BadNumber.result c.in-BadNumber.is (c.refused-in-BadNumber.ensures (marked_line c.args.text.now c.in-BadNumber.at (codes "bad number")) (marked_as c.args.text.now c.in-BadNumber.at c.as_bytes-in-BadNumber.result.now (codes "bad number") c.marked_line-in-BadNumber.result c.as_bytes-in-BadNumber.ensures.value c.marked_line-in-BadNumber.ensures))
 
 pub returns-in-Sig : goal.returns-in-Sig
 returns-in-Sig c =

@@ -12,4 +12,4 @@ returns-in-Ok-clause-refused c =
 
 pub returns-in-Err-clause-refused : goal.returns-in-Err-clause-refused
 returns-in-Err-clause-refused c =
-    refused_unsigned c.args.text.now c.args.declaration c.in-Err.fault c.refusal.result c.requires c.in-Err.ensures.err c.refusal.ensures
+    refused_unsigned c.args.text.now c.args.declaration c.in-Err.fault c.place_refusal.result c.requires c.in-Err.ensures.err c.place_refusal.ensures

@@ -3,7 +3,7 @@ use Rattle.std.proofs.lemmas.Result.{IfOk-weaker}
 use Rattle.ffi3_types.specs.SignatureFaultOf.{signature_fault_of}
 use Rattle.ffi3_cdecl_rules.specs.Tokens.{wide}
 use Rattle.ffi3_cdecl_rules.specs.Reading.{IsReadingIn}
-use Rattle.ffi3_cdecl_rules.specs.ToldText.{lines_at}
+use Rattle.ffi3_diagnostics_rules.specs.ToldText.{lines_at}
 use Rattle.ffi3_cdecl.specs.Tells.{Tells}
 use Rattle.ffi3_capi.specs.Chars.{char_sign}
 use Rattle.ffi3_capi.specs.FaultLines.{place_line}
