@@ -201,7 +201,8 @@ static void try_check(uint32_t target, const char *text, size_t length, int at_e
     uint32_t told = ffi3_check_text(target, text, length, checked);
     add(&told, sizeof told);
     add(checked, sizeof *checked);
-    check(told == (checked->fault.kind ? FFI3_NOT_DECLARED : FFI3_OK), "check");
+    check(told == (target > FFI3_APPLE ? FFI3_UNKNOWN_TARGET : checked->fault.kind ? FFI3_NOT_DECLARED : FFI3_OK),
+          "check");
     size_t wanted = ffi3_fault_lines(target, text, length, lines, sizeof lines);
     add(&wanted, sizeof wanted);
     add(lines, wanted < sizeof lines ? wanted : 0);
