@@ -1,6 +1,6 @@
 -- Moves that are written into an array one behind another.
-use Rattle.std.proofs.Common.{◌≡◌, ℕ, suc, ◌+◌, ◌-◌, ◌<◌, ◌≤◌, List, [], ◌∷◌, ◌++◌, length, map, take, drop, set, get_or, cond, ap, sym, ◌∙◌, refl, arith}
-use Rattle.std.proofs.lemmas.List.{map-append, length-map, length-append, length-set, take_more, take_all}
+use Rattle.std.proofs.Common.{◌≡◌, ℕ, suc, ◌+◌, ◌-◌, ◌<◌, ◌≤◌, List, [], ◌∷◌, ◌++◌, length, map, take, drop, set, get_or, cond, ap, subst, sym, ◌∙◌, refl, arith}
+use Rattle.std.proofs.lemmas.List.{map-append, length-map, length-append, length-set, take_more, take_all, drop_all}
 use Rattle.std.proofs.lemmas.List.Edits.{sets, sets-eq}
 use Rattle.std.proofs.lemmas.Bool.{le-leb, lt-leb}
 use Rattle.ffi3_type_rules.specs.Tree.{Tree}
@@ -127,16 +127,48 @@ module _ (ts : List Tree) (ps : List Place) (j : ℕ) (t : Tree) (p : Place) (ty
     left_out =
         sym (ap length first_out) ∙ length-append (argument_out j at t p) (arguments_out (j + 1) next (drop (j + 1) ts) (drop (j + 1) ps))
 
-  module _ (count here now all : ℕ) where
-    pub counted_in : here ≡ length (argument_in j 0 t p) → now ≡ count + here → count + length (arguments_in j 0 (drop j ts) (drop j ps)) ≡ all → now + length (arguments_in (j + 1) 0 (drop (j + 1) ts) (drop (j + 1) ps)) ≡ all
-    counted_in is sum e =
-        let next : ℕ = 0 + round8 (size_of t) in
-        omega (arith, is, sum, e, left_in 0 next refl, counts_in_same (drop (j + 1) ts) (drop (j + 1) ps) (j + 1) next (j + 1) 0)
+  module _ (count here : ℕ) where
+    module _ (now all : ℕ) where
+      pub counted_in : here ≡ length (argument_in j 0 t p) → now ≡ count + here → count + length (arguments_in j 0 (drop j ts) (drop j ps)) ≡ all → now + length (arguments_in (j + 1) 0 (drop (j + 1) ts) (drop (j + 1) ps)) ≡ all
+      counted_in is sum e =
+          let next : ℕ = 0 + round8 (size_of t) in
+          omega (arith, is, sum, e, left_in 0 next refl, counts_in_same (drop (j + 1) ts) (drop (j + 1) ps) (j + 1) next (j + 1) 0)
 
-    pub counted_out : here ≡ length (argument_out j 0 t p) → now ≡ count + here → count + length (arguments_out j 0 (drop j ts) (drop j ps)) ≡ all → now + length (arguments_out (j + 1) 0 (drop (j + 1) ts) (drop (j + 1) ps)) ≡ all
-    counted_out is sum e =
-        let next : ℕ = 0 + round8 (size_of t) in
-        omega (arith, is, sum, e, left_out 0 next refl, counts_out_same (drop (j + 1) ts) (drop (j + 1) ps) (j + 1) next (j + 1) 0)
+      pub counted_out : here ≡ length (argument_out j 0 t p) → now ≡ count + here → count + length (arguments_out j 0 (drop j ts) (drop j ps)) ≡ all → now + length (arguments_out (j + 1) 0 (drop (j + 1) ts) (drop (j + 1) ps)) ≡ all
+      counted_out is sum e =
+          let next : ℕ = 0 + round8 (size_of t) in
+          omega (arith, is, sum, e, left_out 0 next refl, counts_out_same (drop (j + 1) ts) (drop (j + 1) ps) (j + 1) next (j + 1) 0)
+
+    -- with these there are too many already
+    module _ (most all : ℕ) (over : count + here < most → ⊥) where
+      pub uncounted_in : here ≡ length (argument_in j 0 t p) → count + length (arguments_in j 0 (drop j ts) (drop j ps)) ≡ all → all < most → ⊥
+      uncounted_in is e small =
+          let next : ℕ = 0 + round8 (size_of t) in
+          let sum : count + here < most = omega (arith, is, e, small, left_in 0 next refl) in
+          over sum
+
+      pub uncounted_out : here ≡ length (argument_out j 0 t p) → count + length (arguments_out j 0 (drop j ts) (drop j ps)) ≡ all → all < most → ⊥
+      uncounted_out is e small =
+          let next : ℕ = 0 + round8 (size_of t) in
+          let sum : count + here < most = omega (arith, is, e, small, left_out 0 next refl) in
+          over sum
+
+-- none are left
+module _ (ts : List Tree) (ps : List Place) (j count all most : ℕ) (ended : length ts ≤ j) (small : count < most) where
+  none_left : drop j ts ≡ []
+  none_left = drop_all j ts ended
+
+  pub all_in : count + length (arguments_in j 0 (drop j ts) (drop j ps)) ≡ all → (all < most) × (count ≡ all)
+  all_in e =
+      let last : length (arguments_in j 0 (drop j ts) (drop j ps)) ≡ 0 = ap (λ us. length (arguments_in j 0 us (drop j ps))) none_left in
+      let is : count ≡ all = omega (arith, e, last) in
+      (subst (λ (n : ℕ). n < most) is small, is)
+
+  pub all_out : count + length (arguments_out j 0 (drop j ts) (drop j ps)) ≡ all → (all < most) × (count ≡ all)
+  all_out e =
+      let last : length (arguments_out j 0 (drop j ts) (drop j ps)) ≡ 0 = ap (λ us. length (arguments_out j 0 us (drop j ps))) none_left in
+      let is : count ≡ all = omega (arith, e, last) in
+      (subst (λ (n : ℕ). n < most) is small, is)
 
 -- ---- whole lists
 

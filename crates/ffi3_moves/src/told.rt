@@ -1,5 +1,5 @@
 // The moves of a call, as C has them, straight into an array of whoever asks for them: no memory is taken.
-ghost use Rattle.std.specs.Prelude.{◌≡◌, ◌+◌, ◌<◌, ◌≤◌, ◌^◌, ℕ, IfSome, OnSome, None, [], ◌∷◌, length, map};
+ghost use Rattle.std.specs.Prelude.{◌≡◌, ◌+◌, ◌<◌, ◌≤◌, ◌^◌, ℕ, SomeIff, OnSome, None, [], ◌∷◌, length, map};
 ghost use Rattle.std.proofs.lemmas.List.Edits.{sets};
 ghost use Rattle.ffi3_type_rules.specs.Tree.{Tree};
 ghost use Rattle.ffi3_place_rules.specs.Standard.{plan_of};
@@ -173,7 +173,7 @@ fn count_of_argument_out(place: &Place) -> usize
 
 // Those of all arguments, unless they are 2^64 or more.
 fn count_of_arguments_in<A: Abi>(cif: &Cif<A>) -> Option<usize>
-    ensures { IfSome result (λ n. n ≡ length (arguments_in 0 0 cif.now.arguments (plan_of A.standard cif.now).places)) }
+    ensures { SomeIff result (length (arguments_in 0 0 cif.now.arguments (plan_of A.standard cif.now).places) < 2 ^ 64) (length (arguments_in 0 0 cif.now.arguments (plan_of A.standard cif.now).places)) }
 {
     let sig = cif.checked_sig();
     let mut count: usize = 0;
@@ -188,7 +188,7 @@ fn count_of_arguments_in<A: Abi>(cif: &Cif<A>) -> Option<usize>
 }
 
 fn count_of_arguments_out<A: Abi>(cif: &Cif<A>) -> Option<usize>
-    ensures { IfSome result (λ n. n ≡ length (arguments_out 0 0 cif.now.arguments (plan_of A.standard cif.now).places)) }
+    ensures { SomeIff result (length (arguments_out 0 0 cif.now.arguments (plan_of A.standard cif.now).places) < 2 ^ 64) (length (arguments_out 0 0 cif.now.arguments (plan_of A.standard cif.now).places)) }
 {
     let sig = cif.checked_sig();
     let mut count: usize = 0;
@@ -268,7 +268,7 @@ fn put_count(told: &mut [ToldMove], end: usize, at: Option<Loc>, vectors: u8)
 
 // How many the caller's arguments have, unless they are 2^64 or more.
 fn count_of_store<A: Abi>(cif: &Cif<A>) -> Option<usize>
-    ensures { IfSome result (λ n. n ≡ length (store_moves A.standard cif.now)) }
+    ensures { SomeIff result (length (store_moves A.standard cif.now) < 2 ^ 64) (length (store_moves A.standard cif.now)) }
 {
     let Some(arguments) = count_of_arguments_in(cif) else {
         return None;
@@ -286,7 +286,7 @@ fn put_store<A: Abi>(told: &mut [ToldMove], cif: &Cif<A>)
 
 /// The caller's arguments: what `moves_to_store` lists.
 pub fn tell_moves_to_store<A: Abi>(told: &mut [ToldMove], cif: &Cif<A>) -> Option<usize>
-    ensures count { IfSome result (λ n. n ≡ length (store_moves A.standard cif.now)) }
+    ensures count { SomeIff result (length (store_moves A.standard cif.now) < 2 ^ 64) (length (store_moves A.standard cif.now)) }
     ensures told { OnSome result (told.new ≡ told_in (store_moves A.standard cif.now) told.old) }
     ensures untold { result ≡ None → told.new ≡ told.old }
 {
@@ -309,7 +309,7 @@ fn put_collect<A: Abi>(told: &mut [ToldMove], cif: &Cif<A>)
 
 /// The callee's arguments: what `moves_to_collect` lists.
 pub fn tell_moves_to_collect<A: Abi>(told: &mut [ToldMove], cif: &Cif<A>) -> Option<usize>
-    ensures count { IfSome result (λ n. n ≡ length (collect_moves A.standard cif.now)) }
+    ensures count { SomeIff result (length (collect_moves A.standard cif.now) < 2 ^ 64) (length (collect_moves A.standard cif.now)) }
     ensures told { OnSome result (told.new ≡ told_in (collect_moves A.standard cif.now) told.old) }
     ensures untold { result ≡ None → told.new ≡ told.old }
 {

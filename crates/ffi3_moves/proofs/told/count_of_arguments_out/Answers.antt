@@ -1,10 +1,10 @@
-use Rattle.std.proofs.Common.{◌<◌, length, ap, refl, arith, rules}
+use Rattle.std.proofs.Common.{◌≡◌, ◌<◌, ◌≤◌, ◌+◌, ◌^◌, length, ap, sym, subst, ◌∙◌, refl, arith, rules}
 use Rattle.ffi3_type_rules.specs.Tree.{tree_at}
 use Rattle.ffi3_place_rules.specs.Standard.{plan_of}
 use Rattle.ffi3_place_rules.proofs.Elements.{argument_read}
 use Rattle.ffi3_moves.specs.Moves.{arguments_out}
 use Rattle.ffi3_moves.proofs.Turns.{place_read}
-use Rattle.ffi3_moves.proofs.Telling.{counted_out}
+use Rattle.ffi3_moves.proofs.Telling.{all_out, counted_out, uncounted_out}
 use Rattle.ffi3_moves.proofs.told.count_of_arguments_out.Goals as goal
 
 pub loop-i-preserved : goal.loop-i-preserved
@@ -17,4 +17,26 @@ loop-i-preserved g c =
     let below : c.loop-i.i < length c.args.cif.now.arguments = omega (arith, c.loop-i-test.true, c.count-i-end.ensures.value, ap (λ r. length r.arguments) c.checked_sig-sig.ensures.value) in
     let types = argument_read ts j t below refl in
     let places = place_read ps j p c.place.ensures in
-    counted_out ts ps j t p types places c.loop-i.count c.count_of_argument_out-here.result c.in-Some.more (length (arguments_out 0 0 ts ps)) (c.count_of_argument_out-here.ensures j 0 t) (search rules) c.loop-i.invariant
+    record {
+      all = counted_out ts ps j t p types places c.loop-i.count c.count_of_argument_out-here.result c.in-Some.more (length (arguments_out 0 0 ts ps)) (c.count_of_argument_out-here.ensures j 0 t) c.in-Some.ensures.1 c.loop-i.invariant.all;
+      small = subst (λ n. n < 2 ^ 64) (sym c.in-Some.ensures.1) c.in-Some.ensures.0;
+    }
+
+pub returns-in_default : goal.returns-in_default
+returns-in_default g c =
+    let ts = c.args.cif.now.arguments in
+    let ps = (plan_of g.A.Abi.standard c.args.cif.now).places in
+    let j = c.loop-i.i in
+    let t = tree_at ts j in
+    let p = c.place.result.now in
+    let below : c.loop-i.i < length c.args.cif.now.arguments = omega (arith, c.loop-i-test.true, c.count-i-end.ensures.value, ap (λ r. length r.arguments) c.checked_sig-sig.ensures.value) in
+    let types = argument_read ts j t below refl in
+    let places = place_read ps j p c.place.ensures in
+    uncounted_out ts ps j t p types places c.loop-i.count c.count_of_argument_out-here.result (2 ^ 64) (length (arguments_out 0 0 ts ps)) c.in_default.ensures (c.count_of_argument_out-here.ensures j 0 t) c.loop-i.invariant.all
+
+pub returns : goal.returns
+returns g c =
+    let ts = c.args.cif.now.arguments in
+    let ps = (plan_of g.A.Abi.standard c.args.cif.now).places in
+    let ended : length c.args.cif.now.arguments ≤ c.loop-i.i = omega (arith, c.loop-i-test.false, c.count-i-end.ensures.value, ap (λ r. length r.arguments) c.checked_sig-sig.ensures.value) in
+    all_out ts ps c.loop-i.i c.loop-i.count (length (arguments_out 0 0 ts ps)) (2 ^ 64) ended c.loop-i.invariant.small c.loop-i.invariant.all
