@@ -674,7 +674,8 @@ struct ffi3_move {
  *
  * FFI3_OK: COUNT and MOVES are filled.
  * FFI3_TOO_SMALL: *COUNT is how many there are, and MOVES is as it was.
- * FFI3_UNKNOWN_VALUE, told first, FFI3_NOT_PREPARED, FFI3_OUT_OF_MEMORY: *COUNT is 0, and MOVES as it was.
+ * FFI3_UNKNOWN_VALUE, told first, FFI3_NOT_PREPARED; FFI3_OUT_OF_MEMORY, only where they are 2^64 or more: *COUNT is 0,
+ *     and MOVES as it was.
  */
 uint32_t ffi3_moves(struct ffi3_interface *interface, uint32_t list, size_t *count, struct ffi3_move *moves,
                     size_t capacity);

@@ -1,5 +1,5 @@
 -- What C is answered where it asks for moves, from what the calls say.
-use Rattle.std.proofs.Common.{◌≡◌, ℕ, List, length, map, Bool, sym, subst, ap, ◌∙◌, slice_get}
+use Rattle.std.proofs.Common.{◌≡◌, ◌<◌, ◌≤◌, ◌^◌, ℕ, List, length, map, Bool, sym, subst, ap, ◌∙◌, slice_get, arith}
 use Rattle.std.proofs.lemmas.List.{length-map}
 use Rattle.std.specs.Prelude.{Option, Some, nat_le}
 use Rattle.ffi3_moves.specs.declared.Move.{Move}
@@ -13,6 +13,9 @@ use Rattle.ffi3_capi.specs.Filled.{has_room, filled, room_status}
 use Rattle.ffi3_interface.specs.declared.listing.MoveList.{MoveList}
 use Rattle.ffi3_interface.specs.Keeping.{interface_in}
 use Rattle.ffi3_interface.specs.Listing.{lists, moves_by, told_moves, TellsMoves, told, untold}
+
+not_below : (a b : ℕ) → (a < b → ⊥) → b ≤ a
+not_below a b never = grind arith
 
 -- the room of two numbers is that of lists of so many
 pub room_is : (count room : ℕ) (fits : Bool) (moves old : List ToldMove) → nat_le count room ≡ fits → count ≡ length moves → room ≡ length old → room_status fits ≡ room_status (has_room moves old)
@@ -30,6 +33,8 @@ moves_told {it} {number} {old} k list p new status count room is which at counte
     let with_array = subst (λ (ms : List ToldMove). TellsMoves it number old (room_status (has_room found old)) count ms) (sym wrote) with_count in
     subst (λ (n : ℕ). TellsMoves it number old n count new) (sym (answered found old counted has)) with_array
 
-pub untold_as : {it : Option Kept} {number : ℕ} {old : List ToldMove} (k : Kept) (list : MoveList) (new : List ToldMove) → it ≡ Some k → slice_get lists number ≡ Some list → new ≡ old → TellsMoves it number old OUT_OF_MEMORY 0 new
-untold_as {it} {number} {old} k list new is which same =
-    subst (λ (ms : List ToldMove). TellsMoves it number old OUT_OF_MEMORY 0 ms) (sym same) (untold k list is which)
+pub untold_as : {it : Option Kept} {number : ℕ} {old : List ToldMove} (k : Kept) (list : MoveList) (p : Prepared) (new : List ToldMove) → it ≡ Some k → slice_get lists number ≡ Some list → p ≡ interface_in k → (length (moves_by (standard_in p) (signature_in p) list) < 2 ^ 64 → ⊥) → new ≡ old → TellsMoves it number old OUT_OF_MEMORY 0 new
+untold_as {it} {number} {old} k list p new is which at many same =
+    let counted : length (moves_by (standard_in p) (signature_in p) list) ≡ length (told_moves (interface_in k) list) = sym (length-map (moves_by (standard_in p) (signature_in p) list) told_move) ∙ ap (λ (q : Prepared). length (told_moves q list)) at in
+    let most : 2 ^ 64 ≤ length (told_moves (interface_in k) list) = subst (λ (n : ℕ). 2 ^ 64 ≤ n) counted (not_below _ (2 ^ 64) many) in
+    subst (λ (ms : List ToldMove). TellsMoves it number old OUT_OF_MEMORY 0 ms) (sym same) (untold k list is which most)

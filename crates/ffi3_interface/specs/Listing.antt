@@ -1,5 +1,5 @@
 -- The moves that C is told of an interface.
-use Rattle.std.specs.Prelude.{◌≡◌, ℕ, List, [], ◌∷◌, length, map, Option, Some, None, slice_get}
+use Rattle.std.specs.Prelude.{◌≡◌, ◌≤◌, ◌^◌, ℕ, List, [], ◌∷◌, length, map, Option, Some, None, slice_get}
 use Rattle.ffi3_type_rules.specs.Signature.{Signature}
 use Rattle.ffi3_place_rules.specs.Standard.{Standard}
 use Rattle.ffi3_moves.specs.declared.Move.{Move}
@@ -30,13 +30,13 @@ moves_by std s Hidden = moves_of (hidden_move std s)
 abbrev pub told_moves : Prepared → MoveList → List ToldMove
 told_moves p list = map told_move (moves_by (standard_in p) (signature_in p) list)
 
--- WHAT ffi3_moves ANSWERS, how many moves it says there are, and what it writes into the caller's array. Memory alone is free.
+-- WHAT ffi3_moves ANSWERS, how many moves it says there are, and what it writes into the caller's array. 2^64 moves and more are none that it could count.
 pub data TellsMoves (it : Option Kept) (number : ℕ) (old : List ToldMove) : ℕ → ℕ → List ToldMove → Type 0 where
   told : (k : Kept) (list : MoveList) → it ≡ Some k → slice_get lists number ≡ Some list
       → TellsMoves it number old (room_status (has_room (told_moves (interface_in k) list) old))
       (length (told_moves (interface_in k) list)) (filled (told_moves (interface_in k) list) old)
   untold : (k : Kept) (list : MoveList) → it ≡ Some k → slice_get lists number ≡ Some list
-      → TellsMoves it number old OUT_OF_MEMORY 0 old
+      → 2 ^ 64 ≤ length (told_moves (interface_in k) list) → TellsMoves it number old OUT_OF_MEMORY 0 old
   nothing : (list : MoveList) → it ≡ None → slice_get lists number ≡ Some list
       → TellsMoves it number old NOT_PREPARED 0 old
   unknown : slice_get lists number ≡ None → TellsMoves it number old UNKNOWN_VALUE 0 old
