@@ -3,6 +3,7 @@ pub mod Coming
 pub mod Fronts
 pub mod Inputs
 pub mod LineEnds
+pub mod Named
 pub mod Naming
 pub mod Outcomes
 pub mod Pieces

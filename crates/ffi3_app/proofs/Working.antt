@@ -264,8 +264,8 @@ no_declaration_works outcome bytes output machine NoMemory is = (inl (refl, refl
 no_declaration_works outcome bytes output machine WriteFault is = absurd is
 
 -- nor a prototype
-pub no_prototype_works : (outcome : Declaration → Outcome) (bytes : List ℕ) (output : SinkState) (machine : State) (e : Unfinished) → IsNoPrototype bytes e → Works (IsOfPrototype outcome bytes) output output machine machine (Err e)
-no_prototype_works outcome bytes output machine (Refused line) is = (is outcome, refl, refl)
+pub no_prototype_works : (outcome : List ℕ → Declaration → Outcome) (bytes : List ℕ) (output : SinkState) (machine : State) (e : Unfinished) → IsNoPrototype bytes e → Works (IsOfPrototype outcome bytes) output output machine machine (Err e)
+no_prototype_works outcome bytes output machine (Refused line) is = (is (outcome bytes), refl, refl)
 no_prototype_works outcome bytes output machine NoMemory is = (inl (refl, refl), refl)
 no_prototype_works outcome bytes output machine WriteFault is = absurd is
 

@@ -99,10 +99,10 @@ abbrev pub IsOfDeclaration : (Declaration → Outcome) → List ℕ → Outcome 
 IsOfDeclaration outcome bytes o =
     (i : Input) × IsReadAs bytes i × (o ≡ outcome_of_input outcome i)
 
--- bytes come to this, read as one prototype
-abbrev pub IsOfPrototype : (Declaration → Outcome) → List ℕ → Outcome → Type 0
+-- bytes come to this, read as one prototype, of which and of whose text a command has an outcome
+abbrev pub IsOfPrototype : (List ℕ → Declaration → Outcome) → List ℕ → Outcome → Type 0
 IsOfPrototype outcome bytes o =
-    (i : Input) × IsReadWidely bytes i × (o ≡ outcome_of_prototype bytes outcome i)
+    (i : Input) × IsReadWidely bytes i × (o ≡ outcome_of_prototype bytes (outcome bytes) i)
 
 -- ---- commands that answer a question about an image
 
@@ -127,7 +127,7 @@ IsOutcomeOn (Place t) natives bytes o =
 IsOutcomeOn (Run t trace) natives bytes o =
     IsOfScript (names_of natives) (λ s. runs trace (standard_of t) (program_beside (standard_of t) natives s)) bytes o
 IsOutcomeOn Cdecl natives bytes o = IsOfDeclaration (λ d. tells (cdecl_text d)) bytes o
-IsOutcomeOn Cplace natives bytes o = IsOfPrototype (λ d. tells (cplace_text d)) bytes o
+IsOutcomeOn Cplace natives bytes o = IsOfPrototype (λ text d. tells (cplace_text text d)) bytes o
 IsOutcomeOn Explain natives bytes o = IsOfImage Explained bytes o
 IsOutcomeOn Arguments natives bytes o = IsOfImage ByStandard bytes o
 

@@ -1,4 +1,4 @@
--- The same names, found in one pass over the bytes of a text that declares a function.
+-- The same names, found in one pass over the bytes of a text that declares a function; it need not be believed, since that it finds exactly those is proved (`name_laws`).
 use Rattle.std.specs.Prelude.{ℕ, zero, suc, Bool, true, false, cond, ◌==◌, List, [], ◌∷◌, ◌++◌}
 use Rattle.ffi3_cdecl_rules.specs.Tokens.{wide, Sign, Token, const_word, void_word, struct_word, union_word, enum_word}
 use Rattle.ffi3_cdecl_rules.specs.Tokens.{name, open_round, close_round, open_curly, close_curly, open_square, close_square}

@@ -9,8 +9,8 @@ use Rattle.ffi3_app.proofs.work.tell_cplace.Goals as goal
 pub returns-in-Ok : goal.returns-in-Ok
 returns-in-Ok g c m =
     let d = c.in-Ok.declaration in
-    text_works (IsOfPrototype (λ d. tells (cplace_text d)) c.args.bytes.now) (cplace_text d) (g.O.Sink.state c.args.output.now) (g.O.Sink.state c.cplace.new.output) m c.cplace.result c.written.result (a_text (read_as (reads d)), c.in-Ok.ensures.read, refl) c.cplace.ensures c.written.ensures
+    text_works (IsOfPrototype (λ text d. tells (cplace_text text d)) c.args.bytes.now) (cplace_text c.args.bytes.now d) (g.O.Sink.state c.args.output.now) (g.O.Sink.state c.cplace.new.output) m c.cplace.result c.written.result (a_text (read_as (reads d)), c.in-Ok.ensures.read, refl) c.cplace.ensures c.written.ensures
 
 pub returns-in-Err : goal.returns-in-Err
 returns-in-Err g c m =
-    no_prototype_works (λ d. tells (cplace_text d)) c.args.bytes.now (g.O.Sink.state c.args.output.now) m c.in-Err.end c.in-Err.ensures.refused
+    no_prototype_works (λ text d. tells (cplace_text text d)) c.args.bytes.now (g.O.Sink.state c.args.output.now) m c.in-Err.end c.in-Err.ensures.refused
