@@ -1,4 +1,5 @@
 pub mod Alike
+pub mod Called
 pub mod Coming
 pub mod Fronts
 pub mod Inputs

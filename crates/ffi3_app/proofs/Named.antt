@@ -11,7 +11,7 @@ use Rattle.ffi3_place_rules.specs.Standard.{Standard, plan_of}
 use Rattle.ffi3_io.specs.Sink.{SinkState}
 use Rattle.ffi3_text.specs.PlaceLines.{argument_place, argument_text, place_text_of, sig_text_of}
 use Rattle.ffi3_app.specs.Commands.{arguments_from, place_lines}
-use Rattle.ffi3_app.specs.Declarations.{argument_line, name_text, named_lines, named_text_of}
+use Rattle.ffi3_app.specs.Declarations.{argument_line, named_lines, named_text_of}
 use Rattle.ffi3_app.proofs.Pieces.{Writing, Wrote}
 
 dropped : (xs ys : List ℕ) → drop (length xs) (xs ++ ys) ≡ ys

@@ -14,7 +14,6 @@ use Rattle.ffi3_cdecl_rules.specs.Reading as declaration
 use Rattle.ffi3_cdecl_rules.specs.Telling.{tell}
 use Rattle.ffi3_cdecl_rules.specs.Tokens.{signed}
 use Rattle.ffi3_diagnostics_rules.specs.ToldText.{told_words, lines_at}
-use Rattle.ffi3_names_rules.specs.Scan.{names_in}
 use Rattle.ffi3_place_rules.specs.Standard.{Standard, plan_of}
 use Rattle.ffi3_text.specs.PlaceLines.{argument_place, argument_text, place_text_of, sig_text_of}
 use Rattle.ffi3_type_rules.specs.Isa.{isa_of}
@@ -134,7 +133,7 @@ abbrev pub prototype_lines : Declaration → List ℕ
 prototype_lines d =
     a_line (signature_text d.signature) ++ a_line (prototype_text d.called d.signature)
 
--- THE TEXT OF cplace: these lines, and then each target's, with the names that the prototype's text gives its parameters (`name_laws`: there is one list of them, wherever a `char` is signed or not)
-abbrev pub cplace_text : List ℕ → Declaration → List ℕ
-cplace_text text d =
-    prototype_lines d ++ flat_map (placed_on (names_in signed text) d.signature) every_target
+-- THE TEXT OF cplace, where the parameters have these names: these lines, and then each target's
+abbrev pub cplace_text : List (List ℕ) → Declaration → List ℕ
+cplace_text names d =
+    prototype_lines d ++ flat_map (placed_on names d.signature) every_target

@@ -5,6 +5,8 @@ ghost use Rattle.ffi3_type_rules.specs.Signature.{SignatureHasNoFault};
 ghost use Rattle.ffi3_run_rules.specs.Lines.{a_line};
 ghost use Rattle.ffi3_cdecl_rules.specs.Prototype.{prototype_text};
 ghost use Rattle.ffi3_app.specs.Declarations.{cplace_text, every_target, placed_on, prototype_lines, target_line};
+ghost use Rattle.ffi3_cdecl_rules.specs.Tokens.{signed};
+ghost use Rattle.ffi3_names_rules.specs.Scan.{names_in};
 ghost use Rattle.ffi3_names.specs.NamesOf.{names_of};
 ghost use Rattle.ffi3_io.specs.Written.{Wrote};
 
@@ -27,7 +29,7 @@ pub fn cplace<O: Sink>(
     output: &mut O,
 ) -> Result<(), IoError>
     requires { SignatureHasNoFault declaration.now.signature }
-    ensures { Wrote (cplace_text text.now declaration.now) (O.state output.old) (O.state output.new) result }
+    ensures { Wrote (cplace_text (names_in signed text.now) declaration.now) (O.state output.old) (O.state output.new) result }
 {
     let names = names_in(alloc, Sign::Signed, text)?;
     prototype(alloc, declaration, output)?;

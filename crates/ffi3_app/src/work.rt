@@ -116,7 +116,7 @@ fn tell_cdecl<O: Sink>(alloc: Global, bytes: &[u8], output: &mut O) -> Result<u8
 }
 
 fn tell_cplace<O: Sink>(alloc: Global, bytes: &[u8], output: &mut O) -> Result<u8, Unfinished>
-    ensures { (m : State) → Works (IsOfPrototype (λ text d. tells (cplace_text text d)) bytes.now) (O.state output.old) (O.state output.new) m m result }
+    ensures { (m : State) → Works (IsOfPrototype (λ names d. tells (cplace_text names d)) bytes.now) (O.state output.old) (O.state output.new) m m result }
 {
     match prototype_in(alloc, bytes) {
         Ok(declaration) => written(cplace(alloc, bytes, &declaration, output)),

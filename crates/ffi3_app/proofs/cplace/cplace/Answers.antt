@@ -12,7 +12,7 @@ pub returns-in_err-prototype : goal.returns-in_err-prototype
 returns-in_err-prototype g c =
     let d = c.args.declaration.now in
     let text = c.args.text.now in
-    let whole = cplace_text text d in
+    let whole = cplace_text (names_in signed text) d in
     let ended : c.from_residual-in_err-prototype.result ≡ Err c.in_err-prototype.field-0.0 = search rules in
     continues_ended whole whole _ _ (continues_from whole _) (prototype_lines d) (flat_map (placed_on (names_in signed text) d.signature) every_target) _ _ _ refl c.in_err-prototype.ensures ended
 
@@ -20,7 +20,7 @@ pub returns : goal.returns
 returns g c =
     let d = c.args.declaration.now in
     let text = c.args.text.now in
-    let whole = cplace_text text d in
+    let whole = cplace_text (names_in signed text) d in
     let rest = flat_map (placed_on (names_in signed text) d.signature) every_target in
     let went = continues_on whole whole _ _ (continues_from whole (g.O.Sink.state c.args.output.now)) (prototype_lines d) rest _ refl c.in_ok-prototype.ensures in
     let names = names_of c.in_ok-names.names.items in
