@@ -1,8 +1,10 @@
 pub mod Alike
+pub mod Called
 pub mod Coming
 pub mod Fronts
 pub mod Inputs
 pub mod LineEnds
+pub mod Named
 pub mod Naming
 pub mod Outcomes
 pub mod Pieces

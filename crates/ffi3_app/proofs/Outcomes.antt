@@ -1,5 +1,5 @@
 -- The laws of what commands come to: of one input one outcome; that of the bytes that are read is that of all; and what is not refused is short.
-use Rattle.std.proofs.Common.{◌≡◌, ℕ, ◌<◌, ◌≤◌, List, length, take, refl, sym, ap, ◌∙◌, arith}
+use Rattle.std.proofs.Common.{◌≡◌, ℕ, ◌<◌, ◌≤◌, List, length, take, refl, sym, ap, subst, ◌∙◌, arith}
 use Rattle.ffi3_script_rules.specs.Reading.{Reading, too_long, not_json, bad_script, script}
 use Rattle.ffi3_script_rules.specs.Script.{Script}
 use Rattle.ffi3_script_rules.specs.Natives.{NamedNative, names_of}
@@ -15,8 +15,9 @@ use Rattle.ffi3_image_rules.specs.Answer.{Answer}
 use Rattle.ffi3_image_rules.proofs.Inputs.{one_answer}
 use Rattle.ffi3_words.specs.declared.words.InputCommand.{InputCommand}
 use Rattle.ffi3_words.specs.declared.words.InputCommand.TheVariants.{Layout, Place, Run, Cdecl, Cplace, Explain, Arguments}
-use Rattle.ffi3_app.specs.Declarations.{Input, too_many_bytes, not_utf8, a_text, IsInput, IsReadPlainly}
-use Rattle.ffi3_app.specs.Outcome.{Outcome, refuses, outcome_of, outcome_of_input, outcome_of_prototype, outcome_of_answer, IsOfScript, IsOfDeclaration, IsOfPrototype, IsOfImage, IsOutcomeOn}
+use Rattle.ffi3_app.specs.Declarations.{Input, too_many_bytes, not_utf8, a_text, IsInput, IsReadPlainly, cplace_text}
+use Rattle.ffi3_app.specs.Outcome.{Outcome, refuses, tells, outcome_of, outcome_of_input, outcome_of_prototype, outcome_of_answer, IsOfScript, IsOfDeclaration, HasNames, IsOfPrototype, IsOfImage, IsOutcomeOn}
+use Rattle.ffi3_app.proofs.Called.{names_once}
 use Rattle.ffi3_app.proofs.Inputs.{all_taken, reading_of_all, input_of_all, answer_of_all}
 
 -- what is not refused
@@ -90,19 +91,30 @@ module _ (outcome : Declaration → Outcome) where
   declaration_is_short bytes o is accepted =
       input_is_short IsReadPlainly (outcome_of_input outcome) _ refl bytes o is accepted
 
+pub one_prototype_input : (bytes : List ℕ) (i j : Input) → IsInput IsPrototype bytes i → IsInput IsPrototype bytes j → i ≡ j
+one_prototype_input bytes i j reads reads' =
+    one_input IsPrototype one_prototype bytes i j reads reads'
+
+module _ (outcome : List (List ℕ) → Declaration → Outcome) where
   one_of_prototype : (bytes : List ℕ) (o p : Outcome) → IsOfPrototype outcome bytes o → IsOfPrototype outcome bytes p → o ≡ p
-  one_of_prototype bytes o p is is' =
-      one_of_input IsPrototype one_prototype (outcome_of_prototype bytes outcome) bytes o p is is'
+  one_of_prototype bytes o p (i, reads, ns, has, is) (j, reads', ms, has', is') =
+      let same : i ≡ j = one_prototype_input bytes i j reads reads' in
+      let P = λ (x : Input). HasNames bytes x ms in
+      let named : ns ≡ ms = names_once bytes i ns ms has (subst P (sym same) has') in
+      is ∙ ap (λ (x : Input). outcome_of_prototype bytes (outcome ns) x) same ∙ ap (λ (ls : List (List ℕ)). outcome_of_prototype bytes (outcome ls) j) named ∙ sym is'
 
   prototype_of_all : (all : List ℕ) (o : Outcome) → IsOfPrototype outcome (take 1048577 all) o → IsOfPrototype outcome all o
-  prototype_of_all all o (too_many_bytes, reads, is) = (too_many_bytes, input_of_all IsPrototype all too_many_bytes reads, is)
-  prototype_of_all all o (not_utf8, reads, is) = (not_utf8, input_of_all IsPrototype all not_utf8 reads, is)
-  prototype_of_all all o (a_text p, (short, utf8, reads), is) =
-      (a_text p, input_of_all IsPrototype all (a_text p) (short, utf8, reads), is ∙ ap (λ (bs : List ℕ). outcome_of_prototype bs outcome (a_text p)) (all_taken all short))
+  prototype_of_all all o (too_many_bytes, reads, ns, has, is) =
+      (too_many_bytes, input_of_all IsPrototype all too_many_bytes reads, ns, has, is)
+  prototype_of_all all o (not_utf8, reads, ns, has, is) =
+      (not_utf8, input_of_all IsPrototype all not_utf8 reads, ns, has, is)
+  prototype_of_all all o (a_text p, (short, utf8, reads), ns, has, is) =
+      let P = λ (bs : List ℕ). HasNames bs (a_text p) ns in
+      (a_text p, input_of_all IsPrototype all (a_text p) (short, utf8, reads), ns, subst P (all_taken all short) has, is ∙ ap (λ (bs : List ℕ). outcome_of_prototype bs (outcome ns) (a_text p)) (all_taken all short))
 
   prototype_is_short : (bytes : List ℕ) (o : Outcome) → IsOfPrototype outcome bytes o → IsAccepted o → length bytes ≤ 1048576
-  prototype_is_short bytes o is accepted =
-      input_is_short IsPrototype (outcome_of_prototype bytes outcome) _ refl bytes o is accepted
+  prototype_is_short bytes o (i, reads, ns, has, is) accepted =
+      input_is_short IsPrototype (outcome_of_prototype bytes (outcome ns)) _ refl bytes o (i, reads, is) accepted
 
 -- ---- of an image
 
@@ -129,7 +141,8 @@ module _ (natives : List NamedNative) where
   one_outcome (Place t) bytes o p is is' = one_of_script (names_of natives) _ bytes o p is is'
   one_outcome (Run t trace) bytes o p is is' = one_of_script (names_of natives) _ bytes o p is is'
   one_outcome Cdecl bytes o p is is' = one_of_declaration _ bytes o p is is'
-  one_outcome Cplace bytes o p is is' = one_of_prototype _ bytes o p is is'
+  one_outcome Cplace bytes o p is is' =
+      one_of_prototype (λ names d. tells (cplace_text names d)) bytes o p is is'
   one_outcome Explain bytes o p is is' = one_of_image Explained bytes o p is is'
   one_outcome Arguments bytes o p is is' = one_of_image ByStandard bytes o p is is'
 
@@ -138,7 +151,8 @@ module _ (natives : List NamedNative) where
   outcome_of_all (Place t) all o is = script_of_all (names_of natives) _ all o is
   outcome_of_all (Run t trace) all o is = script_of_all (names_of natives) _ all o is
   outcome_of_all Cdecl all o is = declaration_of_all _ all o is
-  outcome_of_all Cplace all o is = prototype_of_all _ all o is
+  outcome_of_all Cplace all o is =
+      prototype_of_all (λ names d. tells (cplace_text names d)) all o is
   outcome_of_all Explain all o is = image_of_all Explained all o is
   outcome_of_all Arguments all o is = image_of_all ByStandard all o is
 
@@ -147,6 +161,7 @@ module _ (natives : List NamedNative) where
   accepted_is_short (Place t) bytes o is accepted = script_is_short (names_of natives) _ bytes o is accepted
   accepted_is_short (Run t trace) bytes o is accepted = script_is_short (names_of natives) _ bytes o is accepted
   accepted_is_short Cdecl bytes o is accepted = declaration_is_short _ bytes o is accepted
-  accepted_is_short Cplace bytes o is accepted = prototype_is_short _ bytes o is accepted
+  accepted_is_short Cplace bytes o is accepted =
+      prototype_is_short (λ names d. tells (cplace_text names d)) bytes o is accepted
   accepted_is_short Explain bytes o is accepted = image_is_short Explained bytes o is accepted
   accepted_is_short Arguments bytes o is accepted = image_is_short ByStandard bytes o is accepted

@@ -18,7 +18,7 @@ use Rattle.ffi3_io.specs.Written as written
 use Rattle.ffi3_io.specs.declared.IoError.{IoError}
 use Rattle.ffi3_io.specs.declared.IoError.TheVariants.{NoMemory}
 
-abbrev Writing : Type 0
+abbrev pub Writing : Type 0
 Writing = Result Unit IoError
 
 -- what came of a text

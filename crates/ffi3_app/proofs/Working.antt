@@ -1,5 +1,5 @@
 -- What came of work, from what its parts came to.
-use Rattle.std.proofs.Common.{◌≡◌, ℕ, ◌≤◌, List, length, inl, inr, refl, sym, subst, ap, ◌∙◌}
+use Rattle.std.proofs.Common.{[], ◌≡◌, ℕ, ◌≤◌, List, length, inl, inr, refl, sym, subst, ap, ◌∙◌}
 use Rattle.std.specs.Prelude.{Bool, Result, Ok, Err, IfOk, OnOk, IsUtf8, codes}
 use Rattle.ffi3_type_rules.specs.declared.Target.{Target}
 use Rattle.ffi3_type_rules.specs.Signature.{Position, SignatureHasNoFault}
@@ -45,7 +45,9 @@ use Rattle.ffi3_app.specs.declared.unfinished.Unfinished.{Unfinished}
 use Rattle.ffi3_app.specs.declared.unfinished.Unfinished.TheVariants.{Refused, NoMemory, WriteFault}
 use Rattle.ffi3_explain_rules.specs.Standards.{standard_of}
 use Rattle.ffi3_app.specs.Declarations.{Input, a_text, IsInput, IsReadWidely, IsWritable, offset_line, reason_line, marked_line, unexpected_line, sign_line}
-use Rattle.ffi3_app.specs.Outcome.{Outcome, refuses, tells, runs, benches, IsOfScript, IsOfDeclaration, IsOfPrototype, IsOfImage, outcome_of_input, outcome_of_prototype, outcome_of_answer, IsOutcomeOn}
+use Rattle.ffi3_app.specs.Outcome.{Outcome, refuses, tells, runs, benches, IsOfScript, IsOfDeclaration, HasNames, IsOfPrototype, IsOfImage, outcome_of_input, outcome_of_prototype, outcome_of_answer, IsOutcomeOn}
+use Rattle.ffi3_app.proofs.Called.{some_names}
+use Rattle.ffi3_app.proofs.Outcomes.{one_prototype_input}
 use Rattle.ffi3_app.specs.Work.{Works, IsToldAs, IsFaultToldAs, IsPlaceToldAs, IsNoScript, IsNoInput, IsNoDeclaration, IsNoPrototype, IsNoText, IsSignUnsaid, RefusesWith, work_of_writing}
 
 -- outcomes of one kind are outcomes of another
@@ -264,8 +266,17 @@ no_declaration_works outcome bytes output machine NoMemory is = (inl (refl, refl
 no_declaration_works outcome bytes output machine WriteFault is = absurd is
 
 -- nor a prototype
-pub no_prototype_works : (outcome : Declaration → Outcome) (bytes : List ℕ) (output : SinkState) (machine : State) (e : Unfinished) → IsNoPrototype bytes e → Works (IsOfPrototype outcome bytes) output output machine machine (Err e)
-no_prototype_works outcome bytes output machine (Refused line) is = (is outcome, refl, refl)
+refused_prototype : (outcome : List (List ℕ) → Declaration → Outcome) (bytes line : List ℕ) → IsNoPrototype bytes (Refused line) → IsOfPrototype outcome bytes (refuses line)
+refused_prototype outcome bytes line is =
+    let first = is (outcome []) in
+    let named = some_names bytes first.0 first.1 in
+    let second = is (outcome named.0) in
+    let P = λ (x : Input). HasNames bytes x named.0 in
+    (second.0, second.1, named.0, subst P (one_prototype_input bytes first.0 second.0 first.1 second.1) named.1, second.2)
+
+pub no_prototype_works : (outcome : List (List ℕ) → Declaration → Outcome) (bytes : List ℕ) (output : SinkState) (machine : State) (e : Unfinished) → IsNoPrototype bytes e → Works (IsOfPrototype outcome bytes) output output machine machine (Err e)
+no_prototype_works outcome bytes output machine (Refused line) is =
+    (refused_prototype outcome bytes line is, refl, refl)
 no_prototype_works outcome bytes output machine NoMemory is = (inl (refl, refl), refl)
 no_prototype_works outcome bytes output machine WriteFault is = absurd is
 

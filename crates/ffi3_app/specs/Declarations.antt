@@ -1,5 +1,5 @@
 -- What cdecl writes of a C declaration, and cplace of a prototype, and with which line they refuse an input that is none.
-use Rattle.std.specs.Prelude.{◌<◌, ◌≤◌, ℕ, ◌++◌, List, [], ◌∷◌, length, codes, decimal, IsUtf8}
+use Rattle.std.specs.Prelude.{◌<◌, ◌≤◌, ℕ, ◌++◌, List, [], ◌∷◌, length, get_or, map, codes, decimal, IsUtf8}
 use Rattle.std.specs.List.{concat, flat_map}
 use Rattle.ffi3_type_rules.specs.declared.Target.{Target}
 use Rattle.ffi3_type_rules.specs.declared.Target.TheVariants.{Amd64, Aapcs64, Riscv, Win64, Apple}
@@ -14,9 +14,12 @@ use Rattle.ffi3_cdecl_rules.specs.Reading as declaration
 use Rattle.ffi3_cdecl_rules.specs.Telling.{tell}
 use Rattle.ffi3_cdecl_rules.specs.Tokens.{signed}
 use Rattle.ffi3_diagnostics_rules.specs.ToldText.{told_words, lines_at}
+use Rattle.ffi3_place_rules.specs.Standard.{Standard, plan_of}
+use Rattle.ffi3_text.specs.PlaceLines.{argument_place, argument_text, place_text_of, sig_text_of}
+use Rattle.ffi3_type_rules.specs.Isa.{isa_of}
 use Rattle.ffi3_words.specs.Words.{target_word}
 use Rattle.ffi3_explain_rules.specs.Standards.{standard_of}
-use Rattle.ffi3_app.specs.Commands.{place_lines}
+use Rattle.ffi3_app.specs.Commands.{arguments_from}
 
 -- ---- what is read
 
@@ -96,9 +99,31 @@ cdecl_text d =
 abbrev pub target_line : Target → List ℕ
 target_line t = a_line (codes "target " ++ target_word t)
 
--- a target's line, and the lines of `place` for the signature, as number 0, by the target's standard
-abbrev pub placed_on : Signature → Target → List ℕ
-placed_on s t = target_line t ++ concat (place_lines (standard_of t) 0 s)
+-- a name as it stands behind its argument's number, where the prototype has one
+abbrev pub name_text : List ℕ → List ℕ
+name_text [] = []
+name_text (b ∷ bs) = codes " " ++ ((b ∷ bs) ++ codes ":")
+
+-- the line of `place` for an argument, with this name
+abbrev pub argument_line : List ℕ → Standard → Signature → ℕ → List ℕ
+argument_line name std s j =
+    (codes "arg " ++ decimal j)
+    ++ (name_text name ++ (argument_text (isa_of std.target) (argument_place (plan_of std s).places j) ++ 10 ∷ []))
+
+-- the line of `place`, where the arguments have these names
+abbrev pub named_text_of : List (List ℕ) → Standard → Signature → Position → List ℕ
+named_text_of names std s at_result = place_text_of std s at_result
+named_text_of names std s (at_argument j) = argument_line (get_or names j []) std s j
+
+-- the lines of `place`, where the arguments have these names
+abbrev pub named_lines : List (List ℕ) → Standard → ℕ → Signature → List (List ℕ)
+named_lines names std i s =
+    sig_text_of i std s
+    ∷ map (named_text_of names std s) (arguments_from 0 s.arguments) ++ place_text_of std s at_result ∷ []
+
+-- a target's line, and the lines of `place` for the signature, as number 0, by the target's standard and with these names
+abbrev pub placed_on : List (List ℕ) → Signature → Target → List ℕ
+placed_on names s t = target_line t ++ concat (named_lines names (standard_of t) 0 s)
 
 abbrev pub every_target : List Target
 every_target = Amd64 ∷ Aapcs64 ∷ Riscv ∷ Win64 ∷ Apple ∷ []
@@ -108,6 +133,7 @@ abbrev pub prototype_lines : Declaration → List ℕ
 prototype_lines d =
     a_line (signature_text d.signature) ++ a_line (prototype_text d.called d.signature)
 
--- THE TEXT OF cplace: these lines, and then each target's
-abbrev pub cplace_text : Declaration → List ℕ
-cplace_text d = prototype_lines d ++ flat_map (placed_on d.signature) every_target
+-- THE TEXT OF cplace, where the parameters have these names: these lines, and then each target's
+abbrev pub cplace_text : List (List ℕ) → Declaration → List ℕ
+cplace_text names d =
+    prototype_lines d ++ flat_map (placed_on names d.signature) every_target

@@ -1,5 +1,5 @@
 -- What each command does to its input, and what is done of it: one definition for all commands.
-use Rattle.std.specs.Prelude.{◌≡◌, ℕ, Bool, true, false, ◌++◌, List, take, codes}
+use Rattle.std.specs.Prelude.{◌≡◌, ℕ, Bool, true, false, ◌++◌, List, [], take, codes}
 use Rattle.ffi3_place_rules.specs.Standard.{Standard}
 use Rattle.ffi3_run_rules.specs.Closures.{Closures}
 use Rattle.ffi3_run_rules.specs.Meaning.{End, Program, returned, stopped, meaning_of}
@@ -26,6 +26,8 @@ use Rattle.ffi3_words.specs.declared.words.Request.TheVariants.{OnInput, Bench}
 use Rattle.ffi3_cdecl_rules.specs.Grammar.{Declaration}
 use Rattle.ffi3_cdecl_rules.specs.Prototype.{read_as, sign_unsaid}
 use Rattle.ffi3_cdecl_rules.specs.Reading as declaration
+use Rattle.ffi3_cdecl_rules.specs.Tokens.{signed}
+use Rattle.ffi3_names_rules.specs.Names.{AreNames}
 use Rattle.ffi3_image_rules.specs.declared.Question.{Question}
 use Rattle.ffi3_image_rules.specs.declared.Question.TheVariants.{Explained, ByStandard}
 use Rattle.ffi3_image_rules.specs.Answer as image
@@ -99,10 +101,16 @@ abbrev pub IsOfDeclaration : (Declaration → Outcome) → List ℕ → Outcome 
 IsOfDeclaration outcome bytes o =
     (i : Input) × IsReadAs bytes i × (o ≡ outcome_of_input outcome i)
 
--- bytes come to this, read as one prototype
-abbrev pub IsOfPrototype : (Declaration → Outcome) → List ℕ → Outcome → Type 0
+-- the names that a prototype's text gives its parameters, the same wherever a `char` is signed or not (`name_laws`); of another input there are none
+abbrev pub HasNames : List ℕ → Input → List (List ℕ) → Type 0
+HasNames bytes (a_text (read_as (declaration.reads d))) names = AreNames signed bytes d names
+HasNames bytes i names = names ≡ []
+
+-- bytes come to this, read as one prototype, of which and of its parameters' names a command has an outcome
+abbrev pub IsOfPrototype : (List (List ℕ) → Declaration → Outcome) → List ℕ → Outcome → Type 0
 IsOfPrototype outcome bytes o =
-    (i : Input) × IsReadWidely bytes i × (o ≡ outcome_of_prototype bytes outcome i)
+    (i : Input) × IsReadWidely bytes i × (names : List (List ℕ)) × HasNames bytes i names
+    × (o ≡ outcome_of_prototype bytes (outcome names) i)
 
 -- ---- commands that answer a question about an image
 
@@ -127,7 +135,7 @@ IsOutcomeOn (Place t) natives bytes o =
 IsOutcomeOn (Run t trace) natives bytes o =
     IsOfScript (names_of natives) (λ s. runs trace (standard_of t) (program_beside (standard_of t) natives s)) bytes o
 IsOutcomeOn Cdecl natives bytes o = IsOfDeclaration (λ d. tells (cdecl_text d)) bytes o
-IsOutcomeOn Cplace natives bytes o = IsOfPrototype (λ d. tells (cplace_text d)) bytes o
+IsOutcomeOn Cplace natives bytes o = IsOfPrototype (λ names d. tells (cplace_text names d)) bytes o
 IsOutcomeOn Explain natives bytes o = IsOfImage Explained bytes o
 IsOutcomeOn Arguments natives bytes o = IsOfImage ByStandard bytes o
 

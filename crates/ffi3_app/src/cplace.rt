@@ -5,29 +5,35 @@ ghost use Rattle.ffi3_type_rules.specs.Signature.{SignatureHasNoFault};
 ghost use Rattle.ffi3_run_rules.specs.Lines.{a_line};
 ghost use Rattle.ffi3_cdecl_rules.specs.Prototype.{prototype_text};
 ghost use Rattle.ffi3_app.specs.Declarations.{cplace_text, every_target, placed_on, prototype_lines, target_line};
+ghost use Rattle.ffi3_cdecl_rules.specs.Tokens.{signed};
+ghost use Rattle.ffi3_names_rules.specs.Scan.{names_in};
+ghost use Rattle.ffi3_names.specs.NamesOf.{names_of};
 ghost use Rattle.ffi3_io.specs.Written.{Wrote};
 
 use crate::cdecl::signature_line;
 use crate::place::place_signature;
 use crate::write::write_made_line;
-use ffi3_cdecl::{Declaration, prototype_text};
+use ffi3_cdecl::{Declaration, Sign, prototype_text};
 use ffi3_io::{IoError, Sink};
+use ffi3_names::{Name, names_in};
 use ffi3_types::{Bytes, CheckedSig, NoMemory, Target};
 use ffi3_words::target_word;
 use std::alloc::Global;
 
 /// Writes the signature's text and the canonical text of a prototype, a line each, and then for each target its name and
-/// the lines of place for the signature.
+/// the lines of place for the signature, with the names that the prototype's text gives the arguments.
 pub fn cplace<O: Sink>(
     alloc: Global,
+    text: &[u8],
     declaration: &Declaration,
     output: &mut O,
 ) -> Result<(), IoError>
     requires { SignatureHasNoFault declaration.now.signature }
-    ensures { Wrote (cplace_text declaration.now) (O.state output.old) (O.state output.new) result }
+    ensures { Wrote (cplace_text (names_in signed text.now) declaration.now) (O.state output.old) (O.state output.new) result }
 {
+    let names = names_in(alloc, Sign::Signed, text)?;
     prototype(alloc, declaration, output)?;
-    place_everywhere(alloc, &CheckedSig::of(declaration.sig()), output)
+    place_everywhere(alloc, &CheckedSig::of(declaration.sig()), &names, output)
 }
 
 // The signature and the canonical text.
@@ -57,15 +63,16 @@ fn prototype_line(alloc: Global, declaration: &Declaration) -> Result<Bytes, NoM
 fn place_everywhere<O: Sink>(
     alloc: Global,
     sig: &CheckedSig<'_>,
+    names: &Vec<Name<'_>>,
     output: &mut O,
 ) -> Result<(), IoError>
-    ensures { Wrote (flat_map (placed_on sig.now) every_target) (O.state output.old) (O.state output.new) result }
+    ensures { Wrote (flat_map (placed_on (names_of names.now.items) sig.now) every_target) (O.state output.old) (O.state output.new) result }
 {
-    place_on(alloc, Target::Amd64, sig, output)?;
-    place_on(alloc, Target::Aapcs64, sig, output)?;
-    place_on(alloc, Target::Riscv, sig, output)?;
-    place_on(alloc, Target::Win64, sig, output)?;
-    place_on(alloc, Target::Apple, sig, output)
+    place_on(alloc, Target::Amd64, sig, names, output)?;
+    place_on(alloc, Target::Aapcs64, sig, names, output)?;
+    place_on(alloc, Target::Riscv, sig, names, output)?;
+    place_on(alloc, Target::Win64, sig, names, output)?;
+    place_on(alloc, Target::Apple, sig, names, output)
 }
 
 // A target's name, and the lines of place by its standard.
@@ -73,12 +80,13 @@ fn place_on<O: Sink>(
     alloc: Global,
     target: Target,
     sig: &CheckedSig<'_>,
+    names: &Vec<Name<'_>>,
     output: &mut O,
 ) -> Result<(), IoError>
-    ensures { Wrote (placed_on sig.now target) (O.state output.old) (O.state output.new) result }
+    ensures { Wrote (placed_on (names_of names.now.items) sig.now target) (O.state output.old) (O.state output.new) result }
 {
     write_made_line(output, target_line(alloc, target))?;
-    place_signature(alloc, target, 0, sig, output)
+    place_signature(alloc, target, 0, sig, names, output)
 }
 
 // The line of a target.

@@ -1,21 +1,26 @@
 //! The lines of place.
 ghost use Rattle.ffi3_script.specs.ScriptOf.{script_of};
+ghost use Rattle.std.specs.Prelude.{◌≡◌, ◌<◌, ◌≤◌, ◌++◌, IfOk, codes, drop, length};
 ghost use Rattle.std.specs.List.{concat};
 ghost use Rattle.ffi3_explain_rules.specs.Standards.{standard_of};
-ghost use Rattle.ffi3_app.specs.Commands.{place_lines, place_text};
+ghost use Rattle.ffi3_app.specs.Commands.{place_text};
+ghost use Rattle.ffi3_app.specs.Declarations.{argument_line, named_lines};
+ghost use Rattle.ffi3_names.specs.NamesOf.{names_of};
 ghost use Rattle.ffi3_io.specs.Written.{Wrote};
 
+use crate::prototype::argument_name;
 use crate::write::write_made_line;
 use ffi3_aapcs64::Aapcs64;
 use ffi3_amd64::Amd64;
 use ffi3_apple::Apple;
 use ffi3_cif::Cif;
 use ffi3_io::{IoError, Sink};
+use ffi3_names::{Name, name_at};
 use ffi3_place::Abi;
 use ffi3_riscv::Riscv;
 use ffi3_script::Script;
 use ffi3_text::{place_line, sig_line};
-use ffi3_types::{At, CheckedSig, Target};
+use ffi3_types::{At, Bytes, CheckedSig, NoMemory, Target};
 use ffi3_win64::Win64;
 use std::alloc::Global;
 
@@ -38,22 +43,23 @@ pub fn place<O: Sink>(
     }
 }
 
-/// Writes the same of one signature, as the one of this number.
+/// Writes the same of one signature, as the one of this number, with names of its arguments.
 pub fn place_signature<O: Sink>(
     alloc: Global,
     target: Target,
     number: u32,
     sig: &CheckedSig<'_>,
+    names: &Vec<Name<'_>>,
     output: &mut O,
 ) -> Result<(), IoError>
-    ensures { Wrote (concat (place_lines (standard_of target) number sig.now)) (O.state output.old) (O.state output.new) result }
+    ensures { Wrote (concat (named_lines (names_of names.now.items) (standard_of target) number sig.now)) (O.state output.old) (O.state output.new) result }
 {
     match target {
-        Target::Amd64 => place_one::<Amd64, O>(alloc, number, sig, output),
-        Target::Aapcs64 => place_one::<Aapcs64, O>(alloc, number, sig, output),
-        Target::Riscv => place_one::<Riscv, O>(alloc, number, sig, output),
-        Target::Win64 => place_one::<Win64, O>(alloc, number, sig, output),
-        Target::Apple => place_one::<Apple, O>(alloc, number, sig, output),
+        Target::Amd64 => place_one::<Amd64, O>(alloc, number, sig, names, output),
+        Target::Aapcs64 => place_one::<Aapcs64, O>(alloc, number, sig, names, output),
+        Target::Riscv => place_one::<Riscv, O>(alloc, number, sig, names, output),
+        Target::Win64 => place_one::<Win64, O>(alloc, number, sig, names, output),
+        Target::Apple => place_one::<Apple, O>(alloc, number, sig, names, output),
     }
 }
 
@@ -62,9 +68,10 @@ fn place_by<A: Abi, O: Sink>(alloc: Global, script: &Script, output: &mut O) -> 
     ensures { Wrote (place_text A.standard (script_of script.now)) (O.state output.old) (O.state output.new) result }
 {
     let sigs = script.sigs();
+    let none = Vec::new(alloc);
     for i in 0..sigs.len() {
         let sig = CheckedSig::of(sigs.get(i));
-        place_one::<A, O>(alloc, i as u32, &sig, output)?;
+        place_one::<A, O>(alloc, i as u32, &sig, &none, output)?;
     }
     Ok(())
 }
@@ -74,12 +81,13 @@ fn place_one<A: Abi, O: Sink>(
     alloc: Global,
     number: u32,
     sig: &CheckedSig<'_>,
+    names: &Vec<Name<'_>>,
     output: &mut O,
 ) -> Result<(), IoError>
-    ensures { Wrote (concat (place_lines A.standard number sig.now)) (O.state output.old) (O.state output.new) result }
+    ensures { Wrote (concat (named_lines (names_of names.now.items) A.standard number sig.now)) (O.state output.old) (O.state output.new) result }
 {
     let cif: Cif<A> = Cif::prepare_copy(alloc, sig)?;
-    place_of(alloc, number, &cif, output)
+    place_of(alloc, number, &cif, names, output)
 }
 
 // The lines of one signature: its frame, the arguments, then the result.
@@ -87,13 +95,47 @@ fn place_of<A: Abi, O: Sink>(
     alloc: Global,
     number: u32,
     cif: &Cif<A>,
+    names: &Vec<Name<'_>>,
     output: &mut O,
 ) -> Result<(), IoError>
-    ensures { Wrote (concat (place_lines A.standard number cif.now)) (O.state output.old) (O.state output.new) result }
+    ensures { Wrote (concat (named_lines (names_of names.now.items) A.standard number cif.now)) (O.state output.old) (O.state output.new) result }
 {
     write_made_line(output, sig_line(alloc, number, cif))?;
     for j in 0..cif.sig().count() {
-        write_made_line(output, place_line(alloc, cif, At::Arg(j)))?;
+        let name = name_at(names, j as usize);
+        write_made_line(output, argument_line(alloc, cif, j, name))?;
     }
     write_made_line(output, place_line(alloc, cif, At::Ret))
+}
+
+// The line of an argument, with its name where it has one.
+fn argument_line<A: Abi>(
+    alloc: Global,
+    cif: &Cif<A>,
+    j: u32,
+    name: &[u8],
+) -> Result<Bytes, NoMemory>
+    requires { j < length cif.now.arguments }
+    ensures { IfOk result (λ line. line ≡ argument_line name.now A.standard cif.now j) }
+{
+    let line = place_line(alloc, cif, At::Arg(j))?;
+    if name.is_empty() {
+        return Ok(line);
+    }
+    let head = argument_name(alloc, j)?;
+    with_name(head, name, line.as_slice())
+}
+
+// What a line begins with, a name, and the rest of the line.
+fn with_name(head: Bytes, name: &[u8], line: &[u8]) -> Result<Bytes, NoMemory>
+    requires { length head ≤ length line.now }
+    ensures { IfOk result (λ l. l ≡ head ++ (codes " " ++ (name.now ++ (codes ":" ++ drop (length head) line.now)))) }
+{
+    let rest = &line[head.len()..];
+    let mut named = head;
+    named.extend(" ".as_bytes())?;
+    named.extend(name)?;
+    named.extend(":".as_bytes())?;
+    named.extend(rest)?;
+    Ok(named)
 }

@@ -123,7 +123,8 @@ fn position_name(alloc: Global, at: At) -> Result<Bytes, NoMemory>
     }
 }
 
-fn argument_name(alloc: Global, number: u32) -> Result<Bytes, NoMemory>
+/// The name of an argument there.
+pub fn argument_name(alloc: Global, number: u32) -> Result<Bytes, NoMemory>
     ensures { IfOk result (λ name. name ≡ codes "arg " ++ decimal number) }
 {
     let mut name = Bytes::from_slice(alloc, "arg ".as_bytes())?;

@@ -116,10 +116,10 @@ fn tell_cdecl<O: Sink>(alloc: Global, bytes: &[u8], output: &mut O) -> Result<u8
 }
 
 fn tell_cplace<O: Sink>(alloc: Global, bytes: &[u8], output: &mut O) -> Result<u8, Unfinished>
-    ensures { (m : State) → Works (IsOfPrototype (λ d. tells (cplace_text d)) bytes.now) (O.state output.old) (O.state output.new) m m result }
+    ensures { (m : State) → Works (IsOfPrototype (λ names d. tells (cplace_text names d)) bytes.now) (O.state output.old) (O.state output.new) m m result }
 {
     match prototype_in(alloc, bytes) {
-        Ok(declaration) => written(cplace(alloc, &declaration, output)),
+        Ok(declaration) => written(cplace(alloc, bytes, &declaration, output)),
         Err(end) => Err(end),
     }
 }

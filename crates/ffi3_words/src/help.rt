@@ -219,13 +219,14 @@ that move no value. Behind the dots may stand the types that a call passes
 there, `int printf(const char *, ..., int, double)`, which is no C. A char by
 value says its sign, which is else the machine's. Writes the two lines of cdecl,
 the second with the types behind the dots, and then for each of the five targets
-its name and the lines that place writes of the signature:
+its name and the lines that place writes of the signature, with the names of the
+parameters:
 
   sint32(pointer;)
   int32_t printf(void *, ...);
   target amd64
   sig 0 need 80 frame 0 block 16 rax 0
-  arg 0 rdi:0+8
+  arg 0 fmt: rdi:0+8
   ret rax:0+4
   ..
 

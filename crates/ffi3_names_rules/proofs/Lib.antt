@@ -1,0 +1,4 @@
+pub mod Passing
+pub mod Signs
+pub mod Naming
+pub mod NameRows
