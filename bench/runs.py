@@ -12,6 +12,7 @@ FLAT = {"ret": "sint32", "args": ["sint32"]}
 NESTED = {"ret": "uint64", "args": ["uint64"] * 7}
 
 # Forms of a long declaration: what stands before, again and again, and behind; and what the answer of `cdecl` begins with.
+# `cplace` names the argument that has the fault of a type, in each of them argument 0.
 DEEP = "struct{" * 15
 FORMS = {
     "a name": ("int f", "f", "(int)", "sint32(sint32)"),

@@ -691,8 +691,9 @@ size_t ffi3_fault_text(const struct ffi3_fault *fault, char *text, size_t capaci
 /* size_t ffi3_fault_lines(uint32_t TARGET, const char *TEXT, size_t LENGTH, char *LINES, size_t CAPACITY)
  *
  * Why the LENGTH bytes at TEXT declare no function for calls by the standard TARGET, in lines for a person, each with
- * its newline: the fault, as ffi3_fault_text has it, and of FFI3_UNEXPECTED what ffi3_check_text tells, in words; and
- * of a fault at a byte of the text the line that has the byte, and a "^" below it:
+ * its newline: the fault, as ffi3_fault_text has it, behind "ret: " or "arg J: " where it is that of a value, and of
+ * FFI3_UNEXPECTED what ffi3_check_text tells, in words; and of a fault at a byte of the text the line that has the
+ * byte, and a "^" below it:
  *
  *     at 12: unexpected 'y', expected ')', ',', '(' or '['
  *     int f(int x y)

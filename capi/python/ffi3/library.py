@@ -448,8 +448,8 @@ def unexpected(target: str, declaration: str | bytes) -> Unexpected | None:
 
 
 def fault_lines(target: str, declaration: str | bytes) -> str:
-    """Why a text declares no function, in lines for a person: the fault, and where it has a place in the text that line
-    with a "^" below the place. Nothing where the text declares one."""
+    """Why a text declares no function, in lines for a person: the fault, behind "ret: " or "arg J: " where a value has
+    it, and where it has a place in the text that line with a "^" below the place. Nothing where the text declares one."""
     number, text, capacity = _target(target), _bytes_of(declaration), 256
     while True:
         lines = ctypes.create_string_buffer(capacity)

@@ -2,7 +2,7 @@
 use Rattle.std.proofs.Common.{[], ◌≡◌, ℕ, ◌≤◌, List, length, inl, inr, refl, sym, subst, ap, ◌∙◌}
 use Rattle.std.specs.Prelude.{Bool, Result, Ok, Err, IfOk, OnOk, IsUtf8, codes}
 use Rattle.ffi3_type_rules.specs.declared.Target.{Target}
-use Rattle.ffi3_type_rules.specs.Signature.{Position, SignatureHasNoFault}
+use Rattle.ffi3_type_rules.specs.Signature.{Position, SignatureFault, SignatureHasNoFault}
 use Rattle.ffi3_io.specs.Sink.{SinkState}
 use Rattle.ffi3_io.specs.Written.{Wrote}
 use Rattle.ffi3_io.specs.declared.IoError.{IoError}
@@ -44,7 +44,8 @@ use Rattle.ffi3_words.specs.declared.words.InputCommand.{InputCommand}
 use Rattle.ffi3_app.specs.declared.unfinished.Unfinished.{Unfinished}
 use Rattle.ffi3_app.specs.declared.unfinished.Unfinished.TheVariants.{Refused, NoMemory, WriteFault}
 use Rattle.ffi3_explain_rules.specs.Standards.{standard_of}
-use Rattle.ffi3_app.specs.Declarations.{Input, a_text, IsInput, IsReadWidely, IsWritable, offset_line, reason_line, marked_line, unexpected_line, sign_line}
+use Rattle.ffi3_app.specs.Declarations.{Input, a_text, IsInput, IsReadWidely, IsWritable, offset_line, reason_line, marked_line, unexpected_line, fault_words, fault_line, sign_line}
+use Rattle.ffi3_diagnostics_rules.specs.Positions.{placed_words}
 use Rattle.ffi3_app.specs.Outcome.{Outcome, refuses, tells, runs, benches, IsOfScript, IsOfDeclaration, HasNames, IsOfPrototype, IsOfImage, outcome_of_input, outcome_of_prototype, outcome_of_answer, IsOutcomeOn}
 use Rattle.ffi3_app.proofs.Called.{some_names}
 use Rattle.ffi3_app.proofs.Outcomes.{one_prototype_input}
@@ -161,7 +162,7 @@ told_text text (decl.Unexpected at) e tells_it told =
 told_text text (decl.BadNumber at) e tells_it told =
     refused_text text (read_as (declaration.bad_number at)) (marked_line text at (codes "bad number")) e tells_it (λ outcome. refl) told
 told_text text (decl.Sig f) e tells_it told =
-    refused_text text (read_as (declaration.bad_signature (signature_fault_of f))) (reason_line (text_of_reason (reason_of_fault (signature_fault_of f)))) e tells_it (λ outcome. refl) told
+    refused_text text (read_as (declaration.bad_signature (signature_fault_of f))) (fault_line (signature_fault_of f)) e tells_it (λ outcome. refl) told
 told_text text decl.NoMemory e tells_it told =
     let P = λ (x : Unfinished). IsNoText text x in subst P (sym told) tt
 
@@ -241,10 +242,10 @@ reason_told f s r e same is told =
     let P = λ (x : language.Reason). RefusesWith (reason_line (text_of_reason x)) e in
     fault_told_as f (decl.Sig s) e same (subst P is told)
 
-pub reason_told_there : (text : List ℕ) (f : DeclFault) (s : SigFault) (r : Reason) (e : Unfinished) → f ≡ decl.Sig s → reason_of r ≡ reason_of_fault (signature_fault_of s) → RefusesWith (reason_line (text_of_reason (reason_of r))) e → IsPlaceToldAs text f e
-reason_told_there text f s r e same is told =
-    let P = λ (x : language.Reason). RefusesWith (reason_line (text_of_reason x)) e in
-    place_told_as text f (decl.Sig s) e same (subst P is told)
+-- the words of a fault, by its reason, behind the name of the value that has it
+pub fault_named : (f : SignatureFault) (r : Reason) (said told : List ℕ) → reason_of r ≡ reason_of_fault f → said ≡ text_of_reason (reason_of r) → told ≡ placed_words f said → told ≡ fault_words f
+fault_named f r said told same is placed =
+    placed ∙ ap (placed_words f) (is ∙ ap (λ (x : language.Reason). text_of_reason x) same)
 
 -- what is read can be written
 pub read_is_writable : (bytes : List ℕ) (d : Declaration) → declaration.IsReading bytes (declaration.reads d) → IsWritable d

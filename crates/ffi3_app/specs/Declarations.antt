@@ -3,16 +3,20 @@ use Rattle.std.specs.Prelude.{◌<◌, ◌≤◌, ℕ, ◌++◌, List, [], ◌�
 use Rattle.std.specs.List.{concat, flat_map}
 use Rattle.ffi3_type_rules.specs.declared.Target.{Target}
 use Rattle.ffi3_type_rules.specs.declared.Target.TheVariants.{Amd64, Aapcs64, Riscv, Win64, Apple}
-use Rattle.ffi3_type_rules.specs.Signature.{Signature, SignatureHasNoFault, Position, at_result, at_argument}
+use Rattle.ffi3_type_rules.specs.Signature.{Signature, SignatureFault, SignatureHasNoFault, Position}
+use Rattle.ffi3_type_rules.specs.Signature.{at_result, at_argument}
 use Rattle.ffi3_type_rules.specs.Text.{signature_text}
 use Rattle.ffi3_run_rules.specs.Lines.{a_line}
+use Rattle.ffi3_script_rules.specs.Language.{reason_of_fault}
 use Rattle.ffi3_script_rules.specs.Reading.{max_length}
+use Rattle.ffi3_script_rules.specs.ReasonText.{text_of_reason}
 use Rattle.ffi3_cdecl_rules.specs.Grammar.{Declaration}
 use Rattle.ffi3_cdecl_rules.specs.Canonical.{declaration_text, FixesAll, IsIdentifier}
 use Rattle.ffi3_cdecl_rules.specs.Prototype.{Prototype, read_as, sign_unsaid, IsPrototype, prototype_text}
 use Rattle.ffi3_cdecl_rules.specs.Reading as declaration
 use Rattle.ffi3_cdecl_rules.specs.Telling.{tell}
 use Rattle.ffi3_cdecl_rules.specs.Tokens.{signed}
+use Rattle.ffi3_diagnostics_rules.specs.Positions.{words_at, placed_words}
 use Rattle.ffi3_diagnostics_rules.specs.ToldText.{told_words, lines_at}
 use Rattle.ffi3_place_rules.specs.Standard.{Standard, plan_of}
 use Rattle.ffi3_text.specs.PlaceLines.{argument_place, argument_text, place_text_of, sig_text_of}
@@ -68,15 +72,18 @@ abbrev pub unexpected_line : List ℕ → ℕ → List ℕ
 unexpected_line text at =
     marked_line text at (told_words text at (tell signed text at))
 
--- the name of a value, as the lines of `place` have it
-abbrev pub position_name : Position → List ℕ
-position_name at_result = codes "ret"
-position_name (at_argument i) = codes "arg " ++ decimal i
+-- what is told of the first fault of a prototype's signature: what scripts tell, behind the name of the value that has it
+abbrev pub fault_words : SignatureFault → List ℕ
+fault_words f = placed_words f (text_of_reason (reason_of_fault f))
+
+-- and its line
+abbrev pub fault_line : SignatureFault → List ℕ
+fault_line f = reason_line (fault_words f)
 
 -- what a value is told whose type is another where `char` is signed than where it is not
 abbrev pub sign_words : Position → List ℕ
 sign_words position =
-    position_name position ++ codes ": char is signed or not by the machine: write signed char or unsigned char"
+    words_at position (codes "char is signed or not by the machine: write signed char or unsigned char")
 
 -- and its line
 abbrev pub sign_line : Position → List ℕ

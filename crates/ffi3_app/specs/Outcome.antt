@@ -35,7 +35,8 @@ use Rattle.ffi3_image_rules.specs.Answer.{Answer, IsAnswer}
 use Rattle.ffi3_explain_rules.specs.Standards.{standard_of}
 use Rattle.ffi3_app.specs.Commands.{layout_text, place_text}
 use Rattle.ffi3_app.specs.Declarations.{Input, too_many_bytes, not_utf8, a_text, IsReadAs, IsReadWidely, offset_line}
-use Rattle.ffi3_app.specs.Declarations.{reason_line, marked_line, unexpected_line, sign_line, cdecl_text, cplace_text}
+use Rattle.ffi3_app.specs.Declarations.{reason_line, marked_line, unexpected_line, fault_line, sign_line}
+use Rattle.ffi3_app.specs.Declarations.{cdecl_text, cplace_text}
 
 -- WHAT A COMMAND COMES TO: its input is refused with a line; or a text is told; or a program is run by a standard, traced or not, and told; or the bench of a seed and a number of calls is run and told
 pub data Outcome : Type 0 where
@@ -80,7 +81,7 @@ outcome_of_input outcome (a_text (read_as (declaration.reads d))) = outcome d
 outcome_of_input outcome (a_text (sign_unsaid position)) =
     refuses (sign_line position)
 
--- Of a prototype the same, but a fault that has a place in these bytes is told with their line.
+-- Of a prototype the same, but a fault that has a place in these bytes is told with their line, and one that a value has with the name of it.
 abbrev pub outcome_of_prototype : List ℕ → (Declaration → Outcome) → Input → Outcome
 outcome_of_prototype bytes outcome too_many_bytes = outcome_of_input outcome too_many_bytes
 outcome_of_prototype bytes outcome not_utf8 = outcome_of_input outcome not_utf8
@@ -91,7 +92,7 @@ outcome_of_prototype bytes outcome (a_text (read_as (declaration.unexpected at))
 outcome_of_prototype bytes outcome (a_text (read_as (declaration.bad_number at))) =
     refuses (marked_line bytes at (codes "bad number"))
 outcome_of_prototype bytes outcome (a_text (read_as (declaration.bad_signature f))) =
-    refuses (reason_line (text_of_reason (reason_of_fault f)))
+    refuses (fault_line f)
 outcome_of_prototype bytes outcome (a_text (read_as (declaration.reads d))) = outcome d
 outcome_of_prototype bytes outcome (a_text (sign_unsaid position)) =
     refuses (sign_line position)

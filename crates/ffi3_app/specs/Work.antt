@@ -18,7 +18,7 @@ use Rattle.ffi3_script_rules.specs.Script.{Script}
 use Rattle.ffi3_status.specs.FaultLines.{ReportsFault, no_memory_line, write_fault_line}
 use Rattle.ffi3_types.specs.SignatureFaultOf.{signature_fault_of}
 use Rattle.ffi3_app.specs.Declarations.{Input, a_text, IsInput, IsReadPlainly, offset_line, reason_line, marked_line}
-use Rattle.ffi3_app.specs.Declarations.{unexpected_line, sign_line}
+use Rattle.ffi3_app.specs.Declarations.{unexpected_line, fault_line, sign_line}
 use Rattle.ffi3_app.specs.declared.unfinished.Unfinished.{Unfinished}
 use Rattle.ffi3_app.specs.declared.unfinished.Unfinished.TheVariants.{Refused, NoMemory, WriteFault}
 use Rattle.ffi3_app.specs.Outcome.{Outcome, refuses, located_line, outcome_of_input, outcome_of_prototype, IsOfScript}
@@ -92,7 +92,7 @@ IsPlaceToldAs text (decl.Unexpected at) e = RefusesWith (unexpected_line text at
 IsPlaceToldAs text (decl.BadNumber at) e =
     RefusesWith (marked_line text at (codes "bad number")) e
 IsPlaceToldAs text (decl.Sig f) e =
-    RefusesWith (reason_line (text_of_reason (reason_of_fault (signature_fault_of f)))) e
+    RefusesWith (fault_line (signature_fault_of f)) e
 IsPlaceToldAs text decl.NoMemory e = e ≡ NoMemory
 
 -- By a reading of texts, and what an input comes to by it, bytes are no declaration: they are refused, whatever is done with a declaration; or there was no memory.

@@ -8,12 +8,12 @@ ghost use Rattle.ffi3_app.specs.Declarations.{argument_line, named_lines};
 ghost use Rattle.ffi3_names.specs.NamesOf.{names_of};
 ghost use Rattle.ffi3_io.specs.Written.{Wrote};
 
-use crate::prototype::argument_name;
 use crate::write::write_made_line;
 use ffi3_aapcs64::Aapcs64;
 use ffi3_amd64::Amd64;
 use ffi3_apple::Apple;
 use ffi3_cif::Cif;
+use ffi3_diagnostics::argument_name;
 use ffi3_io::{IoError, Sink};
 use ffi3_names::{Name, name_at};
 use ffi3_place::Abi;

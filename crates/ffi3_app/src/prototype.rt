@@ -1,10 +1,10 @@
 //! From the bytes of an input to a prototype, or to the line that refuses them.
-ghost use Rattle.std.specs.Prelude.{◌≡◌, ◌↔◌, ◌++◌, codes, decimal, IsTrue, IfOk, IfErr};
+ghost use Rattle.std.specs.Prelude.{◌≡◌, ◌↔◌, IsTrue, IfOk, IfErr};
 ghost use Rattle.ffi3_type_rules.specs.Signature.{SignatureHasNoFault};
 ghost use Rattle.ffi3_cdecl_rules.specs.Tokens.{wide, signed};
 ghost use Rattle.ffi3_cdecl_rules.specs.Prototype.{IsPrototype, first_other, read_as};
 ghost use Rattle.ffi3_cdecl_rules.specs.Reading.{IsReadingIn, reads};
-ghost use Rattle.ffi3_app.specs.Declarations.{IsReadWidely, a_text, position_name, sign_line, sign_words};
+ghost use Rattle.ffi3_app.specs.Declarations.{IsReadWidely, a_text, sign_line, sign_words};
 ghost use Rattle.ffi3_type_rules.specs.Same.{same_tree};
 ghost use Rattle.ffi3_types.specs.SignatureFaultOf.{position_of};
 ghost use Rattle.ffi3_types.specs.TreeOf.{tree_of};
@@ -14,13 +14,14 @@ use crate::declaration::reason_line;
 use crate::marking::place_refusal;
 use crate::unfinished::{Unfinished, refused, words};
 use ffi3_cdecl::{Declaration, Sign, read_wide_decl};
+use ffi3_diagnostics::words_at;
 use ffi3_json::MAX_LENGTH;
 use ffi3_types::{At, Bytes, FfiType, NoMemory, Sig, same_sig, same_type};
 use std::alloc::Global;
 use std::str;
 
 const SIGN_UNSAID: &str =
-    ": char is signed or not by the machine: write signed char or unsigned char";
+    "char is signed or not by the machine: write signed char or unsigned char";
 
 /// Reads the bytes as one prototype, the same for all targets.
 pub fn prototype_in(alloc: Global, bytes: &[u8]) -> Result<Declaration, Unfinished>
@@ -113,32 +114,11 @@ fn first_other(a: &Sig, b: &Sig) -> At
     At::Arg(i)
 }
 
-// The name of a value, as the lines of place have it.
-fn position_name(alloc: Global, at: At) -> Result<Bytes, NoMemory>
-    ensures { IfOk result (λ name. name ≡ position_name (position_of at)) }
-{
-    match at {
-        At::Ret => Bytes::from_slice(alloc, "ret".as_bytes()),
-        At::Arg(i) => argument_name(alloc, i),
-    }
-}
-
-/// The name of an argument there.
-pub fn argument_name(alloc: Global, number: u32) -> Result<Bytes, NoMemory>
-    ensures { IfOk result (λ name. name ≡ codes "arg " ++ decimal number) }
-{
-    let mut name = Bytes::from_slice(alloc, "arg ".as_bytes())?;
-    name.extend(format!(in alloc; "{number}")?.as_bytes())?;
-    Ok(name)
-}
-
 // What a value is told whose type is another where `char` is signed than where it is not.
 fn sign_words(alloc: Global, at: At) -> Result<Bytes, NoMemory>
     ensures { IfOk result (λ words. words ≡ sign_words (position_of at)) }
 {
-    let mut words = position_name(alloc, at)?;
-    words.extend(SIGN_UNSAID.as_bytes())?;
-    Ok(words)
+    words_at(alloc, at, SIGN_UNSAID.as_bytes())
 }
 
 // The line of it.

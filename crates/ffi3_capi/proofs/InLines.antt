@@ -7,6 +7,7 @@ use Rattle.ffi3_cdecl_rules.specs.Tokens.{wide}
 use Rattle.ffi3_cdecl_rules.specs.Reading.{bad_token, unexpected, bad_number, bad_signature, IsReadingIn}
 use Rattle.ffi3_cdecl_rules.specs.Reasons.{Told, IsTold}
 use Rattle.ffi3_cdecl_rules.specs.Telling.{tell}
+use Rattle.ffi3_diagnostics_rules.specs.Positions.{placed_words}
 use Rattle.ffi3_diagnostics_rules.specs.ToldText.{told_words, lines_at}
 use Rattle.ffi3_capi.specs.declared.fault.TextFault.{TextFault}
 use Rattle.ffi3_capi.specs.declared.fault.FaultKind.TheVariants.{NotUtf8}
@@ -15,7 +16,7 @@ use Rattle.ffi3_capi.specs.Faults.{fault_with, signature_fault, Declares}
 use Rattle.ffi3_capi.specs.FaultText.{fault_text}
 use Rattle.ffi3_capi.specs.Filled.{filled, with_end}
 use Rattle.ffi3_capi.specs.Placed.{targets}
-use Rattle.ffi3_capi.specs.FaultLines.{place_line, AreFaultLines, no_target, no_fault, no_text, at_bad_token, at_unexpected, at_bad_number, of_signature, TellsLines, lines, no_memory}
+use Rattle.ffi3_capi.specs.FaultLines.{place_line, fault_line, AreFaultLines, no_target, no_fault, no_text, at_bad_token, at_unexpected, at_bad_number, of_signature, TellsLines, lines, no_memory}
 
 pub is_place_line : (a b c words : List ℕ) (at : ℕ) → a ≡ codes "at " ++ (decimal at ++ codes ": ") → b ≡ a ++ words → c ≡ b ++ 10 ∷ [] → c ≡ place_line at words
 is_place_line a b c words at e f g =
@@ -23,6 +24,10 @@ is_place_line a b c words at e f g =
     let two = decimal at in
     let three = codes ": " in
     g ∙ ap (λ ws. ws ++ 10 ∷ []) (f ∙ ap (λ ws. ws ++ words) e) ∙ append_assoc (one ++ (two ++ three)) words (10 ∷ []) ∙ append_assoc one (two ++ three) (words ++ 10 ∷ []) ∙ ap (λ ws. one ++ ws) (append_assoc two three (words ++ 10 ∷ []))
+
+pub signature_line_told : (f : TextFault) (g : SignatureFault) (words told line : List ℕ) → f ≡ signature_fault g → words ≡ fault_text f → told ≡ placed_words g words → line ≡ told ++ 10 ∷ [] → line ≡ fault_line g
+signature_line_told f g words told line same are placed pushed =
+    pushed ∙ ap (λ ws. ws ++ 10 ∷ []) (placed ∙ ap (placed_words g) (are ∙ ap (λ h. fault_text h) same))
 
 module _ (target : ℕ) (text : List ℕ) where
   told_lines : (ls ms : List ℕ) → ls ≡ ms → AreFaultLines target text ms → AreFaultLines target text ls
@@ -42,9 +47,9 @@ module _ (target : ℕ) (text : List ℕ) where
   lines_bad_number ls at e utf8 some is =
       told_lines ls (place_line at (codes "bad number") ++ lines_at text at) e (at_bad_number at some utf8 is)
 
-  pub lines_of_signature : (ls : List ℕ) (f : TextFault) (g : SignatureFault) → ls ≡ fault_text f ++ 10 ∷ [] → f ≡ signature_fault g → IsUtf8 text → IsSome (slice_get targets target) → IsReadingIn wide (char_sign target) text (bad_signature g) → AreFaultLines target text ls
-  lines_of_signature ls f g e same utf8 some is =
-      told_lines ls (fault_text (signature_fault g) ++ 10 ∷ []) (e ∙ ap (λ h. fault_text h ++ 10 ∷ []) same) (of_signature g some utf8 is)
+  pub lines_of_signature : (ls : List ℕ) (g : SignatureFault) → ls ≡ fault_line g → IsUtf8 text → IsSome (slice_get targets target) → IsReadingIn wide (char_sign target) text (bad_signature g) → AreFaultLines target text ls
+  lines_of_signature ls g e utf8 some is =
+      told_lines ls (fault_line g) e (of_signature g some utf8 is)
 
   pub no_lines : (ls : List ℕ) (s : Signature) → ls ≡ [] → IsSome (slice_get targets target) → Declares (char_sign target) text s → AreFaultLines target text ls
   no_lines ls s e some is = told_lines ls [] e (no_fault s some is)

@@ -6,6 +6,7 @@ use Rattle.ffi3_cdecl_rules.specs.Tokens.{wide}
 use Rattle.ffi3_cdecl_rules.specs.Reading.{bad_token, unexpected, bad_number, bad_signature, IsReadingIn}
 use Rattle.ffi3_cdecl_rules.specs.Reasons.{IsTold}
 use Rattle.ffi3_cdecl_rules.specs.Telling.{tell}
+use Rattle.ffi3_diagnostics_rules.specs.Positions.{placed_words}
 use Rattle.ffi3_diagnostics_rules.specs.ToldText.{told_words, lines_at}
 use Rattle.ffi3_capi.specs.declared.fault.FaultKind.TheVariants.{NotUtf8}
 use Rattle.ffi3_capi.specs.Chars.{char_sign}
@@ -18,6 +19,10 @@ use Rattle.ffi3_capi.specs.Placed.{targets}
 abbrev pub place_line : ℕ → List ℕ → List ℕ
 place_line at words =
     codes "at " ++ (decimal at ++ (codes ": " ++ (words ++ 10 ∷ [])))
+
+-- the line of a signature's fault, behind the name of the value that has it
+abbrev pub fault_line : SignatureFault → List ℕ
+fault_line f = placed_words f (fault_text (signature_fault f)) ++ 10 ∷ []
 
 -- THE LINES of a text's fault. What is no declaration for a known target has some.
 pub data AreFaultLines (target : ℕ) (text : List ℕ) : List ℕ → Type 0 where
@@ -38,7 +43,7 @@ pub data AreFaultLines (target : ℕ) (text : List ℕ) : List ℕ → Type 0 wh
       → AreFaultLines target text (place_line at (codes "bad number") ++ lines_at text at)
   of_signature : (f : SignatureFault) → IsSome (slice_get targets target) → IsUtf8 text
       → IsReadingIn wide (char_sign target) text (bad_signature f)
-      → AreFaultLines target text (fault_text (signature_fault f) ++ 10 ∷ [])
+      → AreFaultLines target text (fault_line f)
 
 -- WHAT ffi3_fault_lines ANSWERS, and what it writes into the caller's array. Only where memory was refused are there no lines of a fault.
 pub data TellsLines (target : ℕ) (text old : List ℕ) : ℕ → List ℕ → Type 0 where

@@ -3,9 +3,10 @@ ghost use Rattle.std.specs.Prelude.{◌≡◌, ◌++◌, ◌∷◌, [], IfOk, Is
 ghost use Rattle.ffi3_cdecl_rules.specs.Tokens.{wide};
 ghost use Rattle.ffi3_cdecl_rules.specs.Reading.{IsReadingIn, unexpected};
 ghost use Rattle.ffi3_diagnostics_rules.specs.ToldText.{lines_at};
+ghost use Rattle.ffi3_types.specs.SignatureFaultOf.{signature_fault_of};
 ghost use Rattle.ffi3_cdecl.specs.Tells.{Tells};
 ghost use Rattle.ffi3_capi.specs.Chars.{char_sign};
-ghost use Rattle.ffi3_capi.specs.FaultLines.{place_line, AreFaultLines, TellsLines};
+ghost use Rattle.ffi3_capi.specs.FaultLines.{place_line, fault_line, AreFaultLines, TellsLines};
 ghost use Rattle.ffi3_capi.specs.FaultText.{fault_text};
 ghost use Rattle.ffi3_capi.specs.Placed.{targets};
 
@@ -15,8 +16,8 @@ use crate::fill::fill_text;
 use crate::placing::target_numbered;
 use crate::text::kind_text;
 use ffi3_cdecl::{DeclFault, read_wide_decl};
-use ffi3_diagnostics::{lines_at, tell, told_words};
-use ffi3_types::{Bytes, NoMemory};
+use ffi3_diagnostics::{lines_at, placed_words, tell, told_words};
+use ffi3_types::{Bytes, NoMemory, SigFault};
 use std::alloc::{AllocError, Global};
 use std::{mem, str};
 
@@ -69,6 +70,17 @@ fn fault_line(alloc: Global, fault: TextFault) -> Result<Bytes, NoMemory>
     Ok(line)
 }
 
+/// The line of a signature's fault, behind the name of the value that has it.
+#[tactic(auto, using(crate::proofs::InLines::signature_line_told))]
+fn signature_line(alloc: Global, fault: &SigFault) -> Result<Bytes, NoMemory>
+    ensures { IfOk result (λ line. line ≡ fault_line (signature_fault_of fault.now)) }
+{
+    let words = fault_words(alloc, &signature_fault(fault))?;
+    let mut line = placed_words(alloc, fault, words.as_slice())?;
+    line.push(10)?;
+    Ok(line)
+}
+
 /// The lines of a fault.
 fn lines_of(alloc: Global, target: u32, text: &str, fault: &DeclFault) -> Result<Bytes, NoMemory>
     ensures { IfOk result (λ lines. IsUtf8 text.now → IsSome (slice_get targets target) → Tells (IsReadingIn wide (char_sign target) text.now) fault.now → AreFaultLines target text.now lines) }
@@ -77,7 +89,7 @@ fn lines_of(alloc: Global, target: u32, text: &str, fault: &DeclFault) -> Result
         DeclFault::BadToken { at } => lines_with(alloc, text, *at, "bad token".as_bytes()),
         DeclFault::Unexpected { at } => unexpected_lines(alloc, target, text, *at),
         DeclFault::BadNumber { at } => lines_with(alloc, text, *at, "bad number".as_bytes()),
-        DeclFault::Sig(sig) => fault_line(alloc, signature_fault(sig)),
+        DeclFault::Sig(sig) => signature_line(alloc, sig),
         DeclFault::NoMemory => Err(AllocError),
     }
 }

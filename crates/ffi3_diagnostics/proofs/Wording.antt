@@ -5,6 +5,8 @@ use Rattle.std.proofs.lemmas.List.{drop_more, drop_all, length-drop}
 use Rattle.ffi3_cdecl_rules.specs.Tokens.{is_blank, front}
 use Rattle.ffi3_cdecl_rules.specs.Expected as rules
 use Rattle.ffi3_cdecl_rules.specs.Reasons.{Reason, Told}
+use Rattle.ffi3_type_rules.specs.Signature.{Position}
+use Rattle.ffi3_diagnostics_rules.specs.Positions.{position_name, words_at}
 use Rattle.ffi3_diagnostics_rules.specs.ToldText.{kind_words, between, one_of, expected_words, reason_words, why_words, shown, printable, stood_words, told_words, goes_on_line, last_line, without_end, marked_at, goes_on_character, blanks_below, marked_lines, lines_at}
 use Rattle.ffi3_diagnostics.specs.declared.expected.Expected.{Expected}
 use Rattle.ffi3_diagnostics.specs.ToldOf.{expected_of, kinds_of}
@@ -47,6 +49,10 @@ some_expected old now new (k ∷ kinds) h e f =
 pub three_words : (old a b new first second third : List ℕ) → a ≡ old ++ first → b ≡ a ++ second → new ≡ b ++ third → new ≡ old ++ (first ++ (second ++ third))
 three_words old a b new first second third e f g =
     g ∙ ap (λ ws. ws ++ third) (f ∙ ap (λ ws. ws ++ second) e ∙ append_assoc old first second) ∙ append_assoc old (first ++ second) third ∙ ap (λ ws. old ++ ws) (append_assoc first second third)
+
+pub named_value : (p : Position) (name said told words : List ℕ) → name ≡ position_name p → said ≡ name ++ codes ": " → told ≡ said ++ words → told ≡ words_at p words
+named_value p name said told words e f g =
+    g ∙ ap (λ ws. ws ++ words) (f ∙ ap (λ ws. ws ++ codes ": ") e) ∙ append_assoc (position_name p) (codes ": ") words
 
 pub some_reason : (old now new : List ℕ) (why : Reason) (kinds : List rules.Expected) → now ≡ old ++ codes ": " → new ≡ now ++ reason_words why → new ≡ old ++ why_words (Some why) kinds
 some_reason old now new why kinds e f =

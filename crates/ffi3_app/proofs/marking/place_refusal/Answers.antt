@@ -1,9 +1,8 @@
 use Rattle.std.specs.Prelude.{codes}
-use Rattle.ffi3_cdecl.specs.declared.fault.DeclFault.TheVariants.{BadToken, Unexpected, BadNumber}
-use Rattle.ffi3_json.specs.ReasonOf.{reason_of}
-use Rattle.ffi3_script_rules.specs.ReasonText.{text_of_reason}
-use Rattle.ffi3_app.specs.Declarations.{marked_line, unexpected_line, reason_line}
-use Rattle.ffi3_app.proofs.Working.{marked_as, place_told_as, reason_told_there}
+use Rattle.ffi3_cdecl.specs.declared.fault.DeclFault.TheVariants.{BadToken, Unexpected, BadNumber, Sig}
+use Rattle.ffi3_types.specs.SignatureFaultOf.{signature_fault_of}
+use Rattle.ffi3_app.specs.Declarations.{marked_line, unexpected_line, fault_line}
+use Rattle.ffi3_app.proofs.Working.{marked_as, place_told_as}
 use Rattle.ffi3_app.proofs.marking.place_refusal.Goals as goal
 
 pub returns-in-BadToken : goal.returns-in-BadToken
@@ -20,5 +19,4 @@ returns-in-BadNumber c =
 
 pub returns-in-Sig : goal.returns-in-Sig
 returns-in-Sig c =
-    let words = text_of_reason (reason_of c.reason_of_signature-reason.result) in
-    reason_told_there c.args.text.now c.args.fault.now c.in-Sig.fault c.reason_of_signature-reason.result c.refused-in-Sig.result c.in-Sig.is c.reason_of_signature-reason.ensures (c.refused-in-Sig.ensures (reason_line words) (c.reason_line.ensures words c.reason_text.ensures))
+    place_told_as c.args.text.now c.args.fault.now (Sig c.in-Sig.fault) c.refused-in-Sig.result c.in-Sig.is (c.refused-in-Sig.ensures (fault_line (signature_fault_of c.in-Sig.fault)) c.fault_line.ensures)

@@ -20,4 +20,4 @@ returns-in-BadNumber c =
 
 pub returns-in-Sig : goal.returns-in-Sig
 returns-in-Sig c =
-    IfOk-weaker c.fault_line.result _ _ (λ ls e utf8 some is. lines_of_signature c.args.target c.args.text.now ls c.signature_fault.result (signature_fault_of c.in-Sig.sig) e c.signature_fault.ensures utf8 some (subst (Tells (IsReadingIn wide (char_sign c.args.target) c.args.text.now)) c.in-Sig.is is)) c.fault_line.ensures
+    IfOk-weaker c.signature_line.result _ _ (λ ls e utf8 some is. lines_of_signature c.args.target c.args.text.now ls (signature_fault_of c.in-Sig.sig) e utf8 some (subst (Tells (IsReadingIn wide (char_sign c.args.target) c.args.text.now)) c.in-Sig.is is)) c.signature_line.ensures
