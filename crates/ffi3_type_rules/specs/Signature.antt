@@ -5,7 +5,7 @@ use Rattle.std.specs.Coded.{Coded, code_by, coded×, coded_list, coded_option, c
 use Rattle.ffi3_type_rules.specs.declared.limits.TheConstants.{MOST_ARGUMENTS}
 use Rattle.ffi3_type_rules.specs.Tree.{Tree, void, scalar, tree_at, tree_code, tree_list_code, Scalar, u8, s8, u16, s16}
 use Rattle.ffi3_type_rules.specs.Tree.{float, left_out, structure, u32, s32, u64, s64, u128, s128, double, pointer}
-use Rattle.ffi3_type_rules.specs.Tree.{array}
+use Rattle.ffi3_type_rules.specs.Tree.{array, x87, binary128}
 use Rattle.ffi3_type_rules.specs.declared.Role.TheVariants.{AsResult, AsArgument}
 use Rattle.ffi3_type_rules.specs.Fault.{Fault, IsFirstFault}
 
@@ -58,6 +58,8 @@ is_promoted_scalar s128 = false
 is_promoted_scalar float = true
 is_promoted_scalar double = false
 is_promoted_scalar pointer = false
+is_promoted_scalar x87 = false
+is_promoted_scalar binary128 = false
 
 abbrev pub is_promoted : Tree → Bool
 is_promoted void = false
