@@ -268,7 +268,7 @@ fault_with_less more less h outer t path f (nested_deep is parts deep) = nested_
 fault_with_less more less h outer t path f (misshapen is bad) = misshapen is bad
 fault_with_less more less h outer t path f (over_limit is parts large) = over_limit is parts large
 
-right_with_more : (more less : Role) → TakesMore more less → (outer : ℕ) (t : Tree) → HasNoFault outer less t → HasNoFault outer more t
+pub right_with_more : (more less : Role) → TakesMore more less → (outer : ℕ) (t : Tree) → HasNoFault outer less t → HasNoFault outer more t
 right_with_more more less h outer t right path f fault =
     right path f (fault_with_less more less h outer t path f fault)
 

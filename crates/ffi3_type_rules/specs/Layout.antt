@@ -1,7 +1,8 @@
 -- Size, alignment and leaves of a type. (libffi manual, "Size and Alignment"; arrays: C, "Types")
 use Rattle.std.specs.Prelude.{◌≡◌, ℕ, zero, suc, ◌+◌, ◌*◌, ◌≤◌, ◌%◌, max, List, [], ◌∷◌, ◌++◌, map, length}
-use Rattle.std.specs.Prelude.{slice_index_or}
+use Rattle.std.specs.Prelude.{slice_index_or, Bool, true, false}
 use Rattle.std.specs.Int.{next_multiple_of}
+use Rattle.std.specs.List.{list_any}
 use Rattle.ffi3_type_rules.specs.Tree.{Scalar, u8, s8, u16, s16, u32, s32, u64, s64, u128, s128, float, double, pointer}
 use Rattle.ffi3_type_rules.specs.Tree.{x87, binary128}
 use Rattle.ffi3_type_rules.specs.Tree.{Tree, void, scalar, left_out, structure, Trees, no_trees, tree, array}
@@ -144,6 +145,28 @@ offset_of (scalar s) i = 0
 offset_of (left_out k) i = 0
 offset_of (structure ts) i = start_of (layouts ts) i
 offset_of (array ts n) i = i * (element (layouts ts) 0).size
+
+-- the two formats of long double that take 16 bytes
+abbrev pub is_long_double : Scalar → Bool
+is_long_double u8 = false
+is_long_double s8 = false
+is_long_double u16 = false
+is_long_double s16 = false
+is_long_double u32 = false
+is_long_double s32 = false
+is_long_double u64 = false
+is_long_double s64 = false
+is_long_double u128 = false
+is_long_double s128 = false
+is_long_double float = false
+is_long_double double = false
+is_long_double pointer = false
+is_long_double x87 = true
+is_long_double binary128 = true
+
+-- the type is one, or has one in it
+abbrev pub has_long_double : Tree → Bool
+has_long_double t = list_any (λ leaf. is_long_double leaf.kind) (leaves_of t)
 
 -- leaf i of a type
 abbrev pub leaf_at : Tree → ℕ → Leaf
