@@ -78,7 +78,7 @@ mutual
   elements_right_or_first outer (tree t ts) = in_front outer t (list_of ts) (right_or_first outer AsElement t) (elements_right_or_first outer ts)
 
 -- a type that has no first fault has none
-right_without_first : (role : Role) (t : Tree) → ((path : List ℕ) (f : Fault) → ¬ IsFirstFault 0 role t path f) → HasNoFault 0 role t
+pub right_without_first : (role : Role) (t : Tree) → ((path : List ℕ) (f : Fault) → ¬ IsFirstFault 0 role t path f) → HasNoFault 0 role t
 right_without_first role t none =
     elim (right_or_first 0 role t) [ inl right ↦ right | inr first ↦ absurd (none first.0 first.1 first.2) ]
 

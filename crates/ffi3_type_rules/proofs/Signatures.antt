@@ -5,7 +5,7 @@ use Rattle.ffi3_type_rules.specs.Tree.{Tree, tree_at}
 use Rattle.ffi3_type_rules.specs.Layout.{has_long_double}
 use Rattle.ffi3_type_rules.specs.declared.Role.{Role}
 use Rattle.ffi3_type_rules.specs.Fault.{Fault, HasNoFault}
-use Rattle.ffi3_type_rules.specs.Signature.{Signature, at_result, at_argument, SignatureFault, too_many, bad_type, bad_fixed, bad_argument_type, is_promoted, over_most, in_result, in_argument, fixed_outside, promoted, SignatureFaultBefore, Purpose, for_calls, is_for_calls, result_role, argument_role, IsFoundFault, of_type, of_long_double, IsFaultFor, HasNoFaultFor, IsFirstFaultFor, SignatureHasNoFault}
+use Rattle.ffi3_type_rules.specs.Signature.{Signature, at_result, at_argument, SignatureFault, too_many, bad_type, bad_fixed, bad_argument_type, is_promoted, over_most, in_result, in_argument, fixed_outside, promoted, SignatureFaultBefore, Purpose, is_for_calls, result_role, argument_role, IsFoundFault, of_type, of_long_double, IsFaultFor, HasNoFaultFor, IsFirstFaultFor, SignatureHasNoFault}
 
 -- a type that stands there without a fault
 pub record IsSuited (purpose : Purpose) (role : Role) (t : Tree) : Type 0 where
