@@ -1,18 +1,22 @@
 -- Places of which none is a further word: where the modelled machine has each, they stand in it; and what is passed in one is passed in a further word of it or not.
-use Rattle.std.proofs.Common.{◌≡◌, ℕ, zero, suc, ◌+◌, ◌<◌, inl, inr, Bool, false, cond, eqb, leb, List, [], ◌∷◌, ◌++◌, length, get_or, Option, Some, None, refl, ap, sym, subst, ◌∙◌, arith, ◌-◌}
+use Rattle.std.proofs.Common.{◌≡◌, ℕ, zero, suc, ◌+◌, ◌<◌, inl, inr, Bool, false, cond, eqb, leb, List, [], ◌∷◌, ◌++◌, length, get_or, ◌*◌, ◌/◌, Option, Some, None, refl, ap, sym, subst, ◌∙◌, arith, ◌-◌}
 use Rattle.std.specs.List.{AllByRecursion, flat_map}
 use Rattle.std.proofs.lemmas.Bool.Decides.{nat_tests}
 use Rattle.ffi3_type_rules.specs.declared.Isa.{Isa}
 use Rattle.ffi3_type_rules.specs.declared.Isa.TheVariants.{Amd64, Aarch64, Riscv}
 use Rattle.ffi3_place_rules.specs.declared.Loc.{Loc}
 use Rattle.ffi3_place_rules.specs.declared.Loc.TheVariants.{G, F, S}
+use Rattle.ffi3_type_rules.specs.Tree.{Tree, tree_at}
+use Rattle.ffi3_type_rules.specs.Layout.{size_of, has_long_double}
+use Rattle.ffi3_place_rules.specs.declared.Ext.{Ext}
 use Rattle.ffi3_place_rules.specs.declared.Piece.{Piece}
 use Rattle.ffi3_place_rules.specs.declared.Place.{Place}
 use Rattle.ffi3_place_rules.specs.declared.Place.TheVariants.{Direct, ByRef}
 use Rattle.ffi3_place_rules.specs.declared.Res.{Res}
 use Rattle.ffi3_place_rules.specs.declared.Res.TheVariants.{Nothing, Direct as DirectRes, Hidden}
 use Rattle.ffi3_place_rules.specs.Isa.{further_arguments}
-use Rattle.ffi3_place_rules.specs.Sound.{LiesIn, IsFurther, StandsIn, IsOneOf, IsOnStackOrIn, StandsAbove, word_below_place, HaveLowerWords, PlaceHasLowerWords, ResultHasLowerWords, piece_locs, place_locs, result_locs}
+use Rattle.ffi3_place_rules.specs.Doublewords.{doublewords_at}
+use Rattle.ffi3_place_rules.specs.Sound.{LiesIn, IsFurther, StandsIn, IsOneOf, IsOnStackOrIn, StandsAbove, word_below_place, HaveLowerWords, PlaceHasLowerWords, ResultHasLowerWords, piece_locs, place_locs, result_locs, copy_locs, buffer_locs, stack_words, stack_words_for}
 use Rattle.ffi3_place_rules.proofs.Tests.{each_weaker, each_at}
 use Rattle.ffi3_place_rules.proofs.Covered.{any_later}
 
@@ -147,3 +151,35 @@ result_lowest isa stack (DirectRes pieces) h =
     lowest_words isa pieces (each_weaker (LiesIn isa stack) (HasNoneBelow isa) (lies_lowest isa stack) (piece_locs pieces) h)
 result_lowest isa stack Nothing h = tt
 result_lowest isa stack (Hidden at buffer) h = tt
+
+-- ---- what stands on the stack or in doublewords
+
+pub doublewords_each : (P : Loc → Type 0) (place : ℕ → Loc) → ((j : ℕ) → P (place j)) → (size : ℕ) (e : Ext) (j count : ℕ) → AllByRecursion P (piece_locs (doublewords_at place size e j count))
+doublewords_each P place h size e j zero = tt
+doublewords_each P place h size e j (suc count) = (h j, doublewords_each P place h size e (j + 1) count)
+
+stack_words_each : (P : Loc → Type 0) → ((n : ℕ) → P (S n 8)) → (at n : ℕ) → AllByRecursion P (stack_words at n)
+stack_words_each P h at zero = tt
+stack_words_each P h at (suc n) = (h at, stack_words_each P h (at + 8) n)
+
+copies_each : (P : Loc → Type 0) → ((n : ℕ) → P (S n 8)) → (ts : List Tree) (ps : List Place) → AllByRecursion P (copy_locs ts ps)
+copies_each P h [] ps = tt
+copies_each P h (t ∷ ts) [] = tt
+copies_each P h (t ∷ ts) (Direct pieces ∷ ps) = copies_each P h ts ps
+copies_each P h (t ∷ ts) (ByRef at copy ∷ ps) =
+    each_of_all P (stack_words_for copy t) (copy_locs ts ps) (stack_words_each P h copy ((size_of t + 7) / 8)) (copies_each P h ts ps)
+
+buffer_each : (P : Loc → Type 0) → ((n : ℕ) → P (S n 8)) → (t : Tree) (r : Res) → AllByRecursion P (buffer_locs t r)
+buffer_each P h t Nothing = tt
+buffer_each P h t (DirectRes pieces) = tt
+buffer_each P h t (Hidden at buffer) = stack_words_each P h buffer ((size_of t + 7) / 8)
+
+-- copies and buffer are no registers
+pub frame_not_further : (isa : Isa) (ts : List Tree) (ps : List Place) (t : Tree) (r : Res) → AllByRecursion (IsNotFurther isa) (copy_locs ts ps ++ buffer_locs t r)
+frame_not_further isa ts ps t r =
+    each_of_all (IsNotFurther isa) (copy_locs ts ps) (buffer_locs t r) (copies_each (IsNotFurther isa) (λ n f. f) ts ps) (buffer_each (IsNotFurther isa) (λ n f. f) t r)
+
+-- the arguments of a signature without long doubles
+pub each_without : (ts : List Tree) → ((i : ℕ) → i < length ts → has_long_double (tree_at ts i) ≡ false) → AllByRecursion (λ t. has_long_double t ≡ false) ts
+each_without [] h = tt
+each_without (t ∷ ts) h = (h 0 (omega arith), each_without ts (λ i below. h (suc i) (omega (arith, below))))
