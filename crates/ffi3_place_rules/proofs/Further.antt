@@ -1,5 +1,5 @@
 -- Places of which none is a further word: where the modelled machine has each, they stand in it; and what is passed in one is passed in a further word of it or not.
-use Rattle.std.proofs.Common.{◌≡◌, ℕ, zero, suc, ◌+◌, ◌<◌, inl, inr, Bool, false, cond, eqb, leb, List, [], ◌∷◌, ◌++◌, length, get_or, ◌*◌, ◌/◌, Option, Some, None, refl, ap, sym, subst, ◌∙◌, arith, ◌-◌}
+use Rattle.std.proofs.Common.{◌≡◌, ℕ, zero, suc, ◌+◌, ◌<◌, inl, inr, Bool, false, cond, eqb, leb, List, [], ◌∷◌, ◌++◌, length, get_or, ◌/◌, Option, Some, None, refl, ap, sym, subst, ◌∙◌, arith, ◌-◌}
 use Rattle.std.specs.List.{AllByRecursion, flat_map}
 use Rattle.std.proofs.lemmas.Bool.Decides.{nat_tests}
 use Rattle.ffi3_type_rules.specs.declared.Isa.{Isa}
