@@ -1,13 +1,14 @@
 -- What calls on the machine ask of a signature is what places ask of it, and that it has no long double of 16 bytes: so of all other signatures the two notions are one.
-use Rattle.std.proofs.Common.{◌≡◌, ℕ, ◌<◌, Bool, true, false, List, [], ◌∷◌, Some, length, refl, sym, subst}
-use Rattle.std.proofs.lemmas.Bool.{eqb-true}
+use Rattle.std.proofs.Common.{◌≡◌, ℕ, ◌<◌, ◌≤◌, inl, inr, Bool, true, false, List, [], ◌∷◌, Some, length, refl, sym, subst}
+use Rattle.std.proofs.lemmas.Bool.{cases_lt, eqb-true}
+use Rattle.ffi3_type_rules.specs.declared.limits.TheConstants.{MOST_ARGUMENTS}
 use Rattle.ffi3_type_rules.specs.declared.Role.{Role}
 use Rattle.ffi3_type_rules.specs.declared.Role.TheVariants.{AsResult, AsArgument, PlacedResult, PlacedArgument}
 use Rattle.ffi3_type_rules.specs.Tree.{Tree, void, scalar, left_out, structure, array, Trees, no_trees, tree, tree_at, long_double, x87, is_complex}
 use Rattle.ffi3_type_rules.specs.Layout.{has_long_double}
-use Rattle.ffi3_type_rules.specs.Fault.{Fault, left_out_type, HasNoFault, IsFault, node_at, role_at, takes, out_of_place, left_out_kind, nested_deep, misshapen, over_limit}
+use Rattle.ffi3_type_rules.specs.Fault.{Fault, left_out_type, HasNoFault, IsLaidOut, IsFault, node_at, role_at, takes, out_of_place, left_out_kind, nested_deep, misshapen, over_limit}
 use Rattle.ffi3_type_rules.specs.Signature.{Signature, bad_type, bad_fixed, bad_argument_type, too_many, at_result, at_argument, over_most, in_result, in_argument, fixed_outside, promoted, of_type, of_long_double, SignatureHasNoFault, SignatureIsPlaced, HasNoLongDouble}
-use Rattle.ffi3_type_rules.proofs.Faults.{TakesMore, right_with_more}
+use Rattle.ffi3_type_rules.proofs.Faults.{TakesMore, right_with_more, right_anywhere}
 use Rattle.ffi3_type_rules.proofs.Right.{result_is_right, argument_is_right, right_without_first}
 
 false_if : (b : Bool) → (b ≡ true → ⊥) → b ≡ false
@@ -101,6 +102,21 @@ module _ (s : Signature) (placed : SignatureIsPlaced s) where
   placed_argument : (i : ℕ) → i < length s.arguments → HasNoFault 0 PlacedArgument (tree_at s.arguments i)
   placed_argument i below =
       right_without_first PlacedArgument (tree_at s.arguments i) (λ path f first. placed (bad_type (at_argument i) path f) (in_argument below (of_type first)))
+
+  -- each has a layout, and there are few
+  pub placed_result_is_laid_out : IsLaidOut s.result_type
+  placed_result_is_laid_out = right_anywhere 0 PlacedResult s.result_type placed_result
+
+  pub placed_argument_is_laid_out : (i : ℕ) → i < length s.arguments → IsLaidOut (tree_at s.arguments i)
+  placed_argument_is_laid_out i below =
+      right_anywhere 0 PlacedArgument (tree_at s.arguments i) (placed_argument i below)
+
+  pub few_placed : length s.arguments ≤ MOST_ARGUMENTS
+  few_placed =
+      elim (cases_lt MOST_ARGUMENTS (length s.arguments)) [
+        | inl over ↦ absurd (placed (too_many (length s.arguments)) (over_most over))
+        | inr few ↦ few
+      ]
 
   -- what can be placed, and has no long double of 16 bytes, can be called
   pub placed_is_faultless : HasNoLongDouble s → SignatureHasNoFault s
