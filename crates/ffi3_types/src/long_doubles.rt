@@ -54,7 +54,7 @@ impl Fields {
     }
 
     /// Whether the array of `count` elements is a complex long double of x87's format.
-    pub(crate) fn is_complex(&self, count: u32) -> bool
+    pub fn is_complex(&self, count: u32) -> bool
         ensures { result ≡ is_complex (trees_of self.now) count }
     {
         if self.len() != 1 {
