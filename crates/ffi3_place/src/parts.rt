@@ -9,13 +9,13 @@ ghost use Rattle.ffi3_place_rules.specs.Doublewords.{doublewords, filling, widen
 
 use ffi3_place_rules::{Ext, Loc, Piece, Pieces};
 use ffi3_type_rules::round_up;
-use ffi3_types::{CheckedSig, CheckedType, FfiType, NoMemory};
+use ffi3_types::{CheckedType, FfiType, NoMemory, PlacedSig};
 use std::alloc::Global;
 
 // ---- signatures
 
 /// The sizes of all arguments in bytes, each a multiple of 8.
-pub fn sizes_of(sig: &CheckedSig<'_>) -> u64
+pub fn sizes_of(sig: &PlacedSig<'_>) -> u64
     ensures value { result ≡ sum_by (λ t. round8 (size_of t)) sig.now.arguments }
     ensures bound { result ≤ ARGUMENT_BYTES }
 {
@@ -79,7 +79,7 @@ pub fn leaf_piece(ty: &CheckedType<'_>, i: u32, loc: Loc, ext: Ext) -> Piece
 {
     let plain = ty.as_type();
     let leaf = plain.leaf(i);
-    let size = leaf.kind.size();
+    let size = leaf.kind.value_size();
     Piece {
         loc,
         off: leaf.at as u32,
