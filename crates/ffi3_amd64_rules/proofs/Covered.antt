@@ -54,7 +54,7 @@ memory_if true large e = cc
 memory_if false true e = cc
 memory_if false false e = refl
 
-in_two : (t : Tree) → in_memory t ≡ false → size_of t ≤ 16
+pub in_two : (t : Tree) → in_memory t ≡ false → size_of t ≤ 16
 in_two void e = omega arith
 in_two (scalar s) e = (scalar_room-bounds s).1
 in_two (left_out k) e = omega arith

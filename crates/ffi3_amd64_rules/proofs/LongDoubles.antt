@@ -1,5 +1,5 @@
 -- Values of the classes X87, X87UP and COMPLEX_X87: one or two leaves, each of x87's format, in st(0) and st(1).
-use Rattle.std.proofs.Common.{◌≡◌, ℕ, ◌+◌, Bool, true, false, ◌||◌, List, [], ◌∷◌, refl, ap, sym, subst, arith, ⊎_elim}
+use Rattle.std.proofs.Common.{◌≡◌, ℕ, ◌+◌, ◌≤◌, length, Bool, true, false, ◌||◌, List, [], ◌∷◌, refl, ap, sym, subst, arith, ⊎_elim}
 use Rattle.std.specs.List.{AllByRecursion, Any, list_any}
 use Rattle.std.proofs.lemmas.Bool.{cases_lt, eqb-true, or_left}
 use Rattle.ffi3_type_rules.specs.Tree.{Tree, void, scalar, left_out, structure, array, Trees, no_trees, tree, Scalar, u8, x87, is_complex}
@@ -15,7 +15,7 @@ use Rattle.ffi3_amd64_rules.specs.Amd64.{is_x87_scalar, is_one_x87, is_class_x87
 
 -- ---- their leaves
 
-x87_alone : (s : Scalar) → is_x87_scalar s ≡ true → s ≡ x87
+pub x87_alone : (s : Scalar) → is_x87_scalar s ≡ true → s ≡ x87
 x87_alone x87 e = refl
 x87_alone u8 e = cc
 x87_alone _ e = cc
@@ -64,6 +64,10 @@ are_x87 t e = leaves_cases AreX87 (λ l a. (a, tt)) (λ l m a b. (a, (b, tt))) t
 -- it has a long double, so it is no part of a call on the machine
 pub x87_is_long : (t : Tree) → is_class_x87 t ≡ true → has_long_double t ≡ true
 x87_is_long t e = leaves_cases (λ ls. list_any (λ leaf. is_long_double leaf.kind) ls ≡ true) (λ l a. or_left (is_long_double l.kind) _ (ap is_long_double a)) (λ l m a b. or_left (is_long_double l.kind) _ (ap is_long_double a)) t e
+
+-- one leaf or two
+pub x87_few : (t : Tree) → is_class_x87 t ≡ true → length (leaves_of t) ≤ 2
+x87_few t e = leaves_cases (λ ls. length ls ≤ 2) (λ l a. omega arith) (λ l m a b. omega arith) t e
 
 -- it is no narrow integer
 scalar_not_narrow : (s : Scalar) → is_class_x87 (scalar s) ≡ true → is_narrow_integer (scalar s) ≡ false

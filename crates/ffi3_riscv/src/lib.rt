@@ -499,12 +499,7 @@ fn place_all(alloc: Global, sig: &PlacedSig<'_>, returned: Shape) -> Result<Plac
 }
 
 /// A result's place is that of an argument. What stands before its buffer ends `end` bytes from the frame's start.
-fn place_result(
-    alloc: Global,
-    sig: &PlacedSig<'_>,
-    shape: Shape,
-    end: u64,
-) -> Result<Res, NoMemory>
+fn place_result(alloc: Global, sig: &PlacedSig<'_>, shape: Shape, end: u64) -> Result<Res, NoMemory>
     requires shape { shape ≡ result_shape sig.now.result_type }
     requires near { end ≤ 2 * ARGUMENT_BYTES }
     ensures { IfOk result (λ r. r ≡ result_at riscv.copy_start end sig.now.result_type (result_spot_of sig.now.result_type)) }
