@@ -149,12 +149,7 @@ fn is_variadic(sig: &PlacedSig<'_>) -> bool
 }
 
 /// The places of all arguments, in the positions from `first` on, if the copies stand from `start` on.
-fn place_all(
-    alloc: Global,
-    sig: &PlacedSig<'_>,
-    first: u64,
-    start: u64,
-) -> Result<Placed, NoMemory>
+fn place_all(alloc: Global, sig: &PlacedSig<'_>, first: u64, start: u64) -> Result<Placed, NoMemory>
     requires few { first ≤ 1 }
     requires low { start ≤ 16 * MOST_ARGUMENTS }
     ensures places { IfOk result (λ p. p.places ≡ places_from win64.copy_start start sig.now.arguments (spots_from (is_some sig.now.fixed) first sig.now.arguments)) }
