@@ -1,3 +1,4 @@
+pub mod PlainParts
 pub mod Saying
 pub mod Never
 pub mod Completes
