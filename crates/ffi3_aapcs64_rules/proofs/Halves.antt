@@ -5,6 +5,7 @@ use Rattle.std.proofs.lemmas.Bool.{leb-true, le-leb, or_parts}
 use Rattle.ffi3_type_rules.specs.declared.Isa.TheVariants.{Aarch64}
 use Rattle.ffi3_type_rules.specs.Tree.{Tree, Scalar, u8, binary128}
 use Rattle.ffi3_type_rules.specs.Layout.{Leaf, leaves_of, size_of, is_long_double, has_long_double}
+use Rattle.ffi3_type_rules.proofs.LongDoubles.{plain_leaves}
 use Rattle.ffi3_place_rules.specs.declared.Loc.TheVariants.{G, F, S}
 use Rattle.ffi3_place_rules.specs.declared.Ext.TheVariants.{Free}
 use Rattle.ffi3_place_rules.specs.declared.Piece.{Piece}
@@ -108,7 +109,8 @@ stack_not_further start t =
     doublewords_each (IsNotFurther Aarch64) (λ j. S (start + 8 * j) 8) (λ j f. f) (size_of t) (widening t) 0 (doublewords t)
 
 registers_not_further_if : (first : ℕ) (t : Tree) (vector : Bool) → (vector ≡ true → first + length (leaves_of t) ≤ 8) → has_long_double t ≡ false → AllByRecursion (IsNotFurther Aarch64) (piece_locs (cond vector (member_pieces first (leaves_of t)) (general_pieces first t)))
-registers_not_further_if first t true fits short = members_not_further first (leaves_of t) (fits refl) short
+registers_not_further_if first t true fits short =
+    members_not_further first (leaves_of t) (fits refl) (plain_leaves t short)
 registers_not_further_if first t false fits short = generals_not_further first t
 
 pub registers_not_further : (first : ℕ) (t : Tree) → (in_vectors t ≡ true → first + length (leaves_of t) ≤ 8) → has_long_double t ≡ false → AllByRecursion (IsNotFurther Aarch64) (piece_locs (register_pieces first t))

@@ -4,6 +4,7 @@ use Rattle.std.specs.List.{AllByRecursion, Any, list_any}
 use Rattle.std.proofs.lemmas.Bool.{cases_lt, eqb-true, or_left}
 use Rattle.ffi3_type_rules.specs.Tree.{Tree, void, scalar, left_out, structure, array, Trees, no_trees, tree, Scalar, u8, x87, is_complex}
 use Rattle.ffi3_type_rules.specs.Layout.{Leaf, leaves_of, size_of, scalar_size, is_long_double, has_long_double}
+use Rattle.ffi3_type_rules.proofs.LongDoubles.{long_by_leaves}
 use Rattle.ffi3_place_rules.specs.declared.Ext.TheVariants.{Free}
 use Rattle.ffi3_place_rules.specs.declared.Piece.{Piece}
 use Rattle.ffi3_place_rules.specs.Isa.{significand, sign_and_exponent}
@@ -63,7 +64,8 @@ are_x87 t e = leaves_cases AreX87 (λ l a. (a, tt)) (λ l m a b. (a, (b, tt))) t
 
 -- it has a long double, so it is no part of a call on the machine
 pub x87_is_long : (t : Tree) → is_class_x87 t ≡ true → has_long_double t ≡ true
-x87_is_long t e = leaves_cases (λ ls. list_any (λ leaf. is_long_double leaf.kind) ls ≡ true) (λ l a. or_left (is_long_double l.kind) _ (ap is_long_double a)) (λ l m a b. or_left (is_long_double l.kind) _ (ap is_long_double a)) t e
+x87_is_long t e =
+    long_by_leaves t (leaves_cases (λ ls. list_any (λ leaf. is_long_double leaf.kind) ls ≡ true) (λ l a. or_left (is_long_double l.kind) _ (ap is_long_double a)) (λ l m a b. or_left (is_long_double l.kind) _ (ap is_long_double a)) t e)
 
 -- one leaf or two
 pub x87_few : (t : Tree) → is_class_x87 t ≡ true → length (leaves_of t) ≤ 2

@@ -1,8 +1,7 @@
 -- Size, alignment and leaves of a type. (libffi manual, "Size and Alignment"; arrays: C, "Types")
 use Rattle.std.specs.Prelude.{◌≡◌, ℕ, zero, suc, ◌+◌, ◌*◌, ◌≤◌, ◌%◌, max, List, [], ◌∷◌, ◌++◌, map, length}
-use Rattle.std.specs.Prelude.{slice_index_or, Bool, true, false}
+use Rattle.std.specs.Prelude.{slice_index_or, Bool, true, false, ◌||◌}
 use Rattle.std.specs.Int.{next_multiple_of}
-use Rattle.std.specs.List.{list_any}
 use Rattle.ffi3_type_rules.specs.Tree.{Scalar, u8, s8, u16, s16, u32, s32, u64, s64, u128, s128, float, double, pointer}
 use Rattle.ffi3_type_rules.specs.Tree.{x87, binary128}
 use Rattle.ffi3_type_rules.specs.Tree.{Tree, void, scalar, left_out, structure, Trees, no_trees, tree, array}
@@ -165,8 +164,18 @@ is_long_double x87 = true
 is_long_double binary128 = true
 
 -- the type is one, or has one in it
-abbrev pub has_long_double : Tree → Bool
-has_long_double t = list_any (λ leaf. is_long_double leaf.kind) (leaves_of t)
+abbrev mutual
+  pub has_long_double : Tree → Bool
+  has_long_double void = false
+  has_long_double (scalar s) = is_long_double s
+  has_long_double (left_out k) = false
+  has_long_double (structure ts) = have_long_double ts
+  has_long_double (array ts n) = have_long_double ts
+
+  -- one of the types is one, or has one in it
+  pub have_long_double : Trees → Bool
+  have_long_double no_trees = false
+  have_long_double (tree t ts) = has_long_double t || have_long_double ts
 
 -- leaf i of a type
 abbrev pub leaf_at : Tree → ℕ → Leaf
