@@ -1,7 +1,7 @@
 // Long doubles of 16 bytes, which can be placed and are no part of a call on the machine.
 ghost use Rattle.std.specs.Prelude.{◌≡◌};
-ghost use Rattle.ffi3_type_rules.specs.Tree.{struct_of, array, trees_of, is_complex};
-ghost use Rattle.ffi3_type_rules.specs.Layout.{has_long_double};
+ghost use Rattle.ffi3_type_rules.specs.Tree.{trees_of, is_complex};
+ghost use Rattle.ffi3_type_rules.specs.Layout.{has_long_double, have_long_double};
 ghost use Rattle.ffi3_types.specs.TreeOf.{tree_of};
 
 use crate::{FfiType, Fields};
@@ -15,7 +15,7 @@ impl FfiType {
         match self {
             FfiType::X87 | FfiType::Binary128 => true,
             FfiType::Struct(fields) => fields.have_long_double(),
-            FfiType::Array(fields, count) => fields.array_has_long_double(*count),
+            FfiType::Array(fields, _) => fields.have_long_double(),
             FfiType::U8 | FfiType::S8 | FfiType::U16 | FfiType::S16 => false,
             FfiType::U32 | FfiType::S32 | FfiType::U64 | FfiType::S64 => false,
             FfiType::U128 | FfiType::S128 | FfiType::Float | FfiType::Double => false,
@@ -26,10 +26,10 @@ impl FfiType {
 }
 
 impl Fields {
-    /// Whether the struct of these elements has one.
+    /// Whether one of them has one.
     #[cycle(long_doubles)]
     fn have_long_double(&self) -> bool
-        ensures { result ≡ has_long_double (struct_of self.now) }
+        ensures { result ≡ have_long_double (trees_of self.now) }
     {
         for i in 0..self.len() {
             if self.get(i).has_long_double() {
@@ -37,20 +37,6 @@ impl Fields {
             }
         }
         false
-    }
-
-    /// Whether the array of `count` elements of the first type has one.
-    #[cycle(long_doubles)]
-    fn array_has_long_double(&self, count: u32) -> bool
-        ensures { result ≡ has_long_double (array (trees_of self.now) count) }
-    {
-        if count == 0 {
-            return false;
-        }
-        if self.len() == 0 {
-            return false;
-        }
-        self.get(0).has_long_double()
     }
 
     /// Whether the array of `count` elements is a complex long double of x87's format.

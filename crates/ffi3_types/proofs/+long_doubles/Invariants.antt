@@ -1,7 +1,7 @@
-use Rattle.std.proofs.Common.{◌≡◌, ◌+◌, ◌*◌, false}
+use Rattle.std.proofs.Common.{◌+◌, ◌*◌}
 use Rattle.ffi3_type_rules.specs.Tree.{nodes, all_nodes, trees_of}
 use Rattle.ffi3_types.specs.TreeOf.{tree_of}
-use Rattle.ffi3_types.proofs.LongDoubles.{long_before}
+use Rattle.ffi3_types.proofs.LongDoubles.{LeftDecide}
 use Rattle.ffi3_types.proofs.+long_doubles.Given as goal
 
 abbrev pub decreases-FfiType::has_long_double : goal.decreases-FfiType::has_long_double
@@ -10,8 +10,5 @@ decreases-FfiType::has_long_double l = 2 * nodes (tree_of l.self.now)
 abbrev pub decreases-Fields::have_long_double : goal.decreases-Fields::have_long_double
 decreases-Fields::have_long_double l = 2 * all_nodes (trees_of l.self.now) + 1
 
-abbrev pub decreases-Fields::array_has_long_double : goal.decreases-Fields::array_has_long_double
-decreases-Fields::array_has_long_double l = 2 * all_nodes (trees_of l.self.now) + 1
-
 abbrev pub invariant-Fields::have_long_double-loop-i : goal.invariant-Fields::have_long_double-loop-i
-invariant-Fields::have_long_double-loop-i l = long_before l.self l.i ≡ false
+invariant-Fields::have_long_double-loop-i l = LeftDecide l.self l.i
