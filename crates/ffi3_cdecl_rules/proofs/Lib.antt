@@ -1,4 +1,3 @@
-pub mod PlainParts
 pub mod Saying
 pub mod Never
 pub mod Completes

@@ -66,8 +66,8 @@ scalar_stays u64 rest h = (tt, h)
 scalar_stays s64 rest h = (tt, h)
 scalar_stays float rest h = (tt, h)
 scalar_stays double rest h = (tt, h)
-scalar_stays x87 rest h = (tt, h)
-scalar_stays binary128 rest h = (tt, h)
+scalar_stays x87 rest h = h
+scalar_stays binary128 rest h = h
 
 mutual
   counts_stay : (t : Tree) (rest : List Token) → NamesStay rest → NamesStay (count_tokens t rest)

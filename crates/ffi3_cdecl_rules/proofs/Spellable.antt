@@ -6,17 +6,17 @@ use Rattle.ffi3_type_rules.specs.declared.limits.TheConstants.{LARGEST_TYPE, DEE
 use Rattle.ffi3_type_rules.specs.declared.Role.{Role}
 use Rattle.ffi3_type_rules.specs.declared.Role.TheVariants.{AsResult, AsArgument, AsElement}
 use Rattle.ffi3_type_rules.specs.Tree.{Tree, void, scalar, left_out, structure, array, Trees, no_trees, tree, list_of, tree_at, parts_of}
-use Rattle.ffi3_type_rules.specs.Layout.{Layout, layouts, element, end_before, align_before, size_of, is_long_double, has_long_double}
+use Rattle.ffi3_type_rules.specs.Layout.{Layout, layout, layouts, element, end_before, align_before, size_of, is_long_double, has_long_double, have_long_double}
 use Rattle.ffi3_type_rules.specs.Fault.{bad_typedef, left_out_type, too_deep, out_of_place, left_out_kind, nested_deep, misshapen, HasNoFault, IsResultType, IsArgumentType}
 use Rattle.ffi3_type_rules.specs.Signature.{Signature, SignatureHasNoFault, bad_fixed, fixed_outside}
 use Rattle.ffi3_type_rules.proofs.Layouts.{least_multiple-above, scalar_room-bounds}
 use Rattle.ffi3_type_rules.proofs.Faults.{fault_outside, right_is_small}
 use Rattle.ffi3_type_rules.proofs.Right.{result_is_right, argument_is_right}
 use Rattle.ffi3_type_rules.proofs.Placed.{faultless_is_plain}
+use Rattle.ffi3_type_rules.proofs.LongDoubles.{neither}
 use Rattle.ffi3_cdecl_rules.specs.Tokens.{TOO_GREAT}
 use Rattle.ffi3_cdecl_rules.specs.Grammar.{MOST_OPEN}
 use Rattle.ffi3_cdecl_rules.specs.Canonical.{FixesAll}
-use Rattle.ffi3_cdecl_rules.proofs.PlainParts.{neither, element_is, as_many_layouts, member_plain, counted_plain}
 
 abbrev pub IsLast : Trees → Type 0
 IsLast no_trees = ⊤
@@ -79,9 +79,14 @@ abbrev AllRight : ℕ → Trees → Type 0
 AllRight outer ts =
     (i : ℕ) → i < length (list_of ts) → HasNoFault outer AsElement (tree_at (list_of ts) i)
 
-abbrev AllPlain : Trees → Type 0
-AllPlain ts =
-    (i : ℕ) → i < length (list_of ts) → has_long_double (tree_at (list_of ts) i) ≡ false
+element_is : (ts : Trees) (i : ℕ) → element (layouts ts) i ≡ layout (tree_at (list_of ts) i)
+element_is no_trees i = refl
+element_is (tree t ts) zero = refl
+element_is (tree t ts) (suc i) = element_is ts i
+
+as_many_layouts : (ts : Trees) → length (layouts ts) ≡ length (list_of ts)
+as_many_layouts no_trees = refl
+as_many_layouts (tree t ts) = ap suc (as_many_layouts ts)
 
 ends_rise : (es : List Layout) (n : ℕ) → ((i : ℕ) → i < n → 1 ≤ (element es i).size) → n ≤ end_before es n
 ends_rise es zero some = omega arith
@@ -148,7 +153,7 @@ mutual
   member_spellable : (d outer : ℕ) (t : Tree) → d ≤ outer → HasNoFault outer AsElement t → has_long_double t ≡ false → IsSpellableMember d t
   member_spellable d outer void e h p =
       absurd (h [] bad_typedef (out_of_place refl refl))
-  member_spellable d outer (scalar s) e h p = (neither (is_long_double s) false p).0
+  member_spellable d outer (scalar s) e h p = p
   member_spellable d outer (left_out k) e h p =
       absurd (h [] (left_out_type (left_out k)) (left_out_kind refl))
   member_spellable d outer (structure ts) e h p =
@@ -159,7 +164,7 @@ mutual
       absurd (h [] bad_typedef (misshapen refl refl))
   member_spellable d outer (array (tree t no_trees) (suc n)) e h p =
       let below : suc n < TOO_GREAT = omega (arith, small_count outer AsElement t (suc n) h) in
-      (below, (member_spellable d (outer + 1) t (omega arith) (part_is_right (array (tree t no_trees) (suc n)) h 0 (omega arith)) (counted_plain t n p), tt))
+      (below, (member_spellable d (outer + 1) t (omega arith) (part_is_right (array (tree t no_trees) (suc n)) h 0 (omega arith)) (neither (has_long_double t) false p).0, tt))
   member_spellable d outer (array (tree t (tree u us)) n) e h p =
       absurd (h [] bad_typedef (misshapen refl refl))
 
@@ -169,17 +174,18 @@ mutual
   struct_spellable d outer role (tree t ts) e h p =
       let shallow : d < MOST_OPEN = omega (arith, not_deep outer role (tree t ts) h) in
       let right : AllRight (outer + 1) (tree t ts) = part_is_right (structure (tree t ts)) h in
-      let plain : AllPlain (tree t ts) = member_plain (tree t ts) p in
-      (shallow, (member_spellable (suc d) (outer + 1) t (omega arith) (right 0 (omega arith)) (plain 0 (omega arith)), more_spellable (suc d) (outer + 1) 1 ts (omega arith) (λ j below. right (suc j) (omega arith)) (λ j below. plain (suc j) (omega arith)) (omega (arith, few_members outer role (tree t ts) h))))
+      let plain = neither (has_long_double t) (have_long_double ts) p in
+      (shallow, (member_spellable (suc d) (outer + 1) t (omega arith) (right 0 (omega arith)) plain.0, more_spellable (suc d) (outer + 1) 1 ts (omega arith) (λ j below. right (suc j) (omega arith)) plain.1 (omega (arith, few_members outer role (tree t ts) h))))
 
-  more_spellable : (d outer i : ℕ) (ts : Trees) → d ≤ outer → AllRight outer ts → AllPlain ts → i + length (list_of ts) ≤ TOO_GREAT → AreMoreSpellable d i ts
+  more_spellable : (d outer i : ℕ) (ts : Trees) → d ≤ outer → AllRight outer ts → have_long_double ts ≡ false → i + length (list_of ts) ≤ TOO_GREAT → AreMoreSpellable d i ts
   more_spellable d outer i no_trees e right plain few = tt
   more_spellable d outer i (tree t ts) e right plain few =
-      (omega arith, member_spellable d outer t e (right 0 (omega arith)) (plain 0 (omega arith)), more_spellable d outer (i + 1) ts e (λ j below. right (suc j) (omega arith)) (λ j below. plain (suc j) (omega arith)) (omega arith))
+      let parts = neither (has_long_double t) (have_long_double ts) plain in
+      (omega arith, member_spellable d outer t e (right 0 (omega arith)) parts.0, more_spellable d outer (i + 1) ts e (λ j below. right (suc j) (omega arith)) parts.1 (omega arith))
 
 value_spellable : (t : Tree) → IsArgumentType t → has_long_double t ≡ false → IsSpellableValue t
 value_spellable void h p = absurd (h [] bad_typedef (out_of_place refl refl))
-value_spellable (scalar s) h p = (neither (is_long_double s) false p).0
+value_spellable (scalar s) h p = p
 value_spellable (left_out k) h p =
     absurd (h [] (left_out_type (left_out k)) (left_out_kind refl))
 value_spellable (structure ts) h p =
@@ -189,7 +195,7 @@ value_spellable (array ts n) h p =
 
 result_spellable : (t : Tree) → IsResultType t → has_long_double t ≡ false → IsSpellableResult t
 result_spellable void h p = tt
-result_spellable (scalar s) h p = (neither (is_long_double s) false p).0
+result_spellable (scalar s) h p = p
 result_spellable (left_out k) h p =
     absurd (h [] (left_out_type (left_out k)) (left_out_kind refl))
 result_spellable (structure ts) h p =

@@ -2,7 +2,6 @@
 use Rattle.std.proofs.Common.{◌≡◌, ℕ, suc, ◌+◌, Bool, true, false, List, [], ◌∷◌, ap, sym, subst, refl, ◌∙◌, lit<}
 use Rattle.std.specs.Prelude.{is_some}
 use Rattle.ffi3_type_rules.specs.Tree.{Scalar, u8, s8, u16, s16, u32, s32, u64, s64, u128, s128, float, double, pointer, x87, binary128, Tree, Trees, void, scalar, left_out, structure, array, no_trees, tree}
-use Rattle.ffi3_type_rules.specs.Layout.{is_long_double}
 use Rattle.ffi3_cdecl_rules.specs.Tokens.{Token, unsigned, type_word, sign_word, int128_word, void_word, struct_word, name, open_round, close_round, open_curly, close_curly, open_square, close_square, comma, semicolon, star, dots, word_of}
 use Rattle.ffi3_cdecl_rules.specs.Grammar.{IsDeclaration}
 use Rattle.ffi3_cdecl_rules.specs.Reading.{IsReading, is_read, reads}
@@ -111,22 +110,22 @@ double_spoken : Spoken (type_word double)
 double_spoken =
     word_spoken (type_word double) 100 (111 ∷ 117 ∷ 98 ∷ 108 ∷ 101 ∷ []) refl refl refl refl refl refl
 
-scalar_spoken : (s : Scalar) → is_long_double s ≡ false → (rest : List Token) → AllSpoken rest → AllSpoken (scalar_tokens s rest)
-scalar_spoken u8 short rest h = (u8_spoken, h)
-scalar_spoken s8 short rest h = (s8_spoken, h)
-scalar_spoken u16 short rest h = (u16_spoken, h)
-scalar_spoken s16 short rest h = (s16_spoken, h)
-scalar_spoken u32 short rest h = (u32_spoken, h)
-scalar_spoken s32 short rest h = (s32_spoken, h)
-scalar_spoken u64 short rest h = (u64_spoken, h)
-scalar_spoken s64 short rest h = (s64_spoken, h)
-scalar_spoken u128 short rest h = (unsigned_spoken, (int128_spoken, h))
-scalar_spoken s128 short rest h = (int128_spoken, h)
-scalar_spoken float short rest h = (float_spoken, h)
-scalar_spoken double short rest h = (double_spoken, h)
-scalar_spoken pointer short rest h = (void_spoken, (star_spoken, h))
-scalar_spoken x87 short rest h = cc
-scalar_spoken binary128 short rest h = cc
+scalar_spoken : (s : Scalar) (rest : List Token) → AllSpoken rest → AllSpoken (scalar_tokens s rest)
+scalar_spoken u8 rest h = (u8_spoken, h)
+scalar_spoken s8 rest h = (s8_spoken, h)
+scalar_spoken u16 rest h = (u16_spoken, h)
+scalar_spoken s16 rest h = (s16_spoken, h)
+scalar_spoken u32 rest h = (u32_spoken, h)
+scalar_spoken s32 rest h = (s32_spoken, h)
+scalar_spoken u64 rest h = (u64_spoken, h)
+scalar_spoken s64 rest h = (s64_spoken, h)
+scalar_spoken u128 rest h = (unsigned_spoken, (int128_spoken, h))
+scalar_spoken s128 rest h = (int128_spoken, h)
+scalar_spoken float rest h = (float_spoken, h)
+scalar_spoken double rest h = (double_spoken, h)
+scalar_spoken pointer rest h = (void_spoken, (star_spoken, h))
+scalar_spoken x87 rest h = h
+scalar_spoken binary128 rest h = h
 
 pub identifier_of : (word bytes : List ℕ) → word ≡ bytes → IsIdentifierOf word bytes → Spoken (name word)
 identifier_of word [] e h = absurd h
@@ -151,7 +150,7 @@ mutual
 mutual
   type_spoken : (d : ℕ) (t : Tree) → IsSpellableMember d t → (rest : List Token) → AllSpoken rest → AllSpoken (type_tokens t rest)
   type_spoken d void h rest r = absurd h
-  type_spoken d (scalar s) h rest r = scalar_spoken s h rest r
+  type_spoken d (scalar s) h rest r = scalar_spoken s rest r
   type_spoken d (left_out k) h rest r = absurd h
   type_spoken d (structure ts) h rest r =
       (struct_spoken, (open_curly_spoken, members_spoken (suc d) ts h.1 (close_curly ∷ rest) (close_curly_spoken, r)))
@@ -173,14 +172,14 @@ mutual
 
 pub value_spoken : (t : Tree) → IsSpellableValue t → (rest : List Token) → AllSpoken rest → AllSpoken (type_tokens t rest)
 value_spoken void h rest r = absurd h
-value_spoken (scalar s) h rest r = scalar_spoken s h rest r
+value_spoken (scalar s) h rest r = scalar_spoken s rest r
 value_spoken (left_out k) h rest r = absurd h
 value_spoken (structure ts) h rest r = type_spoken 0 (structure ts) h rest r
 value_spoken (array ts n) h rest r = absurd h
 
 pub result_spoken : (t : Tree) → IsSpellableResult t → (rest : List Token) → AllSpoken rest → AllSpoken (type_tokens t rest)
 result_spoken void h rest r = (void_spoken, r)
-result_spoken (scalar s) h rest r = scalar_spoken s h rest r
+result_spoken (scalar s) h rest r = scalar_spoken s rest r
 result_spoken (left_out k) h rest r = absurd h
 result_spoken (structure ts) h rest r = type_spoken 0 (structure ts) h rest r
 result_spoken (array ts n) h rest r = absurd h

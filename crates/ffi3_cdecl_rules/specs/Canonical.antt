@@ -10,11 +10,13 @@ use Rattle.ffi3_cdecl_rules.specs.Tokens.{int_word, long_word, char_word, union_
 use Rattle.ffi3_cdecl_rules.specs.Tokens.{complex_word, attribute_word, other_keyword, is_letter, goes_on_word, word_of}
 use Rattle.ffi3_type_rules.specs.Signature.{Signature}
 
--- a scalar, in front of other tokens
+-- a scalar, in front of other tokens; a long double of 16 bytes has none, as what is left out has none
 abbrev pub scalar_tokens : Scalar → List Token → List Token
 scalar_tokens u128 rest = sign_word unsigned ∷ int128_word ∷ rest
 scalar_tokens s128 rest = int128_word ∷ rest
 scalar_tokens pointer rest = void_word ∷ star ∷ rest
+scalar_tokens x87 rest = rest
+scalar_tokens binary128 rest = rest
 scalar_tokens s rest = type_word s ∷ rest
 
 -- the counts of an array, the outermost first
