@@ -1,4 +1,4 @@
-use Rattle.std.proofs.Common.{◌∙◌, sym, arith}
+use Rattle.std.proofs.Common.{sym, arith}
 use Rattle.ffi3_types.proofs.LongDoubles.{turn, found, at_end}
 use Rattle.ffi3_types.proofs.+long_doubles.Goals as goal
 
