@@ -1,27 +1,28 @@
 //! The Arm AAPCS64 calling standard.
 #![tactic(auto)]
 
-ghost use Rattle.std.specs.Prelude.{◌≡◌, ◌<◌, ◌≤◌, ◌+◌, ◌*◌, length, map, IfOk, true, false};
+ghost use Rattle.std.specs.Prelude.{◌≡◌, ◌<◌, ◌≤◌, ◌+◌, ◌*◌, ◌++◌, length, map, IfOk, OnOk, true, false};
 ghost use Rattle.std.specs.List.{list_all};
 ghost use Rattle.ffi3_type_rules.specs.declared.limits.TheConstants.{ARGUMENT_BYTES, ARGUMENT_SPAN, LARGEST_GAP, LARGEST_TYPE, MOST_ARGUMENTS};
 ghost use Rattle.ffi3_type_rules.specs.Tree.{struct_of};
-ghost use Rattle.ffi3_type_rules.specs.Layout.{size_of, align_of, leaves_of};
+ghost use Rattle.ffi3_type_rules.specs.Layout.{size_of, align_of, leaves_of, leaf_at};
 ghost use Rattle.ffi3_type_rules.specs.Fault.{IsLaidOut};
 ghost use Rattle.ffi3_types.specs.TreeOf.{tree_of};
 ghost use Rattle.ffi3_place_rules.specs.Standard.{Spot, plan_of, result_at};
 ghost use Rattle.ffi3_place_rules.specs.Doublewords.{doublewords};
-ghost use Rattle.ffi3_aapcs64_rules.specs.Aapcs64.{aapcs64, is_member, homogeneous, in_vectors, is_copied, passed, registers_needed, stack_size, first_general, stack_start, member_pieces, general_pieces, register_pieces, register_spot, stack_spot, register_start, register_end, in_registers, stack_end, taken_with, taken_after, untouched, spot_after, spots_after, result_from, result_spot_of};
+ghost use Rattle.ffi3_aapcs64_rules.specs.Aapcs64.{aapcs64, is_of, member_in, is_member, homogeneous, in_vectors, is_copied, passed, registers_needed, stack_size, first_general, stack_start, member_pieces, general_pieces, register_pieces, register_spot, stack_spot, register_start, register_end, in_registers, stack_end, taken_with, taken_after, untouched, spot_after, spots_after, result_from, result_spot_of};
+ghost use Rattle.ffi3_aapcs64_rules.specs.declared.Kind.TheVariants.{Quad};
 ghost use Rattle.ffi3_place.specs.WithoutCopy.{without_copy};
 
 pub mod laws;
 
 pub use ffi3_aapcs64_rules::Kind;
 use ffi3_place::ends::{buffer_end, lay_copies, planned, start};
-use ffi3_place::parts::{doubleword, leaf_piece, stack_pieces, widening};
+use ffi3_place::parts::{doubleword, leaf_piece, part_of_leaf, stack_pieces, widening};
 use ffi3_place::{Abi, Ext, Loc, Pieces, Place, Places, Plan, Res, SaveWord};
 use ffi3_place_rules::Taken;
 use ffi3_type_rules::round_up;
-use ffi3_types::{CheckedSig, CheckedType, FfiType, Fields, NoMemory, Sig, Target};
+use ffi3_types::{CheckedType, FfiType, Fields, NoMemory, PlacedSig, Sig, Target};
 pub use laws::placement_laws;
 use std::alloc::Global;
 use std::marker::Model;
@@ -37,6 +38,7 @@ fn has_only(ty: &FfiType, kind: Kind) -> bool
     match ty {
         FfiType::Float => matches!(kind, Kind::Float),
         FfiType::Double => matches!(kind, Kind::Double),
+        FfiType::Binary128 => matches!(kind, Kind::Quad),
         FfiType::Struct(fields) => have_only(fields, kind),
         FfiType::Array(fields, _count) => has_only(fields.get(0), kind),
         FfiType::Void | FfiType::LongDouble | FfiType::Complex | FfiType::Vector => true,
@@ -50,7 +52,8 @@ fn has_only(ty: &FfiType, kind: Kind) -> bool
         | FfiType::S64
         | FfiType::U128
         | FfiType::S128
-        | FfiType::Pointer => false,
+        | FfiType::Pointer
+        | FfiType::X87 => false,
     }
 }
 
@@ -80,6 +83,8 @@ fn homogeneous_of(ty: &CheckedType<'_>) -> Option<(Kind, u8)>
         Kind::Float
     } else if has_only(plain, Kind::Double) {
         Kind::Double
+    } else if has_only(plain, Kind::Quad) {
+        Kind::Quad
     } else {
         return None;
     };
@@ -90,7 +95,7 @@ fn homogeneous_of(ty: &CheckedType<'_>) -> Option<(Kind, u8)>
     Some((kind, count as u8))
 }
 
-/// The type and the number of the members of a homogeneous floating-point aggregate: a struct of one to four leaves, all floats or all doubles, with nested structs and arrays flattened. None where the type is no such. (AAPCS64, "Homogeneous Aggregates")
+/// The type and the number of the members of a homogeneous floating-point aggregate: a struct of one to four leaves, all of single, of double or of quad precision, with nested structs and arrays flattened. None where the type is no such. (AAPCS64, "Homogeneous Aggregates")
 pub fn homogeneous(ty: &FfiType) -> Option<(Kind, u8)>
     requires { IsLaidOut (tree_of ty.now) }
     ensures { result ≡ homogeneous (tree_of ty.now) }
@@ -105,7 +110,7 @@ fn in_vectors(ty: &CheckedType<'_>) -> bool
     ensures { result ≡ in_vectors ty.now }
 {
     match ty.as_type() {
-        FfiType::Float | FfiType::Double => true,
+        FfiType::Float | FfiType::Double | FfiType::Binary128 => true,
         FfiType::Struct(_) => homogeneous_of(ty).is_some(),
         FfiType::Void
         | FfiType::U8
@@ -122,7 +127,8 @@ fn in_vectors(ty: &CheckedType<'_>) -> bool
         | FfiType::Array(_, _)
         | FfiType::LongDouble
         | FfiType::Complex
-        | FfiType::Vector => false,
+        | FfiType::Vector
+        | FfiType::X87 => false,
     }
 }
 
@@ -444,6 +450,28 @@ fn general_pieces(alloc: Global, classed: &Classed<'_>, general: u64) -> Result<
     Ok(pieces)
 }
 
+/// Whether leaf `i` is of quad precision.
+fn is_quad(ty: &CheckedType<'_>, i: u32) -> bool
+    requires { i < length (leaves_of ty.now) }
+    ensures { result ≡ is_of Quad (leaf_at ty.now i).kind }
+{
+    let leaf = ty.leaf(i);
+    matches!(leaf.kind, FfiType::Binary128)
+}
+
+/// Leaf `i` in vector register `v`, behind other pieces: one of quad precision fills both halves.
+fn push_member(pieces: &mut Pieces, ty: &CheckedType<'_>, i: u32, v: u8) -> Result<(), NoMemory>
+    requires in_range { i < length (leaves_of ty.now) }
+    requires exists { v < 8 }
+    ensures { OnOk result (pieces.new ≡ pieces.old ++ member_in v (leaf_at ty.now i)) }
+{
+    if is_quad(ty, i) {
+        pieces.push(part_of_leaf(ty, i, 0, 8, Loc::F(v)))?;
+        return pieces.push(part_of_leaf(ty, i, 8, 8, Loc::F(32 + v)));
+    }
+    pieces.push(leaf_piece(ty, i, Loc::F(v), Ext::Free))
+}
+
 /// A value's leaves in vector registers, from number `vector` on.
 fn member_pieces(alloc: Global, classed: &Classed<'_>, vector: u64) -> Result<Pieces, NoMemory>
     requires { vector + length (leaves_of classed.now) ≤ 8 }
@@ -452,7 +480,7 @@ fn member_pieces(alloc: Global, classed: &Classed<'_>, vector: u64) -> Result<Pi
     let ty = classed.ty();
     let mut pieces = Pieces::new(alloc);
     for i in 0..ty.leaf_count() {
-        pieces.push(leaf_piece(ty, i, Loc::F((vector + i as u64) as u8), Ext::Free))?;
+        push_member(&mut pieces, ty, i, (vector + i as u64) as u8)?;
     }
     Ok(pieces)
 }
@@ -539,7 +567,7 @@ struct Placed {
 }
 
 /// The places of all arguments; copies have no place yet.
-fn place_all(alloc: Global, sig: &CheckedSig<'_>) -> Result<Placed, NoMemory>
+fn place_all(alloc: Global, sig: &PlacedSig<'_>) -> Result<Placed, NoMemory>
     ensures places { IfOk result (λ p. p.places ≡ map without_copy (spots_after untouched sig.now.arguments)) }
     ensures taken { IfOk result (λ p. p.taken ≡ taken_after untouched sig.now.arguments) }
     ensures low { IfOk result (λ p. p.taken.stack ≤ MOST_ARGUMENTS * ARGUMENT_SPAN) }
@@ -570,7 +598,7 @@ fn result_from(place: Place, ty: &CheckedType<'_>, end: u64) -> Res
 }
 
 /// Where the result stands, if what is before its buffer ends at `end`.
-pub fn place_result(alloc: Global, sig: &CheckedSig<'_>, end: u64) -> Result<Res, NoMemory>
+pub fn place_result(alloc: Global, sig: &PlacedSig<'_>, end: u64) -> Result<Res, NoMemory>
     requires { end ≤ 4 * ARGUMENT_BYTES }
     ensures { IfOk result (λ r. r ≡ result_at aapcs64.copy_start end sig.now.result_type (result_spot_of sig.now.result_type)) }
 {
@@ -648,7 +676,7 @@ const ARGUMENT_REGISTERS: [Loc; 17] = [
 ];
 
 /// Where everything stands in a call.
-fn plan_of(alloc: Global, sig: &CheckedSig<'_>) -> Result<Plan, NoMemory>
+fn plan_of(alloc: Global, sig: &PlacedSig<'_>) -> Result<Plan, NoMemory>
     ensures { IfOk result (λ p. p ≡ plan_of aapcs64 sig.now) }
 {
     let Placed { mut places, taken } = place_all(alloc, sig)?;
@@ -721,7 +749,7 @@ impl Abi for Aapcs64 {
     }
 
     fn plan(alloc: Global, sig: &Sig) -> Result<Plan, NoMemory> {
-        plan_of(alloc, &CheckedSig::of(sig))
+        plan_of(alloc, &PlacedSig::of(sig))
     }
 
     ghost use Rattle.std.specs.Prelude.{refl};
@@ -747,7 +775,7 @@ impl Abi for Aapcs64 {
 
     ghost by_stubs = { λ _. with_stubs };
 
-    ghost result_by_stubs = { λ s _. result_with_stubs s };
+    ghost result_by_stubs = { λ s plain _. result_with_stubs s plain };
 
     ghost sound = { every_law };
 

@@ -1,79 +1,116 @@
 -- The pieces of a value have every byte of its leaves and are filled as the standard says; and what a value needs.
-use Rattle.std.proofs.Common.{◌≡◌, ℕ, ◌+◌, ◌*◌, ◌≤◌, Bool, true, false, not, ◌&&◌, cond, ltb, leb, List, [], ◌∷◌, length, sym, ap, ◌∙◌, refl, arith}
+use Rattle.std.proofs.Common.{◌≡◌, ℕ, ◌+◌, ◌*◌, ◌≤◌, Bool, true, false, not, ◌&&◌, cond, ltb, leb, List, [], ◌∷◌, ◌++◌, length, sym, ap, ◌∙◌, refl, arith, ⊎_elim}
 use Rattle.std.specs.Prelude.{Option, Some, None, is_some}
-use Rattle.std.specs.List.{AllByRecursion, list_all}
-use Rattle.std.proofs.lemmas.Bool.{ltb-false, leb-true}
+use Rattle.std.specs.List.{AllByRecursion, Any, list_all}
+use Rattle.std.proofs.lemmas.Bool.{cases_lt, ltb-false, leb-true}
 use Rattle.std.proofs.lemmas.Bool.Decides.{nat_tests}
-use Rattle.ffi3_type_rules.specs.Tree.{Tree, void, scalar, left_out, structure, Scalar, u8, s8, u16, s16, u32, s32, u64, s64, u128, s128, float, double, pointer, array}
+use Rattle.ffi3_type_rules.specs.Tree.{Tree, void, scalar, left_out, structure, Scalar, u8, s8, u16, s16, u32, s32, u64, s64, u128, s128, float, double, pointer, x87, binary128, array}
 use Rattle.ffi3_type_rules.specs.Layout.{Leaf, leaves_of, size_of, align_of, scalar_size, least_multiple}
-use Rattle.ffi3_type_rules.proofs.Layouts.{scalar_size-bounds}
+use Rattle.ffi3_type_rules.proofs.Layouts.{scalar_room-bounds}
 use Rattle.ffi3_place_rules.specs.declared.Loc.{Loc}
 use Rattle.ffi3_place_rules.specs.declared.Loc.TheVariants.{G, F, S}
 use Rattle.ffi3_place_rules.specs.declared.Ext.TheVariants.{Free}
+use Rattle.ffi3_place_rules.specs.declared.Piece.{Piece}
 use Rattle.ffi3_place_rules.specs.declared.Taken.{Taken}
+use Rattle.ffi3_place_rules.specs.Isa.{upper_half}
 use Rattle.ffi3_place_rules.specs.Standard.{in_pieces, by_reference, place_at, places_from, copy_end, round8}
-use Rattle.ffi3_place_rules.specs.Doublewords.{doublewords, widening, stack_pieces}
+use Rattle.ffi3_place_rules.specs.Doublewords.{doublewords, widening, stack_pieces, leaf_piece}
 use Rattle.ffi3_place_rules.specs.Holds.{Carries}
 use Rattle.ffi3_place_rules.specs.Sound.{CoversLeaf, IsPieceOf, HaveAll, PlaceHasAll, PlacesHaveAll, is_narrow_integer, IsFilled, PlaceIsFilled, PlacesAreFilled}
 use Rattle.ffi3_place_rules.proofs.Tests.{and_left, and_right, not_true, each_weaker}
 use Rattle.ffi3_place_rules.proofs.Covered.{EndsIn, leaves_end, any_later}
 use Rattle.ffi3_place_rules.proofs.Doublewords.{widening_suits, whole_pieces, leaf_is_piece, doublewords_have_all, stack_has_all}
-use Rattle.ffi3_place_rules.proofs.Filled.{doublewords_filled}
+use Rattle.ffi3_place_rules.proofs.Further.{each_of_all}
+use Rattle.ffi3_place_rules.proofs.Filled.{doublewords_filled, no_narrow_place}
 use Rattle.ffi3_aapcs64_rules.specs.declared.Kind.{Kind}
-use Rattle.ffi3_aapcs64_rules.specs.declared.Kind.TheVariants.{Float, Double}
-use Rattle.ffi3_aapcs64_rules.specs.Aapcs64.{aapcs64, kind_of, is_kind, is_member, is_composite, in_vectors, is_copied, passed, registers_needed, first_general, member_pieces, general_pieces, register_pieces, register_spot, stack_spot, register_start, stack_start, in_registers, spot_after, spots_after, taken_with, untouched}
+use Rattle.ffi3_aapcs64_rules.specs.declared.Kind.TheVariants.{Float, Double, Quad}
+use Rattle.ffi3_aapcs64_rules.specs.Aapcs64.{aapcs64, kind_of, is_kind, is_of, is_member, is_composite, in_vectors, is_copied, passed, registers_needed, first_general, member_in, member_pieces, general_pieces, register_pieces, register_spot, stack_spot, register_start, stack_start, in_registers, spot_after, spots_after, taken_with, untouched}
 
--- ---- members fit a register
+-- ---- members are of a floating-point type, and fit a register, or its two halves
 
-abbrev IsSmall : Leaf → Type 0
-IsSmall l = scalar_size l.kind ≤ 8
+abbrev pub IsFloating : Leaf → Type 0
+IsFloating l = is_some (kind_of l.kind) ≡ true
 
-floating_small : (s : Scalar) → is_some (kind_of s) ≡ true → scalar_size s ≤ 8
-floating_small u128 e = cc
-floating_small s128 e = cc
-floating_small _ e = omega arith
+floating_small : (s : Scalar) → is_some (kind_of s) ≡ true → is_of Quad s ≡ false → scalar_size s ≤ 8
+floating_small u128 e n = cc
+floating_small s128 e n = cc
+floating_small x87 e n = cc
+floating_small binary128 e n = cc
+floating_small _ e n = omega arith
+
+quad_size : (s : Scalar) → is_of Quad s ≡ true → scalar_size s ≡ 16
+quad_size binary128 e = refl
+quad_size u8 e = cc
+quad_size _ e = cc
 
 kind_there : (kind : Kind) (k : Option Kind) → is_kind kind k ≡ true → is_some k ≡ true
 kind_there Float None e = cc
 kind_there Double None e = cc
+kind_there Quad None e = cc
 kind_there kind (Some k) e = refl
 
-all_small : (kind : Kind) (ls : List Leaf) → list_all (is_member kind) ls ≡ true → AllByRecursion IsSmall ls
-all_small kind [] e = tt
-all_small kind (l ∷ ls) e =
-    (floating_small l.kind (kind_there kind (kind_of l.kind) (and_left (is_member kind l) (list_all (is_member kind) ls) e)), all_small kind ls (and_right (is_member kind l) (list_all (is_member kind) ls) e))
+all_floating : (kind : Kind) (ls : List Leaf) → list_all (is_member kind) ls ≡ true → AllByRecursion IsFloating ls
+all_floating kind [] e = tt
+all_floating kind (l ∷ ls) e =
+    (kind_there kind (kind_of l.kind) (and_left (is_member kind l) (list_all (is_member kind) ls) e), all_floating kind ls (and_right (is_member kind l) (list_all (is_member kind) ls) e))
 
-homogeneous_small : (ls : List Leaf) (b f d : Bool) (x y : Kind × ℕ) → list_all (is_member Float) ls ≡ f → list_all (is_member Double) ls ≡ d → is_some (cond b (cond f (Some x) (cond d (Some y) None)) None) ≡ true → AllByRecursion IsSmall ls
-homogeneous_small ls false f d x y ef ed e = cc
-homogeneous_small ls true true d x y ef ed e = all_small Float ls ef
-homogeneous_small ls true false true x y ef ed e = all_small Double ls ed
-homogeneous_small ls true false false x y ef ed e = cc
+homogeneous_floating : (ls : List Leaf) (b f d q : Bool) (x y z : Kind × ℕ) → list_all (is_member Float) ls ≡ f → list_all (is_member Double) ls ≡ d → list_all (is_member Quad) ls ≡ q → is_some (cond b (cond f (Some x) (cond d (Some y) (cond q (Some z) None))) None) ≡ true → AllByRecursion IsFloating ls
+homogeneous_floating ls false f d q x y z ef ed eq e = cc
+homogeneous_floating ls true true d q x y z ef ed eq e = all_floating Float ls ef
+homogeneous_floating ls true false true q x y z ef ed eq e = all_floating Double ls ed
+homogeneous_floating ls true false false true x y z ef ed eq e = all_floating Quad ls eq
+homogeneous_floating ls true false false false x y z ef ed eq e = cc
 
-members_small : (t : Tree) → in_vectors t ≡ true → AllByRecursion IsSmall (leaves_of t)
-members_small void e = tt
-members_small (scalar s) e = (floating_small s e, tt)
-members_small (left_out k) e = tt
-members_small (structure ts) e =
+members_floating : (t : Tree) → in_vectors t ≡ true → AllByRecursion IsFloating (leaves_of t)
+members_floating void e = tt
+members_floating (scalar s) e = (e, tt)
+members_floating (left_out k) e = tt
+members_floating (structure ts) e =
     let ls = leaves_of (structure ts) in
-    homogeneous_small ls (ltb 0 (length ls) && leb (length ls) 4) _ _ (Float, length ls) (Double, length ls) refl refl e
-members_small (array ts n) e = cc
+    homogeneous_floating ls (ltb 0 (length ls) && leb (length ls) 4) _ _ _ (Float, length ls) (Double, length ls) (Quad, length ls) refl refl refl e
+members_floating (array ts n) e = cc
 
 -- ---- pieces
 
-members_are_pieces : (t : Tree) (v : ℕ) (ls : List Leaf) → AllByRecursion IsSmall ls → AllByRecursion (EndsIn (size_of t)) ls → AllByRecursion (IsPieceOf t) (member_pieces v ls)
-members_are_pieces t v [] small h = tt
-members_are_pieces t v (l ∷ ls) small h =
-    (leaf_is_piece t (F v) Free l refl small.0 h.0 tt, members_are_pieces t (v + 1) ls small.1 h.1)
+-- the pieces of one member, by whether it is of quad precision
+abbrev pub MemberBy : Bool → ℕ → Leaf → List Piece
+MemberBy quad v l =
+    cond quad (record { loc = F v; off = l.at; len = 8; ext = Free } ∷ record { loc = upper_half v; off = l.at + 8; len = 8; ext = Free } ∷ [])
+    (leaf_piece (F v) Free l ∷ [])
+
+member_is_piece : (t : Tree) (v : ℕ) (l : Leaf) (quad : Bool) → is_of Quad l.kind ≡ quad → IsFloating l → EndsIn (size_of t) l → AllByRecursion (IsPieceOf t) (MemberBy quad v l)
+member_is_piece t v l true e floats ends =
+    let size = quad_size l.kind e in (
+      record { short = omega arith; within = omega (arith, size, ends); fits = omega arith; extended = tt },
+      (record { short = omega arith; within = omega (arith, size, ends); fits = omega arith; extended = tt }, tt),
+    )
+member_is_piece t v l false e floats ends =
+    (leaf_is_piece t (F v) Free l refl (floating_small l.kind floats e) ends tt, tt)
+
+members_are_pieces : (t : Tree) (v : ℕ) (ls : List Leaf) → AllByRecursion IsFloating ls → AllByRecursion (EndsIn (size_of t)) ls → AllByRecursion (IsPieceOf t) (member_pieces v ls)
+members_are_pieces t v [] floats h = tt
+members_are_pieces t v (l ∷ ls) floats h =
+    each_of_all (IsPieceOf t) (member_in v l) (member_pieces (v + 1) ls) (member_is_piece t v l (is_of Quad l.kind) refl floats.0 h.0) (members_are_pieces t (v + 1) ls floats.1 h.1)
+
+any_behind : (P : Piece → Type 0) (ps qs : List Piece) → Any P qs → Any P (ps ++ qs)
+any_behind P [] qs a = a
+any_behind P (p ∷ ps) qs a = any_later P p (ps ++ qs) (any_behind P ps qs a)
+
+member_covers : (v : ℕ) (l : Leaf) (others : List Piece) (quad : Bool) → is_of Quad l.kind ≡ quad → CoversLeaf (MemberBy quad v l ++ others) l
+member_covers v l others true e k h =
+    let size = quad_size l.kind e in
+    ⊎_elim (λ below. (0, _, omega arith, refl, (omega arith, omega (arith, below)))) (λ above. (1, _, omega arith, refl, (omega (arith, above), omega (arith, h, size)))) (cases_lt k 8)
+member_covers v l others false e k h = (0, _, omega arith, refl, (omega arith, omega (arith, h)))
 
 members_cover : (v : ℕ) (ls : List Leaf) → AllByRecursion (CoversLeaf (member_pieces v ls)) ls
 members_cover v [] = tt
 members_cover v (l ∷ ls) =
-    let later = each_weaker (CoversLeaf (member_pieces (v + 1) ls)) (CoversLeaf (member_pieces v (l ∷ ls))) (λ m c k h. any_later (Carries (m.at + k)) _ _ (c k h)) ls (members_cover (v + 1) ls) in
-    ((λ k h. (0, _, omega arith, refl, (omega arith, omega (arith, h)))), later)
+    let later = each_weaker (CoversLeaf (member_pieces (v + 1) ls)) (CoversLeaf (member_pieces v (l ∷ ls))) (λ m c k h. any_behind (Carries (m.at + k)) (member_in v l) (member_pieces (v + 1) ls) (c k h)) ls (members_cover (v + 1) ls) in
+    (member_covers v l (member_pieces (v + 1) ls) (is_of Quad l.kind) refl, later)
 
 pub members_have_all : (v : ℕ) (t : Tree) → in_vectors t ≡ true → HaveAll t (member_pieces v (leaves_of t))
 members_have_all v t e = record {
-  each = members_are_pieces t v (leaves_of t) (members_small t e) (leaves_end t);
+  each = members_are_pieces t v (leaves_of t) (members_floating t e) (leaves_end t);
   covered = members_cover v (leaves_of t);
 }
 
@@ -110,23 +147,33 @@ not_narrow (scalar s64) v h = cc
 not_narrow (scalar u128) v h = cc
 not_narrow (scalar s128) v h = cc
 not_narrow (scalar pointer) v h = cc
+not_narrow (scalar x87) v h = cc
+not_narrow (scalar binary128) v h = cc
+
+member_filled : (t : Tree) → in_vectors t ≡ true → (v : ℕ) (l : Leaf) (quad : Bool) → AllByRecursion (IsFilled aapcs64 t) (MemberBy quad v l)
+member_filled t e v l true = (
+  record { narrow = λ h _. absurd (not_narrow t e h); single = λ place four. refl; narrow_place = no_narrow_place (F v) refl },
+  (record { narrow = λ h _. absurd (not_narrow t e h); single = λ place four. refl; narrow_place = no_narrow_place (upper_half v) refl }, tt),
+)
+member_filled t e v l false =
+    (record { narrow = λ h _. absurd (not_narrow t e h); single = λ place four. refl; narrow_place = no_narrow_place (F v) refl }, tt)
 
 members_filled : (t : Tree) → in_vectors t ≡ true → (v : ℕ) (ls : List Leaf) → AllByRecursion (IsFilled aapcs64 t) (member_pieces v ls)
 members_filled t e v [] = tt
 members_filled t e v (l ∷ ls) =
-    (record { narrow = λ h _. absurd (not_narrow t e h); single = λ place four. refl }, members_filled t e (v + 1) ls)
+    each_of_all (IsFilled aapcs64 t) (member_in v l) (member_pieces (v + 1) ls) (member_filled t e v l (is_of Quad l.kind)) (members_filled t e (v + 1) ls)
 
 registers_filled_if : (first : ℕ) (t : Tree) (b : Bool) → in_vectors t ≡ b → AllByRecursion (IsFilled aapcs64 t) (cond b (member_pieces first (leaves_of t)) (general_pieces first t))
 registers_filled_if first t true e = members_filled t e first (leaves_of t)
 registers_filled_if first t false e =
-    doublewords_filled aapcs64 t (λ j. G (first + j)) (λ j. refl) 0 (doublewords t)
+    doublewords_filled aapcs64 t (λ j. G (first + j)) (λ j. refl) (λ j. refl) 0 (doublewords t)
 
 pub registers_filled : (first : ℕ) (t : Tree) → AllByRecursion (IsFilled aapcs64 t) (register_pieces first t)
 registers_filled first t = registers_filled_if first t (in_vectors t) refl
 
 stack_filled : (start : ℕ) (t : Tree) → AllByRecursion (IsFilled aapcs64 t) (stack_pieces start t)
 stack_filled start t =
-    doublewords_filled aapcs64 t (λ j. S (start + 8 * j) 8) (λ j. refl) 0 (doublewords t)
+    doublewords_filled aapcs64 t (λ j. S (start + 8 * j) 8) (λ j. refl) (λ j. refl) 0 (doublewords t)
 
 -- ---- arguments
 
@@ -191,7 +238,7 @@ small_if false b ev e = e
 -- what goes directly in general registers has at most two doublewords
 pub few_doublewords : (t : Tree) → in_vectors t ≡ false → is_copied t ≡ false → doublewords t ≤ 2
 few_doublewords void ev ec = omega arith
-few_doublewords (scalar s) ev ec = omega (arith, scalar_size-bounds s)
+few_doublewords (scalar s) ev ec = omega (arith, scalar_room-bounds s)
 few_doublewords (left_out k) ev ec = omega arith
 few_doublewords (structure ts) ev ec =
     omega (arith, ltb-false 16 (size_of (structure ts)) (small_if (in_vectors (structure ts)) (ltb 16 (size_of (structure ts))) ev ec))

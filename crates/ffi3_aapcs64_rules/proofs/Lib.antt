@@ -1,5 +1,6 @@
 pub mod Registers
 pub mod Covered
+pub mod Halves
 pub mod Rising
 pub mod Agrees
 pub mod Sound

@@ -1,20 +1,30 @@
 -- The pieces of one argument that stand on the stack rise.
-use Rattle.std.proofs.Common.{ℕ, ◌+◌, Bool, true, false, cond, List, [], ◌∷◌}
+use Rattle.std.proofs.Common.{ℕ, ◌+◌, Bool, true, false, cond, List, [], ◌∷◌, ◌++◌}
 use Rattle.std.specs.List.{AllByRecursion}
 use Rattle.ffi3_type_rules.specs.Tree.{Tree}
 use Rattle.ffi3_type_rules.specs.Layout.{Leaf, leaves_of, size_of}
 use Rattle.ffi3_place_rules.specs.declared.Loc.TheVariants.{G, F, S}
 use Rattle.ffi3_place_rules.specs.declared.Ext.TheVariants.{Free}
+use Rattle.ffi3_place_rules.specs.declared.Piece.{Piece}
 use Rattle.ffi3_place_rules.specs.declared.Taken.{Taken}
+use Rattle.ffi3_place_rules.specs.Isa.{upper_half}
 use Rattle.ffi3_place_rules.specs.Standard.{in_pieces, by_reference, place_at, places_from, copy_end}
 use Rattle.ffi3_place_rules.specs.Doublewords.{doublewords, widening, stack_pieces, leaf_piece}
 use Rattle.ffi3_place_rules.specs.Sound.{AreRising, PlaceRises}
 use Rattle.ffi3_place_rules.proofs.Rising.{register_rises, floating_not_stack, stack_rises, generals_rise}
-use Rattle.ffi3_aapcs64_rules.specs.Aapcs64.{in_vectors, is_copied, passed, member_pieces, general_pieces, register_pieces, register_spot, stack_spot, register_start, stack_start, in_registers, spot_after, spots_after, taken_with}
+use Rattle.ffi3_aapcs64_rules.specs.declared.Kind.TheVariants.{Quad}
+use Rattle.ffi3_aapcs64_rules.proofs.Covered.{MemberBy}
+use Rattle.ffi3_aapcs64_rules.specs.Aapcs64.{is_of, in_vectors, is_copied, passed, member_pieces, general_pieces, register_pieces, register_spot, stack_spot, register_start, stack_start, in_registers, spot_after, spots_after, taken_with}
+
+member_rises : (v : ℕ) (l : Leaf) (others : List Piece) (quad : Bool) → AreRising others → AreRising (MemberBy quad v l ++ others)
+member_rises v l others true h =
+    let upper : Piece = record { loc = upper_half v; off = l.at + 8; len = 8; ext = Free } in
+    (register_rises (record { loc = F v; off = l.at; len = 8; ext = Free }) (floating_not_stack v) (upper ∷ others), (register_rises upper (floating_not_stack (32 + v)) others, h))
+member_rises v l others false h = (register_rises (leaf_piece (F v) Free l) (floating_not_stack v) others, h)
 
 members_rise : (v : ℕ) (ls : List Leaf) → AreRising (member_pieces v ls)
 members_rise v [] = tt
-members_rise v (l ∷ ls) = (register_rises (leaf_piece (F v) Free l) (floating_not_stack v) _, members_rise (v + 1) ls)
+members_rise v (l ∷ ls) = member_rises v l (member_pieces (v + 1) ls) (is_of Quad l.kind) (members_rise (v + 1) ls)
 
 registers_rise_if : (first : ℕ) (t : Tree) (b : Bool) → AreRising (cond b (member_pieces first (leaves_of t)) (general_pieces first t))
 registers_rise_if first t true = members_rise first (leaves_of t)

@@ -1,6 +1,6 @@
 -- Worked rows, computed.
 use Rattle.std.specs.Prelude.{◌≡◌, ℕ, [], ◌∷◌, refl, Some, replicate}
-use Rattle.ffi3_type_rules.specs.Tree.{Tree, void, scalar, struct_of, u8, s8, u16, s32, float, double, pointer, array_of, u32}
+use Rattle.ffi3_type_rules.specs.Tree.{Tree, void, scalar, struct_of, u8, s8, u16, s32, float, double, pointer, array_of, u32, binary128}
 use Rattle.ffi3_type_rules.specs.Layout.{least_multiple}
 use Rattle.ffi3_place_rules.specs.declared.Loc.TheVariants.{G, F, S}
 use Rattle.ffi3_place_rules.specs.declared.Place.TheVariants.{Direct, ByRef}
@@ -276,3 +276,71 @@ pub wide_stack : plan_of aapcs64 (sig_of byte_and_wide (integer ∷ integer ∷ 
 }
 unfolding least_multiple
 wide_stack = refl
+
+-- ---- long double, of quad precision: v(k) is F k, and its upper half F (32 + k)
+
+abbrev quad : Tree
+quad = scalar binary128
+
+abbrev quads : ℕ → Tree
+quads n = struct_of (replicate n quad)
+
+-- binary128(struct{float,binary128},binary128,sint32): the struct is no HFA
+pub long_double : plan_of aapcs64 (sig_of quad (struct_of (scalar float ∷ quad ∷ []) ∷ quad ∷ scalar s32 ∷ [])) ≡ record {
+  places = ByRef (G 0) 0 ∷ halves (F 0) (F 32) ∷ Direct (widened (G 1) 4 ∷ []) ∷ [];
+  res = DirectRes (at (F 0) 0 8 ∷ at (F 32) 8 8 ∷ []);
+  need = 272;
+  frame = 32;
+  block = 64;
+  vectors = 0;
+}
+unfolding least_multiple
+long_double = refl
+
+-- four in a struct, as result and as argument behind one
+pub four_quads : plan_of aapcs64 (sig_of (quads 4) (quad ∷ quads 4 ∷ [])) ≡ record {
+  places = halves (F 0) (F 32) ∷ Direct (at (F 1) 0 8 ∷ at (F 33) 8 8 ∷ at (F 2) 16 8 ∷ at (F 34) 24 8 ∷ at (F 3) 32 8 ∷ at (F 35) 40 8 ∷ at (F 4) 48 8 ∷ at (F 36) 56 8 ∷ []) ∷ [];
+  res = DirectRes (at (F 0) 0 8 ∷ at (F 32) 8 8 ∷ at (F 1) 16 8 ∷ at (F 33) 24 8 ∷ at (F 2) 32 8 ∷ at (F 34) 40 8 ∷ at (F 3) 48 8 ∷ at (F 35) 56 8 ∷ []);
+  need = 256;
+  frame = 0;
+  block = 80;
+  vectors = 0;
+}
+unfolding least_multiple
+four_quads = refl
+
+-- five are no HFA
+pub five_quads : plan_of aapcs64 (sig_of (quads 5) (quads 5 ∷ [])) ≡ record {
+  places = ByRef (G 0) 0 ∷ [];
+  res = Hidden (G 8) 80;
+  need = 416;
+  frame = 160;
+  block = 80;
+  vectors = 0;
+}
+unfolding least_multiple
+five_quads = refl
+
+-- seven doubles, struct{binary128,binary128}, double: v7 does not suffice, and is not used any more
+pub quads_on_stack : plan_of aapcs64 (sig_of void (scalar double ∷ scalar double ∷ scalar double ∷ scalar double ∷ scalar double ∷ scalar double ∷ scalar double ∷ quads 2 ∷ scalar double ∷ [])) ≡ record {
+  places = alone (F 0) ∷ alone (F 1) ∷ alone (F 2) ∷ alone (F 3) ∷ alone (F 4) ∷ alone (F 5) ∷ alone (F 6) ∷ Direct (at (S 0 8) 0 8 ∷ at (S 8 8) 8 8 ∷ at (S 16 8) 16 8 ∷ at (S 24 8) 24 8 ∷ []) ∷ alone (S 32 8) ∷ [];
+  res = Nothing;
+  need = 320;
+  frame = 48;
+  block = 96;
+  vectors = 0;
+}
+unfolding least_multiple
+quads_on_stack = refl
+
+-- nine doubles and a long double: on the stack at a multiple of 16
+pub quad_behind_a_gap : plan_of aapcs64 (sig_of void (scalar double ∷ scalar double ∷ scalar double ∷ scalar double ∷ scalar double ∷ scalar double ∷ scalar double ∷ scalar double ∷ scalar double ∷ quad ∷ [])) ≡ record {
+  places = alone (F 0) ∷ alone (F 1) ∷ alone (F 2) ∷ alone (F 3) ∷ alone (F 4) ∷ alone (F 5) ∷ alone (F 6) ∷ alone (F 7) ∷ alone (S 0 8) ∷ halves (S 16 8) (S 24 8) ∷ [];
+  res = Nothing;
+  need = 304;
+  frame = 32;
+  block = 96;
+  vectors = 0;
+}
+unfolding least_multiple
+quad_behind_a_gap = refl

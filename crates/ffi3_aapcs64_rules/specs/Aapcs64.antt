@@ -6,7 +6,7 @@ use Rattle.ffi3_type_rules.specs.declared.Target.TheVariants as target
 use Rattle.ffi3_type_rules.specs.declared.Isa.{Isa}
 use Rattle.ffi3_type_rules.specs.Isa.{isa_of}
 use Rattle.ffi3_type_rules.specs.Tree.{Tree, void, scalar, structure, Scalar, u8, s8, u16, s16, u32, s32, u64, s64}
-use Rattle.ffi3_type_rules.specs.Tree.{u128, s128, float, double, pointer, array}
+use Rattle.ffi3_type_rules.specs.Tree.{u128, s128, float, double, pointer, x87, binary128, array}
 use Rattle.ffi3_type_rules.specs.Layout.{Leaf, leaves_of, size_of, align_of, least_multiple}
 use Rattle.ffi3_type_rules.specs.Signature.{Signature}
 use Rattle.ffi3_place_rules.specs.declared.Loc.{Loc}
@@ -17,16 +17,16 @@ use Rattle.ffi3_place_rules.specs.declared.SaveWord.{SaveWord}
 use Rattle.ffi3_place_rules.specs.declared.SaveWord.TheVariants.{Register, Hidden, Spare}
 use Rattle.ffi3_place_rules.specs.declared.Taken.{Taken}
 use Rattle.ffi3_place_rules.specs.Isa.{pushed_bytes, stack_pointer, reserved_places, link_place}
-use Rattle.ffi3_place_rules.specs.Isa.{trampoline_registers, to_list}
+use Rattle.ffi3_place_rules.specs.Isa.{trampoline_registers, to_list, upper_half}
 use Rattle.ffi3_place_rules.specs.Standard.{Standard, Placing, Spot, in_pieces, by_reference, ResultSpot, no_result}
 use Rattle.ffi3_place_rules.specs.Standard.{in_result_pieces, in_buffer, start, round8}
 use Rattle.ffi3_place_rules.specs.Doublewords.{doublewords, doublewords_at, widening, stack_pieces, leaf_piece}
 use Rattle.ffi3_aapcs64_rules.specs.declared.Kind.{Kind}
-use Rattle.ffi3_aapcs64_rules.specs.declared.Kind.TheVariants.{Float, Double}
+use Rattle.ffi3_aapcs64_rules.specs.declared.Kind.TheVariants.{Float, Double, Quad}
 
 -- ---- homogeneous floating-point aggregates, HFA (5.9.5.1)
 
--- the kind of a floating-point type
+-- the kind of a floating-point type: single, double or quad precision, which is long double (5.1, table 3; "Arithmetic types")
 abbrev pub kind_of : Scalar → Option Kind
 kind_of float = Some Float
 kind_of double = Some Double
@@ -41,14 +41,22 @@ kind_of s64 = None
 kind_of u128 = None
 kind_of s128 = None
 kind_of pointer = None
+kind_of x87 = None
+kind_of binary128 = Some Quad
 
 abbrev pub is_kind : Kind → Option Kind → Bool
 is_kind Float (Some Float) = true
 is_kind Float (Some Double) = false
+is_kind Float (Some Quad) = false
 is_kind Double (Some Float) = false
 is_kind Double (Some Double) = true
+is_kind Double (Some Quad) = false
+is_kind Quad (Some Float) = false
+is_kind Quad (Some Double) = false
+is_kind Quad (Some Quad) = true
 is_kind Float None = false
 is_kind Double None = false
+is_kind Quad None = false
 
 abbrev pub is_of : Kind → Scalar → Bool
 is_of kind s = is_kind kind (kind_of s)
@@ -56,12 +64,13 @@ is_of kind s = is_kind kind (kind_of s)
 abbrev pub is_member : Kind → Leaf → Bool
 is_member kind l = is_of kind l.kind
 
--- one to four members, all of them floats or all of them doubles
+-- one to four members, all of them of single, of double or of quad precision
 abbrev pub homogeneous_members : List Leaf → Option (Kind × ℕ)
 homogeneous_members ls =
     cond (nat_lt 0 (length ls) && nat_le (length ls) 4)
     (cond (list_all (is_member Float) ls) (Some (Float, length ls))
-    (cond (list_all (is_member Double) ls) (Some (Double, length ls)) None)) None
+    (cond (list_all (is_member Double) ls) (Some (Double, length ls))
+    (cond (list_all (is_member Quad) ls) (Some (Quad, length ls)) None))) None
 
 -- the type and the number of the members of an HFA, with nested structs and arrays flattened
 abbrev pub homogeneous : Tree → Option (Kind × ℕ)
@@ -109,11 +118,18 @@ stack_start end t = start end t
 
 -- ---- registers: x0 to x7, and v0 to v7
 
+-- a member in register v: one of quad precision fills both halves of it
+abbrev pub member_in : ℕ → Leaf → List Piece
+member_in v l =
+    cond (is_of Quad l.kind)
+    (record { loc = F v; off = l.at; len = 8; ext = Free }
+    ∷ record { loc = upper_half v; off = l.at + 8; len = 8; ext = Free } ∷ [])
+    (leaf_piece (F v) Free l ∷ [])
+
 -- C.1, C.2: one register for each member, from number v on
 abbrev pub member_pieces : ℕ → List Leaf → List Piece
 member_pieces v [] = []
-member_pieces v (l ∷ ls) =
-    leaf_piece (F v) Free l ∷ member_pieces (v + 1) ls
+member_pieces v (l ∷ ls) = member_in v l ++ member_pieces (v + 1) ls
 
 -- C.9, C.11, C.12: one register for each doubleword, from number g on
 abbrev pub general_pieces : ℕ → Tree → List Piece

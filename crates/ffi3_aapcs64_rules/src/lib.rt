@@ -2,9 +2,10 @@
 //! need the kind alone.
 #![tactic(auto)]
 
-/// The type of each member of a homogeneous floating-point aggregate.
+/// The type of each member of a homogeneous floating-point aggregate: of single, double or quad precision.
 #[derive(Clone, Copy, Debug, PartialEq, Eq)]
 pub enum Kind {
     Float,
     Double,
+    Quad,
 }

@@ -1,28 +1,28 @@
 //! The System V AMD64 calling standard.
 #![tactic(auto)]
 
-ghost use Rattle.std.specs.Prelude.{◌*◌, ◌≡◌, ◌<◌, ◌≤◌, ◌+◌, ◌||◌, cond, length, slice_index, IfOk, [], true, false};
+ghost use Rattle.std.specs.Prelude.{◌*◌, ◌≡◌, ◌<◌, ◌≤◌, ◌+◌, ◌||◌, cond, ◌++◌, ◌∷◌, length, slice_index, IfOk, OnOk, [], true, false};
 ghost use Rattle.std.specs.List.{list_any, count_by};
 ghost use Rattle.ffi3_type_rules.specs.declared.limits.TheConstants.{ARGUMENT_BYTES, ARGUMENT_SPAN, LARGEST_GAP};
 ghost use Rattle.ffi3_type_rules.specs.Tree.{Tree};
-ghost use Rattle.ffi3_type_rules.specs.Layout.{leaves_of, leaf_at};
+ghost use Rattle.ffi3_type_rules.specs.Layout.{size_of, leaves_of, leaf_at};
 ghost use Rattle.ffi3_type_rules.specs.Fault.{IsLaidOut};
 ghost use Rattle.ffi3_types.specs.TreeOf.{tree_of};
 ghost use Rattle.ffi3_place_rules.specs.Standard.{places_from, plan_of, result_at};
 ghost use Rattle.ffi3_amd64_rules.specs.declared.Class.{Class};
 ghost use Rattle.ffi3_amd64_rules.specs.declared.Class.TheVariants.{Integer, Sse};
-ghost use Rattle.ffi3_amd64_rules.specs.Amd64.{amd64, is_integer_leaf_in, is_integer_class, is_sse_class, is_aggregate, class_of, in_memory, integers, sses, register_pieces, classes, in_registers, stack_start, argument_pieces, taken_with, taken_after, taken_at_first, spots_after, result_spot_of};
-ghost use Rattle.ffi3_amd64.specs.Classes.{class_list, is_memory, one_if, register_at};
+ghost use Rattle.ffi3_amd64_rules.specs.Amd64.{amd64, is_integer_leaf_in, is_integer_class, is_sse_class, is_aggregate, class_of, is_one_x87, is_class_x87, is_class_memory, in_memory, x87_pieces, integers, sses, register_pieces, classes, in_registers, stack_start, argument_pieces, taken_with, taken_after, taken_at_first, spots_after, result_spot_of};
+ghost use Rattle.ffi3_amd64.specs.Classes.{class_list, is_memory, is_x87, is_in_memory, one_if, register_at};
 
 pub mod laws;
 
 pub use ffi3_amd64_rules::Class;
 use ffi3_place::ends::{buffer_end, planned, start};
-use ffi3_place::parts::{doubleword, one_piece, stack_pieces, two_pieces, widening};
+use ffi3_place::parts::{doubleword, one_piece, part_of_leaf, stack_pieces, two_pieces, widening};
 use ffi3_place::{Abi, Loc, Pieces, Place, Places, Plan, Res, SaveWord};
 use ffi3_place_rules::Taken;
 use ffi3_type_rules::round_up;
-use ffi3_types::{CheckedSig, CheckedType, FfiType, NoMemory, Sig, Target};
+use ffi3_types::{CheckedType, FfiType, NoMemory, PlacedSig, Sig, Target};
 pub use laws::placement_laws;
 use std::alloc::Global;
 
@@ -32,7 +32,7 @@ fn is_integer_leaf_in(ty: &CheckedType<'_>, i: u32, eightbyte: u32) -> bool
     ensures { result ≡ is_integer_leaf_in eightbyte (leaf_at ty.now i) }
 {
     let leaf = ty.leaf(i);
-    let size = leaf.kind.size();
+    let size = leaf.kind.value_size();
     let start = 8 * eightbyte as u64;
     leaf.at < start + 8 && start < leaf.at + size && !leaf.kind.is_floating()
 }
@@ -51,13 +51,49 @@ pub fn class_of(ty: &FfiType, eightbyte: u32) -> Class
     Class::Sse
 }
 
-/// Whether a value has the class MEMORY: a struct over two eightbytes. (psABI AMD64 3.2.3)
+/// Whether a value is passed in memory: a struct over two eightbytes, or a long double. (psABI AMD64 3.2.3)
 pub fn in_memory(ty: &FfiType) -> bool
     requires { IsLaidOut (tree_of ty.now) }
     ensures { result ≡ in_memory (tree_of ty.now) }
 {
-    let ty = CheckedType::of(ty);
-    matches!(ty.as_type(), FfiType::Struct(_) | FfiType::Array(_, _)) && ty.size() > 16
+    classes_of(&CheckedType::of(ty)).is_in_memory()
+}
+
+/// Whether a value is one long double of x87's format and nothing else.
+fn is_one_x87(ty: &CheckedType<'_>) -> bool
+    ensures { result ≡ is_one_x87 (leaves_of ty.now) }
+{
+    if ty.leaf_count() != 1 {
+        return false;
+    }
+    let leaf = ty.leaf(0);
+    matches!(leaf.kind, FfiType::X87)
+}
+
+/// Whether a struct or an array has the classes X87 and X87UP, or COMPLEX_X87.
+fn has_class_x87(ty: &CheckedType<'_>) -> bool
+    requires { is_aggregate ty.now ≡ true }
+    ensures { result ≡ is_class_x87 ty.now }
+{
+    if let FfiType::Array(fields, count) = ty.as_type() {
+        return fields.is_complex(*count);
+    }
+    is_one_x87(ty)
+}
+
+/// Whether a struct or an array of this size has the class MEMORY.
+fn has_class_memory(ty: &CheckedType<'_>, size: u64) -> bool
+    requires aggregate { is_aggregate ty.now ≡ true }
+    requires sized { size ≡ size_of ty.now }
+    ensures { result ≡ is_class_memory ty.now }
+{
+    if size <= 16 {
+        return false;
+    }
+    if let FfiType::Array(fields, count) = ty.as_type() {
+        return !fields.is_complex(*count);
+    }
+    true
 }
 
 /// Which of a value's first two eightbytes have a byte of an integer or a pointer.
@@ -74,7 +110,7 @@ fn with_leaf(before: Integers, ty: &CheckedType<'_>, i: u32) -> Integers
     ensures second { result.second ≡ (before.second || is_integer_leaf_in 1 (leaf_at ty.now i)) }
 {
     let leaf = ty.leaf(i);
-    let size = leaf.kind.size();
+    let size = leaf.kind.value_size();
     let is_integer = !leaf.kind.is_floating();
     Integers {
         first: before.first || (leaf.at < 8 && 0 < leaf.at + size && is_integer),
@@ -103,8 +139,10 @@ fn integers_in(ty: &CheckedType<'_>) -> Integers
 /// The classes of a value's eightbytes, found once for all that needs them.
 #[derive(Clone, Copy)]
 enum Classes {
-    /// The value is in memory.
+    /// The value has the class MEMORY.
     Memory,
+    /// It has the classes X87 and X87UP, or COMPLEX_X87.
+    X87,
     /// It has no bytes.
     Nothing,
     One(Class),
@@ -112,10 +150,25 @@ enum Classes {
 }
 
 impl Classes {
+    /// Whether the value has the class MEMORY.
     fn is_memory(self) -> bool
         ensures { result ≡ is_memory self }
     {
         matches!(self, Classes::Memory)
+    }
+
+    /// Whether it is returned in x87 registers.
+    fn is_x87(self) -> bool
+        ensures { result ≡ is_x87 self }
+    {
+        matches!(self, Classes::X87)
+    }
+
+    /// Whether it is passed in memory.
+    fn is_in_memory(self) -> bool
+        ensures { result ≡ is_in_memory self }
+    {
+        matches!(self, Classes::Memory | Classes::X87)
     }
 
     /// How many eightbytes have the class INTEGER.
@@ -124,7 +177,7 @@ impl Classes {
         ensures few { result ≤ 2 }
     {
         match self {
-            Classes::Memory => 0,
+            Classes::Memory | Classes::X87 => 0,
             Classes::Nothing => 0,
             Classes::One(Class::Integer) => 1,
             Classes::One(Class::Sse) => 0,
@@ -141,7 +194,7 @@ impl Classes {
         ensures few { result ≤ 2 }
     {
         match self {
-            Classes::Memory => 0,
+            Classes::Memory | Classes::X87 => 0,
             Classes::Nothing => 0,
             Classes::One(Class::Integer) => 0,
             Classes::One(Class::Sse) => 1,
@@ -165,12 +218,17 @@ fn class_from(has_integer: bool) -> Class
 
 fn classes_of_struct(ty: &CheckedType<'_>) -> Classes
     requires { is_aggregate ty.now ≡ true }
-    ensures memory { is_memory result ≡ in_memory ty.now }
+    ensures memory { is_memory result ≡ is_class_memory ty.now }
+    ensures x87 { is_memory result ≡ false → is_x87 result ≡ is_class_x87 ty.now }
+    ensures passed { is_in_memory result ≡ in_memory ty.now }
     ensures all { class_list result ≡ classes ty.now }
 {
     let size = ty.size();
-    if size > 16 {
+    if has_class_memory(ty, size) {
         return Classes::Memory;
+    }
+    if has_class_x87(ty) {
+        return Classes::X87;
     }
     let found = integers_in(ty);
     if size > 8 {
@@ -184,7 +242,9 @@ fn classes_of_struct(ty: &CheckedType<'_>) -> Classes
 
 /// The classes of a value's eightbytes. A scalar is its own only leaf.
 fn classes_of(ty: &CheckedType<'_>) -> Classes
-    ensures memory { is_memory result ≡ in_memory ty.now }
+    ensures memory { is_memory result ≡ is_class_memory ty.now }
+    ensures x87 { is_memory result ≡ false → is_x87 result ≡ is_class_x87 ty.now }
+    ensures passed { is_in_memory result ≡ in_memory ty.now }
     ensures all { class_list result ≡ classes ty.now }
 {
     match ty.as_type() {
@@ -192,6 +252,8 @@ fn classes_of(ty: &CheckedType<'_>) -> Classes
         FfiType::U32 | FfiType::S32 | FfiType::U64 | FfiType::S64 => Classes::One(Class::Integer),
         FfiType::Pointer => Classes::One(Class::Integer),
         FfiType::U128 | FfiType::S128 => Classes::Two(Class::Integer, Class::Integer),
+        FfiType::Binary128 => Classes::Two(Class::Integer, Class::Integer),
+        FfiType::X87 => Classes::X87,
         FfiType::Float | FfiType::Double => Classes::One(Class::Sse),
         FfiType::Struct(_) | FfiType::Array(_, _) => classes_of_struct(ty),
         FfiType::Void | FfiType::LongDouble | FfiType::Complex | FfiType::Vector => {
@@ -238,7 +300,7 @@ fn register_pieces(
     ensures { IfOk result (λ p. p ≡ register_pieces (slice_index registers.now) general vector ty.now [] (classes ty.now)) }
 {
     match found {
-        Classes::Memory => Ok(Pieces::new(alloc)),
+        Classes::Memory | Classes::X87 => Ok(Pieces::new(alloc)),
         Classes::Nothing => Ok(Pieces::new(alloc)),
         Classes::One(class) => {
             let at = register(class, general, vector, registers);
@@ -280,7 +342,7 @@ fn place_argument(alloc: Global, before: Taken, ty: &CheckedType<'_>) -> Result<
     let found = classes_of(ty);
     let general = before.general + found.integers();
     let vector = before.vector + found.sses();
-    if !found.is_memory() && general <= 6 && vector <= 8 {
+    if !found.is_in_memory() && general <= 6 && vector <= 8 {
         return argument_in_registers(alloc, before, ty, found);
     }
     argument_on_stack(alloc, before, ty)
@@ -355,7 +417,7 @@ struct Placed {
 
 /// The address of a result in memory takes the first general register.
 fn taken_at_first(returned: Classes) -> Taken
-    ensures value { (t : Tree) → is_memory returned ≡ in_memory t → result ≡ taken_at_first t }
+    ensures value { (t : Tree) → is_memory returned ≡ is_class_memory t → result ≡ taken_at_first t }
     ensures few { result.general ≤ 1 }
 {
     Taken {
@@ -366,8 +428,8 @@ fn taken_at_first(returned: Classes) -> Taken
 }
 
 /// The places of all arguments, if the result has the classes `returned`.
-fn place_all(alloc: Global, sig: &CheckedSig<'_>, returned: Classes) -> Result<Placed, NoMemory>
-    requires { is_memory returned ≡ in_memory sig.now.result_type }
+fn place_all(alloc: Global, sig: &PlacedSig<'_>, returned: Classes) -> Result<Placed, NoMemory>
+    requires { is_memory returned ≡ is_class_memory sig.now.result_type }
     ensures places { IfOk result (λ p. p.places ≡ places_from amd64.copy_start 0 sig.now.arguments (spots_after (taken_at_first sig.now.result_type) sig.now.arguments)) }
     ensures taken { IfOk result (λ p. p.taken ≡ taken_after (taken_at_first sig.now.result_type) sig.now.arguments) }
     ensures low { IfOk result (λ p. p.taken.stack ≤ ARGUMENT_BYTES) }
@@ -386,6 +448,28 @@ fn place_all(alloc: Global, sig: &CheckedSig<'_>, returned: Classes) -> Result<P
     })
 }
 
+/// Leaf `k` of a value in st(k), behind others: its significand, and its sign and exponent.
+fn push_x87(pieces: &mut Pieces, ty: &CheckedType<'_>, k: u32) -> Result<(), NoMemory>
+    requires in_range { k < length (leaves_of ty.now) }
+    requires few { k < 2 }
+    ensures { OnOk result (pieces.new ≡ pieces.old ++ x87_pieces k (leaf_at ty.now k ∷ [])) }
+{
+    pieces.push(part_of_leaf(ty, k, 0, 8, Loc::F(16 + 2 * k as u8)))?;
+    pieces.push(part_of_leaf(ty, k, 8, 2, Loc::F(17 + 2 * k as u8)))
+}
+
+/// A result in x87 registers: a long double in st(0), a complex one in st(0) and st(1).
+fn x87_pieces(alloc: Global, ty: &CheckedType<'_>) -> Result<Pieces, NoMemory>
+    requires { is_class_x87 ty.now ≡ true }
+    ensures { IfOk result (λ p. p ≡ x87_pieces 0 (leaves_of ty.now)) }
+{
+    let mut pieces = Pieces::new(alloc);
+    for k in 0..ty.leaf_count() {
+        push_x87(&mut pieces, ty, k)?;
+    }
+    Ok(pieces)
+}
+
 /// Where a result with the classes `found` stands, if what is before its buffer ends at `end`.
 fn place_result(
     alloc: Global,
@@ -393,7 +477,8 @@ fn place_result(
     found: Classes,
     end: u64,
 ) -> Result<Res, NoMemory>
-    requires memory { is_memory found ≡ in_memory ty.now }
+    requires memory { is_memory found ≡ is_class_memory ty.now }
+    requires x87 { is_memory found ≡ false → is_x87 found ≡ is_class_x87 ty.now }
     requires all { class_list found ≡ classes ty.now }
     requires low { end ≤ 2 * ARGUMENT_BYTES }
     ensures { IfOk result (λ r. r ≡ result_at amd64.copy_start end ty.now (result_spot_of ty.now)) }
@@ -406,6 +491,9 @@ fn place_result(
             at: Loc::G(GENERAL_ARGUMENTS[0]),
             buffer: start(ty, end) as u32,
         });
+    }
+    if found.is_x87() {
+        return Ok(Res::Direct(x87_pieces(alloc, ty)?));
     }
     let pieces = register_pieces(alloc, ty, found, 0, 0, &RESULT_REGISTERS)?;
     Ok(Res::Direct(pieces))
@@ -433,7 +521,7 @@ const ARGUMENT_REGISTERS: [Loc; 14] = [
 ];
 
 /// Where everything stands in a call.
-fn plan_of(alloc: Global, sig: &CheckedSig<'_>) -> Result<Plan, NoMemory>
+fn plan_of(alloc: Global, sig: &PlacedSig<'_>) -> Result<Plan, NoMemory>
     ensures { IfOk result (λ p. p ≡ plan_of amd64 sig.now) }
 {
     let returned = classes_of(&sig.ret());
@@ -498,7 +586,7 @@ impl Abi for Amd64 {
     }
 
     fn plan(alloc: Global, sig: &Sig) -> Result<Plan, NoMemory> {
-        plan_of(alloc, &CheckedSig::of(sig))
+        plan_of(alloc, &PlacedSig::of(sig))
     }
 
     ghost use Rattle.std.specs.Prelude.{refl};
@@ -524,7 +612,7 @@ impl Abi for Amd64 {
 
     ghost by_stubs = { λ _. with_stubs };
 
-    ghost result_by_stubs = { λ s _. result_with_stubs s };
+    ghost result_by_stubs = { λ s plain _. result_with_stubs s plain };
 
     ghost sound = { every_law };
 

@@ -1,9 +1,9 @@
 -- Structs of equal layout are placed alike.
-use Rattle.std.proofs.Common.{◌≡◌, ℕ, zero, suc, ◌+◌, ◌*◌, ◌/◌, not, ◌&&◌, cond, List, [], ◌∷◌, ◌++◌, length, refl, ap, ◌∙◌}
+use Rattle.std.proofs.Common.{◌≡◌, ℕ, zero, suc, ◌+◌, ◌*◌, ◌/◌, false, not, ◌&&◌, ◌||◌, cond, List, [], ◌∷◌, ◌++◌, length, refl, ap, ◌∙◌}
 use Rattle.std.specs.Prelude.{nat_lt, nat_le}
 use Rattle.std.specs.List.{list_any, count_by}
 use Rattle.ffi3_type_rules.specs.Tree.{Tree, structure, Trees}
-use Rattle.ffi3_type_rules.specs.Layout.{Layout, layout, size_of}
+use Rattle.ffi3_type_rules.specs.Layout.{Layout, layout, size_of, leaves_of}
 use Rattle.ffi3_type_rules.specs.Signature.{Signature}
 use Rattle.ffi3_place_rules.specs.declared.Loc.TheVariants.{G, S}
 use Rattle.ffi3_place_rules.specs.declared.Ext.TheVariants.{Free}
@@ -14,7 +14,7 @@ use Rattle.ffi3_place_rules.specs.Alike.{AreAlike, same_type, same_layout, AllAl
 use Rattle.ffi3_place_rules.proofs.Alike.{plan_alike, size_alike, start_alike}
 use Rattle.ffi3_amd64_rules.specs.declared.Class.{Class}
 use Rattle.ffi3_amd64_rules.specs.declared.Class.TheVariants.{Integer, Sse}
-use Rattle.ffi3_amd64_rules.specs.Amd64.{is_integer_class, is_sse_class, is_integer_leaf_in, class_of, in_memory, classes_from, classes, integers, sses, general_argument, result_register, register_of, register_pieces, in_registers, stack_start, stack_end, taken_with, argument_pieces, spot_after, spots_after, taken_after, taken_at_first, result_spot_of, placing_of, amd64}
+use Rattle.ffi3_amd64_rules.specs.Amd64.{is_integer_class, is_sse_class, is_integer_leaf_in, class_of, is_one_x87, is_class_x87, is_class_memory, in_memory, x87_pieces, result_pieces, classes_from, classes, integers, sses, general_argument, result_register, register_of, register_pieces, in_registers, stack_start, stack_end, taken_with, argument_pieces, spot_after, spots_after, taken_after, taken_at_first, result_spot_of, placing_of, amd64}
 
 -- ---- structs
 
@@ -27,12 +27,21 @@ module _ (ts us : Trees) (e : layout (structure ts) ≡ layout (structure us)) w
   classes_from_alike j (suc n) =
       ap (λ c. c ∷ classes_from (structure ts) (j + 1) n) (class_alike j) ∙ ap (λ cs. class_of (structure us) j ∷ cs) (classes_from_alike (j + 1) n)
 
+  struct_hidden_alike : is_class_memory (structure ts) ≡ is_class_memory (structure us)
+  struct_hidden_alike = ap (λ (l : Layout). nat_lt 16 l.size) e
+
+  struct_x87_alike : is_class_x87 (structure ts) ≡ is_class_x87 (structure us)
+  struct_x87_alike = ap (λ (l : Layout). is_one_x87 l.leaves || false) e
+
   struct_memory_alike : in_memory (structure ts) ≡ in_memory (structure us)
-  struct_memory_alike = ap (λ (l : Layout). nat_lt 16 l.size) e
+  struct_memory_alike =
+      ap (λ b. b || is_class_x87 (structure ts)) struct_hidden_alike ∙ ap (λ b. is_class_memory (structure us) || b) struct_x87_alike
 
   struct_classes_alike : classes (structure ts) ≡ classes (structure us)
   struct_classes_alike =
-      ap (λ (l : Layout). cond (nat_lt 16 l.size) [] (classes_from (structure ts) 0 ((l.size + 7) / 8))) e ∙ ap (λ cs. cond (nat_lt 16 (size_of (structure us))) [] cs) (classes_from_alike 0 ((size_of (structure us) + 7) / 8))
+      ap (λ b. cond b [] (classes_from (structure ts) 0 ((size_of (structure ts) + 7) / 8))) struct_memory_alike
+      ∙ ap (λ (l : Layout). cond (in_memory (structure us)) [] (classes_from (structure ts) 0 ((l.size + 7) / 8))) e
+      ∙ ap (λ cs. cond (in_memory (structure us)) [] cs) (classes_from_alike 0 ((size_of (structure us) + 7) / 8))
 
   struct_pieces_alike : (general : ℕ → ℕ) (g f : ℕ) (earlier cs : List Class) → register_pieces general g f (structure ts) earlier cs ≡ register_pieces general g f (structure us) earlier cs
   struct_pieces_alike general g f earlier [] = refl
@@ -48,22 +57,30 @@ module _ (ts us : Trees) (e : layout (structure ts) ≡ layout (structure us)) w
 record ShowsTheSame (t u : Tree) : Type 0 where
   size : size_of t ≡ size_of u
   begins : (end : ℕ) → stack_start end t ≡ stack_start end u
+  hidden : is_class_memory t ≡ is_class_memory u
   memory : in_memory t ≡ in_memory u
   word_classes : classes t ≡ classes u
   pieces : (general : ℕ → ℕ) (g f : ℕ) (cs : List Class) → register_pieces general g f t [] cs ≡ register_pieces general g f u [] cs
   stack : (start : ℕ) → stack_pieces start t ≡ stack_pieces start u
   result : result_spot_of t ≡ result_spot_of u
 
+struct_direct_alike : (ts us : Trees) → layout (structure ts) ≡ layout (structure us) → result_pieces (structure ts) ≡ result_pieces (structure us)
+struct_direct_alike ts us e =
+    ap (λ b. cond b (x87_pieces 0 (leaves_of (structure ts))) (register_pieces result_register 0 0 (structure ts) [] (classes (structure ts)))) (struct_x87_alike ts us e)
+    ∙ ap (λ (l : Layout). cond (is_class_x87 (structure us)) (x87_pieces 0 l.leaves) (register_pieces result_register 0 0 (structure ts) [] (classes (structure ts)))) e
+    ∙ ap (λ cs. cond (is_class_x87 (structure us)) (x87_pieces 0 (leaves_of (structure us))) (register_pieces result_register 0 0 (structure ts) [] cs)) (struct_classes_alike ts us e)
+    ∙ ap (λ ps. cond (is_class_x87 (structure us)) (x87_pieces 0 (leaves_of (structure us))) ps) (struct_pieces_alike ts us e result_register 0 0 [] (classes (structure us)))
+
 struct_result_alike : (ts us : Trees) → layout (structure ts) ≡ layout (structure us) → result_spot_of (structure ts) ≡ result_spot_of (structure us)
 struct_result_alike ts us e =
-    ap (λ b. cond b (in_buffer (G (general_argument 0))) (in_result_pieces (register_pieces result_register 0 0 (structure ts) [] (classes (structure ts))))) (struct_memory_alike ts us e)
-    ∙ ap (λ cs. cond (in_memory (structure us)) (in_buffer (G (general_argument 0))) (in_result_pieces (register_pieces result_register 0 0 (structure ts) [] cs))) (struct_classes_alike ts us e)
-    ∙ ap (λ ps. cond (in_memory (structure us)) (in_buffer (G (general_argument 0))) (in_result_pieces ps)) (struct_pieces_alike ts us e result_register 0 0 [] (classes (structure us)))
+    ap (λ b. cond b (in_buffer (G (general_argument 0))) (in_result_pieces (result_pieces (structure ts)))) (struct_hidden_alike ts us e)
+    ∙ ap (λ ps. cond (is_class_memory (structure us)) (in_buffer (G (general_argument 0))) (in_result_pieces ps)) (struct_direct_alike ts us e)
 
 shows : (t u : Tree) → AreAlike t u → ShowsTheSame t u
 shows t u same_type = record {
   size = refl;
   begins = λ end. refl;
+  hidden = refl;
   memory = refl;
   word_classes = refl;
   pieces = λ general g f cs. refl;
@@ -73,6 +90,7 @@ shows t u same_type = record {
 shows t u (same_layout {ts = ts} {us = us} e) = record {
   size = size_alike (structure ts) (structure us) (same_layout e);
   begins = λ end. start_alike end (structure ts) (structure us) (same_layout e);
+  hidden = struct_hidden_alike ts us e;
   memory = struct_memory_alike ts us e;
   word_classes = struct_classes_alike ts us e;
   pieces = λ general g f cs. struct_pieces_alike ts us e general g f [] cs;
@@ -129,7 +147,7 @@ all_taken_alike (t ∷ ts) (u ∷ us) h before =
 placing_alike : (s r : Signature) → SignaturesAreAlike s r → placing_of s ≡ placing_of r
 placing_alike s r h =
     let result = shows s.result_type r.result_type h.result_type in
-    let first : taken_at_first s.result_type ≡ taken_at_first r.result_type = ap (λ b. record { general = cond b 1 0; vector = 0; stack = 0 }) result.memory in
+    let first : taken_at_first s.result_type ≡ taken_at_first r.result_type = ap (λ b. record { general = cond b 1 0; vector = 0; stack = 0 }) result.hidden in
     let spots : spots_after (taken_at_first s.result_type) s.arguments ≡ spots_after (taken_at_first r.result_type) r.arguments = ap (λ b. spots_after b s.arguments) first ∙ spots_alike s.arguments r.arguments h.arguments (taken_at_first r.result_type) in
     let taken : taken_after (taken_at_first s.result_type) s.arguments ≡ taken_after (taken_at_first r.result_type) r.arguments = ap (λ b. taken_after b s.arguments) first ∙ all_taken_alike s.arguments r.arguments h.arguments (taken_at_first r.result_type) in
     let spot = result.result in

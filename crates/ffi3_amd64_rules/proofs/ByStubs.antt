@@ -1,7 +1,7 @@
 -- The standard's calls can lead through the stubs of its target.
 use Rattle.std.proofs.Common.{refl}
 use Rattle.ffi3_type_rules.specs.declared.Isa.TheVariants.{Amd64}
-use Rattle.ffi3_type_rules.specs.Signature.{Signature}
+use Rattle.ffi3_type_rules.specs.Signature.{Signature, HasNoLongDouble}
 use Rattle.ffi3_place_rules.specs.declared.Loc.TheVariants.{G}
 use Rattle.ffi3_place_rules.specs.Isa.{closure_register, call_loads, call_scratch, entry_scratch, entry_stores, to_list, result_loads}
 use Rattle.ffi3_place_rules.specs.ByStubs.{stub_scratch, AgreesWithStubs, ResultGoesByStubs}
@@ -25,5 +25,5 @@ by_stubs = record {
   closure_kept = none_of (entry_scratch Amd64) (G (closure_register Amd64)) refl;
 }
 
-pub result_by_stubs : (s : Signature) → ResultGoesByStubs amd64 s
-result_by_stubs s = record { loaded = result_loaded s; hidden = hidden_saved s }
+pub result_by_stubs : (s : Signature) → HasNoLongDouble s → ResultGoesByStubs amd64 s
+result_by_stubs s plain = record { loaded = result_loaded s plain; hidden = hidden_saved s }

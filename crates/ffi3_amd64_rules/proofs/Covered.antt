@@ -1,12 +1,12 @@
 -- The pieces of a value have every byte of its leaves.
-use Rattle.std.proofs.Common.{◌≡◌, ℕ, zero, suc, ◌+◌, ◌*◌, ◌<◌, ◌≤◌, Bool, true, false, not, ◌&&◌, cond, ltb, leb, List, [], ◌∷◌, ◌++◌, length, ap, refl, arith, ⊎_elim}
+use Rattle.std.proofs.Common.{◌≡◌, ℕ, zero, suc, ◌+◌, ◌*◌, ◌<◌, ◌≤◌, Bool, true, false, not, ◌&&◌, ◌||◌, cond, ltb, leb, List, [], ◌∷◌, ◌++◌, length, ap, refl, arith, ⊎_elim}
 use Rattle.std.specs.List.{AllByRecursion, Any, count_by}
 use Rattle.std.proofs.lemmas.List.{length_push}
 use Rattle.std.proofs.lemmas.List.Sums.{count_by-le-length}
-use Rattle.std.proofs.lemmas.Bool.{cases_lt, ltb-false, leb-true}
-use Rattle.ffi3_type_rules.specs.Tree.{Tree, void, scalar, left_out, structure, array}
+use Rattle.std.proofs.lemmas.Bool.{cases_lt, ltb-false, leb-true, or_parts}
+use Rattle.ffi3_type_rules.specs.Tree.{Tree, void, scalar, left_out, structure, array, is_complex}
 use Rattle.ffi3_type_rules.specs.Layout.{size_of}
-use Rattle.ffi3_type_rules.proofs.Layouts.{scalar_size-bounds}
+use Rattle.ffi3_type_rules.proofs.Layouts.{scalar_room-bounds}
 use Rattle.ffi3_place_rules.specs.declared.Taken.{Taken}
 use Rattle.ffi3_place_rules.specs.Standard.{places_from}
 use Rattle.ffi3_place_rules.specs.Doublewords.{widening, stack_pieces}
@@ -17,7 +17,7 @@ use Rattle.ffi3_place_rules.proofs.Covered.{covers_leaves, any_later}
 use Rattle.ffi3_place_rules.proofs.Doublewords.{widening_suits, doubleword_is_piece, stack_has_all}
 use Rattle.ffi3_amd64_rules.specs.declared.Class.{Class}
 use Rattle.ffi3_amd64_rules.specs.declared.Class.TheVariants.{Integer, Sse}
-use Rattle.ffi3_amd64_rules.specs.Amd64.{is_integer_class, is_sse_class, classes, classes_from, eightbytes, integers, sses, in_memory, general_argument, register_of, register_pieces, in_registers, stack_start, taken_with, argument_pieces, spots_after}
+use Rattle.ffi3_amd64_rules.specs.Amd64.{is_integer_class, is_sse_class, classes, classes_from, eightbytes, integers, sses, in_memory, is_class_x87, general_argument, register_of, register_pieces, in_registers, stack_start, taken_with, argument_pieces, spots_after}
 
 module _ (general : ℕ → ℕ) (g f : ℕ) (t : Tree) where
   registers_carry : (o : ℕ) (earlier cs : List Class) → 8 * length earlier ≤ o → o < 8 * (length earlier + length cs) → o < size_of t → Any (Carries o) (register_pieces general g f t earlier cs)
@@ -27,7 +27,7 @@ module _ (general : ℕ → ℕ) (g f : ℕ) (t : Tree) where
       (λ h. any_later (Carries o) _ _ (registers_carry o (earlier ++ c ∷ []) cs (omega (arith, length_push earlier c)) (omega (arith, length_push earlier c)) fits))
       (cases_lt o (8 * length earlier + 8))
 
-  in_one_word : (earlier : List Class) (c : Class) → IsWhole (register_of general g f earlier c)
+  pub in_one_word : (earlier : List Class) (c : Class) → IsWhole (register_of general g f earlier c)
   in_one_word earlier Integer = refl
   in_one_word earlier Sse = refl
 
@@ -49,16 +49,26 @@ length-classes_from t j zero = refl
 length-classes_from t j (suc n) = ap suc (length-classes_from t (j + 1) n)
 
 -- a value that isn't in memory has at most two eightbytes
-few_if : (t : Tree) (b : Bool) → ltb 16 (size_of t) ≡ b → length (cond b [] (classes_from t 0 (eightbytes t))) ≤ 2
-few_if t true e = omega arith
-few_if t false e = omega (arith, ltb-false 16 (size_of t) e, length-classes_from t 0 (eightbytes t))
+memory_if : (complex large : Bool) → ((not complex && large) || complex) ≡ false → large ≡ false
+memory_if true large e = cc
+memory_if false true e = cc
+memory_if false false e = refl
+
+pub in_two : (t : Tree) → in_memory t ≡ false → size_of t ≤ 16
+in_two void e = omega arith
+in_two (scalar s) e = (scalar_room-bounds s).1
+in_two (left_out k) e = omega arith
+in_two (structure ts) e =
+    omega (arith, ltb-false 16 (size_of (structure ts)) (or_parts (ltb 16 (size_of (structure ts))) (is_class_x87 (structure ts)) e).0)
+in_two (array ts n) e =
+    omega (arith, ltb-false 16 (size_of (array ts n)) (memory_if (is_complex ts n) (ltb 16 (size_of (array ts n))) e))
+
+few_if : (t : Tree) (b : Bool) → (b ≡ false → size_of t ≤ 16) → length (cond b [] (classes_from t 0 (eightbytes t))) ≤ 2
+few_if t true small = omega arith
+few_if t false small = omega (arith, small refl, length-classes_from t 0 (eightbytes t))
 
 pub classes_few : (t : Tree) → length (classes t) ≤ 2
-classes_few void = omega arith
-classes_few (scalar s) = omega (arith, length-classes_from (scalar s) 0 (eightbytes (scalar s)), scalar_size-bounds s)
-classes_few (left_out k) = omega arith
-classes_few (structure ts) = few_if (structure ts) (ltb 16 (size_of (structure ts))) refl
-classes_few (array ts n) = few_if (array ts n) (ltb 16 (size_of (array ts n))) refl
+classes_few t = few_if t (in_memory t) (in_two t)
 
 pub classes_when : (t : Tree) → in_memory t ≡ false → length (classes t) ≡ eightbytes t
 classes_when t e = rw e (length-classes_from t 0 (eightbytes t))

@@ -14,7 +14,7 @@ use Rattle.ffi3_place_rules.specs.Standard.{Spot, in_pieces, ResultSpot, no_resu
 use Rattle.ffi3_place_rules.specs.Doublewords.{stack_pieces}
 use Rattle.ffi3_place_rules.specs.Framed.{copied_before, copied_end, IsFramedByEnds}
 use Rattle.ffi3_place_rules.proofs.Framed.{framed_by_ends, framed_once}
-use Rattle.ffi3_amd64_rules.specs.Amd64.{amd64, integers, sses, classes, in_memory, in_registers, register_pieces, general_argument, result_register, stack_start, stack_end, taken_with, taken_after, taken_at_first, argument_pieces, spot_after, spots_after, result_spot_of}
+use Rattle.ffi3_amd64_rules.specs.Amd64.{amd64, integers, sses, classes, is_class_memory, in_registers, register_pieces, result_pieces, general_argument, stack_start, stack_end, taken_with, taken_after, taken_at_first, argument_pieces, spot_after, spots_after, result_spot_of}
 use Rattle.ffi3_amd64_rules.specs.Ends.{general_before, vector_before, stack_before, taken_before, AreChosenBySums, arguments_end, IsByEnds, IsPlacedByEnds}
 
 -- what the arguments before number i take
@@ -107,36 +107,36 @@ module _ (s : Signature) (p q : ℕ → Bool) (by_p : AreChosenBySums s p) (by_q
 
 -- ---- a result
 
-result_when : (P : ResultSpot → Type 0) (t : Tree) → (t ≡ void → P no_result) → (in_memory t ≡ true → P (in_buffer (G (general_argument 0)))) → (¬ (t ≡ void) → in_memory t ≡ false → P (in_result_pieces (register_pieces result_register 0 0 t [] (classes t)))) → P (result_spot_of t)
+result_when : (P : ResultSpot → Type 0) (t : Tree) → (t ≡ void → P no_result) → (is_class_memory t ≡ true → P (in_buffer (G (general_argument 0)))) → (¬ (t ≡ void) → is_class_memory t ≡ false → P (in_result_pieces (result_pieces t))) → P (result_spot_of t)
 result_when P t none hidden direct = cases t none hidden direct
   where
-    by_memory : (u : Tree) (b : Bool) → in_memory u ≡ b → ¬ (u ≡ void) → (in_memory u ≡ true → P (in_buffer (G (general_argument 0)))) → (¬ (u ≡ void) → in_memory u ≡ false → P (in_result_pieces (register_pieces result_register 0 0 u [] (classes u)))) → P (cond b (in_buffer (G (general_argument 0))) (in_result_pieces (register_pieces result_register 0 0 u [] (classes u))))
+    by_memory : (u : Tree) (b : Bool) → is_class_memory u ≡ b → ¬ (u ≡ void) → (is_class_memory u ≡ true → P (in_buffer (G (general_argument 0)))) → (¬ (u ≡ void) → is_class_memory u ≡ false → P (in_result_pieces (result_pieces u))) → P (cond b (in_buffer (G (general_argument 0))) (in_result_pieces (result_pieces u)))
     by_memory u true e some hidden direct = hidden e
     by_memory u false e some hidden direct = direct some e
 
-    cases : (u : Tree) → (u ≡ void → P no_result) → (in_memory u ≡ true → P (in_buffer (G (general_argument 0)))) → (¬ (u ≡ void) → in_memory u ≡ false → P (in_result_pieces (register_pieces result_register 0 0 u [] (classes u)))) → P (result_spot_of u)
+    cases : (u : Tree) → (u ≡ void → P no_result) → (is_class_memory u ≡ true → P (in_buffer (G (general_argument 0)))) → (¬ (u ≡ void) → is_class_memory u ≡ false → P (in_result_pieces (result_pieces u))) → P (result_spot_of u)
     cases void none hidden direct = none refl
     cases (scalar k) none hidden direct =
-        by_memory (scalar k) (in_memory (scalar k)) refl (λ e. cc) hidden direct
+        by_memory (scalar k) (is_class_memory (scalar k)) refl (λ e. cc) hidden direct
     cases (left_out k) none hidden direct =
-        by_memory (left_out k) (in_memory (left_out k)) refl (λ e. cc) hidden direct
+        by_memory (left_out k) (is_class_memory (left_out k)) refl (λ e. cc) hidden direct
     cases (structure ts) none hidden direct =
-        by_memory (structure ts) (in_memory (structure ts)) refl (λ e. cc) hidden direct
+        by_memory (structure ts) (is_class_memory (structure ts)) refl (λ e. cc) hidden direct
     cases (array ts n) none hidden direct =
-        by_memory (array ts n) (in_memory (array ts n)) refl (λ e. cc) hidden direct
+        by_memory (array ts n) (is_class_memory (array ts n)) refl (λ e. cc) hidden direct
 
-spot_of_memory : (t : Tree) → in_memory t ≡ true → result_spot_of t ≡ in_buffer (G (general_argument 0))
+spot_of_memory : (t : Tree) → is_class_memory t ≡ true → result_spot_of t ≡ in_buffer (G (general_argument 0))
 spot_of_memory t m =
-    result_when (λ spot. spot ≡ in_buffer (G (general_argument 0))) t (λ e. let small : in_memory t ≡ false = ap in_memory e in cc) (λ _. refl) (λ _ small. cc)
+    result_when (λ spot. spot ≡ in_buffer (G (general_argument 0))) t (λ e. let small : is_class_memory t ≡ false = ap is_class_memory e in cc) (λ _. refl) (λ _ small. cc)
 
-spot_of_registers : (t : Tree) → ¬ (t ≡ void) → in_memory t ≡ false → result_spot_of t ≡ in_result_pieces (register_pieces result_register 0 0 t [] (classes t))
+spot_of_registers : (t : Tree) → ¬ (t ≡ void) → is_class_memory t ≡ false → result_spot_of t ≡ in_result_pieces (result_pieces t)
 spot_of_registers t some small =
-    result_when (λ spot. spot ≡ in_result_pieces (register_pieces result_register 0 0 t [] (classes t))) t (λ e. absurd (some e)) (λ m. cc) (λ _ _. refl)
+    result_when (λ spot. spot ≡ in_result_pieces (result_pieces t)) t (λ e. absurd (some e)) (λ m. cc) (λ _ _. refl)
 
-buffer_ends : (end : ℕ) (t : Tree) → buffer_end start end t (result_spot_of t) ≡ cond (in_memory t) (start end t + round8 (size_of t)) end
+buffer_ends : (end : ℕ) (t : Tree) → buffer_end start end t (result_spot_of t) ≡ cond (is_class_memory t) (start end t + round8 (size_of t)) end
 buffer_ends end t =
-    result_when (λ spot. buffer_end start end t spot ≡ cond (in_memory t) (start end t + round8 (size_of t)) end) t
-    (λ e. sym (ap (λ u. cond (in_memory u) (start end t + round8 (size_of t)) end) e))
+    result_when (λ spot. buffer_end start end t spot ≡ cond (is_class_memory t) (start end t + round8 (size_of t)) end) t
+    (λ e. sym (ap (λ u. cond (is_class_memory u) (start end t + round8 (size_of t)) end) e))
     (λ m. sym (ap (λ b. cond b (start end t + round8 (size_of t)) end) m))
     (λ _ small. sym (ap (λ b. cond b (start end t + round8 (size_of t)) end) small))
 

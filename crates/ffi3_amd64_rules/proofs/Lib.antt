@@ -1,4 +1,5 @@
 pub mod Agrees
+pub mod LongDoubles
 pub mod Covered
 pub mod Filled
 mod Rising

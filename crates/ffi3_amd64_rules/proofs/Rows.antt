@@ -1,9 +1,10 @@
 -- Worked rows, computed.
 use Rattle.std.specs.Prelude.{◌≡◌, [], ◌∷◌, refl, Some, replicate}
-use Rattle.ffi3_type_rules.specs.Tree.{void, scalar, struct_of, array_of, u8, s8, u16, u32, s32, s64, s128, float, double, pointer}
+use Rattle.ffi3_type_rules.specs.Tree.{Tree, void, scalar, struct_of, array_of, u8, s8, u16, u32, s32, s64, s128, float, double, pointer, x87}
 use Rattle.ffi3_type_rules.specs.Layout.{least_multiple}
 use Rattle.ffi3_place_rules.specs.declared.Loc.TheVariants.{G, F, S}
 use Rattle.ffi3_place_rules.specs.declared.Place.TheVariants.{Direct}
+use Rattle.ffi3_place_rules.specs.declared.Res.{Res}
 use Rattle.ffi3_place_rules.specs.declared.Res.TheVariants.{Nothing, Direct as DirectRes, Hidden}
 use Rattle.ffi3_place_rules.specs.Standard.{plan_of, need_of, frame_of, block_bytes}
 use Rattle.ffi3_place_rules.proofs.Worked.{sig_of, at, widened, alone, integer, pair, triple, wide, byte_and_wide, halves}
@@ -214,3 +215,77 @@ pub arrays : plan_of amd64 (sig_of void (struct_of (array_of (scalar u8) 3 ∷ a
 }
 unfolding least_multiple
 arrays = refl
+
+-- ---- long double
+
+abbrev long_double : Tree
+long_double = scalar x87
+
+-- a complex one: two by itself
+abbrev complex : Tree
+complex = array_of long_double 2
+
+-- in st(0); in st(0) and st(1)
+abbrev in_st0 : Res
+in_st0 = DirectRes (at (F 16) 0 8 ∷ at (F 17) 8 2 ∷ [])
+
+abbrev in_st0_and_st1 : Res
+in_st0_and_st1 = DirectRes (at (F 16) 0 8 ∷ at (F 17) 8 2 ∷ at (F 18) 16 8 ∷ at (F 19) 24 2 ∷ [])
+
+-- x87(x87,sint32,struct{x87},complex,sint64): each long double on the stack, at a multiple of 16, and no register is taken
+pub long_doubles : plan_of amd64 (sig_of long_double (long_double ∷ scalar s32 ∷ struct_of (long_double ∷ []) ∷ complex ∷ integer ∷ [])) ≡ record {
+  places = halves (S 0 8) (S 8 8) ∷ Direct (widened (G 7) 4 ∷ []) ∷ halves (S 16 8) (S 24 8) ∷ Direct (at (S 32 8) 0 8 ∷ at (S 40 8) 8 8 ∷ at (S 48 8) 16 8 ∷ at (S 56 8) 24 8 ∷ []) ∷ alone (G 6) ∷ [];
+  res = in_st0;
+  need = 208;
+  frame = 64;
+  block = 80;
+  vectors = 0;
+}
+unfolding least_multiple
+long_doubles = refl
+
+-- seven sint64, a long double and a sint64: a gap of eight bytes before it
+pub long_double_behind_seven : plan_of amd64 (sig_of void (integer ∷ integer ∷ integer ∷ integer ∷ integer ∷ integer ∷ integer ∷ long_double ∷ integer ∷ [])) ≡ record {
+  places = alone (G 7) ∷ alone (G 6) ∷ alone (G 2) ∷ alone (G 1) ∷ alone (G 8) ∷ alone (G 9) ∷ alone (S 0 8) ∷ halves (S 16 8) (S 24 8) ∷ alone (S 32 8) ∷ [];
+  res = Nothing;
+  need = 192;
+  frame = 48;
+  block = 80;
+  vectors = 0;
+}
+unfolding least_multiple
+long_double_behind_seven = refl
+
+-- struct{struct{x87}}, struct{x87[1]}
+pub struct_of_one : plan_of amd64 (sig_of (struct_of (struct_of (long_double ∷ []) ∷ [])) []) ≡ record { places = []; res = in_st0; need = 64; frame = 0; block = 0; vectors = 0 }
+unfolding least_multiple
+struct_of_one = refl
+
+pub array_of_one : plan_of amd64 (sig_of (struct_of (array_of long_double 1 ∷ [])) []) ≡ record { places = []; res = in_st0; need = 64; frame = 0; block = 0; vectors = 0 }
+unfolding least_multiple
+array_of_one = refl
+
+-- a complex one; but not a struct of two, nor of a complex one
+pub complex_result : plan_of amd64 (sig_of complex []) ≡ record { places = []; res = in_st0_and_st1; need = 64; frame = 0; block = 0; vectors = 0 }
+unfolding least_multiple
+complex_result = refl
+
+pub hidden_pair : plan_of amd64 (sig_of (struct_of (long_double ∷ long_double ∷ [])) []) ≡ record { places = []; res = Hidden (G 7) 0; need = 96; frame = 32; block = 0; vectors = 0 }
+unfolding least_multiple
+hidden_pair = refl
+
+pub hidden_complex : plan_of amd64 (sig_of (struct_of (complex ∷ [])) []) ≡ record { places = []; res = Hidden (G 7) 0; need = 96; frame = 32; block = 0; vectors = 0 }
+unfolding least_multiple
+hidden_complex = refl
+
+-- struct{float,x87}(struct{sint32,x87},double): class MEMORY
+pub long_double_beside : plan_of amd64 (sig_of (struct_of (scalar float ∷ long_double ∷ [])) (struct_of (scalar s32 ∷ long_double ∷ []) ∷ scalar double ∷ [])) ≡ record {
+  places = Direct (at (S 0 8) 0 8 ∷ at (S 8 8) 8 8 ∷ at (S 16 8) 16 8 ∷ at (S 24 8) 24 8 ∷ []) ∷ alone (F 0) ∷ [];
+  res = Hidden (G 7) 32;
+  need = 176;
+  frame = 64;
+  block = 48;
+  vectors = 1;
+}
+unfolding least_multiple
+long_double_beside = refl

@@ -15,7 +15,7 @@ use Rattle.ffi3_place_rules.specs.Standard.{doubleword, places_from, copies_end,
 use Rattle.ffi3_place_rules.specs.Doublewords.{widening}
 use Rattle.ffi3_place_rules.proofs.Elements.{leaf_read, argument_read}
 use Rattle.ffi3_amd64_rules.specs.declared.Class.{Class}
-use Rattle.ffi3_amd64_rules.specs.Amd64.{amd64, is_integer_leaf_in, class_of, classes_from, classes, in_memory, general_argument, result_register, register_of, register_pieces, taken_with, taken_after, argument_pieces, spots_after, result_spot_of, integers, sses, in_registers, stack_end}
+use Rattle.ffi3_amd64_rules.specs.Amd64.{amd64, is_integer_leaf_in, class_of, classes_from, in_memory, is_class_memory, general_argument, result_pieces, register_of, register_pieces, taken_with, taken_after, argument_pieces, spots_after, result_spot_of, integers, sses, in_registers, stack_end}
 use Rattle.ffi3_amd64_rules.proofs.Covered.{length-classes_from}
 
 -- ---- leaves
@@ -97,18 +97,18 @@ ends_without_copies start end a (t ∷ ts) = ends_without_copies start end (take
 
 -- ---- results
 
-pub spot_of_memory : (t : Tree) → in_memory t ≡ true → result_spot_of t ≡ in_buffer (G (general_argument 0))
+pub spot_of_memory : (t : Tree) → is_class_memory t ≡ true → result_spot_of t ≡ in_buffer (G (general_argument 0))
 spot_of_memory void e = cc
 spot_of_memory (scalar s) e = cc
 spot_of_memory (left_out k) e = cc
 spot_of_memory (structure ts) e = rw e refl
 spot_of_memory (array ts n) e = rw e refl
 
-spot_if : (t : Tree) → in_memory t ≡ false → cond (in_memory t) (in_buffer (G (general_argument 0))) (in_result_pieces (register_pieces result_register 0 0 t [] (classes t))) ≡ in_result_pieces (register_pieces result_register 0 0 t [] (classes t))
+spot_if : (t : Tree) → is_class_memory t ≡ false → cond (is_class_memory t) (in_buffer (G (general_argument 0))) (in_result_pieces (result_pieces t)) ≡ in_result_pieces (result_pieces t)
 spot_if t e =
-    ap (λ b. cond b (in_buffer (G (general_argument 0))) (in_result_pieces (register_pieces result_register 0 0 t [] (classes t)))) e
+    ap (λ b. cond b (in_buffer (G (general_argument 0))) (in_result_pieces (result_pieces t))) e
 
-pub spot_of_registers : (t : Tree) → ¬ (t ≡ void) → in_memory t ≡ false → result_spot_of t ≡ in_result_pieces (register_pieces result_register 0 0 t [] (classes t))
+pub spot_of_registers : (t : Tree) → ¬ (t ≡ void) → is_class_memory t ≡ false → result_spot_of t ≡ in_result_pieces (result_pieces t)
 spot_of_registers void some e = absurd (some refl)
 spot_of_registers (scalar s) some e = refl
 spot_of_registers (left_out k) some e = refl

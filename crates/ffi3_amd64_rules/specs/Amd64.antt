@@ -1,10 +1,10 @@
 -- Where the arguments and the result of a call stand on AMD64. (System V psABI AMD64 3.2.3, "Parameter Passing" and "Returning of Values")
 use Rattle.std.specs.Prelude.{ℕ, zero, suc, ◌+◌, ◌*◌, Bool, true, false, not, ◌&&◌, cond, nat_le, nat_lt, List, [], ◌∷◌}
-use Rattle.std.specs.Prelude.{◌++◌, map, get_or, length, Some}
+use Rattle.std.specs.Prelude.{◌++◌, map, get_or, length, Some, ◌||◌}
 use Rattle.std.specs.List.{list_any, count_by}
 use Rattle.ffi3_type_rules.specs.declared.Isa.TheVariants as isa
 use Rattle.ffi3_type_rules.specs.declared.Target.TheVariants as target
-use Rattle.ffi3_type_rules.specs.Tree.{Tree, void, scalar, left_out, structure, array}
+use Rattle.ffi3_type_rules.specs.Tree.{Tree, void, scalar, left_out, structure, array, Scalar, x87, is_complex}
 use Rattle.ffi3_type_rules.specs.Layout.{Leaf, leaves_of, size_of, scalar_size}
 use Rattle.ffi3_type_rules.specs.Signature.{Signature}
 use Rattle.ffi3_type_rules.specs.Integer.{is_floating}
@@ -16,7 +16,7 @@ use Rattle.ffi3_place_rules.specs.declared.SaveWord.{SaveWord}
 use Rattle.ffi3_place_rules.specs.declared.SaveWord.TheVariants.{Register, Hidden}
 use Rattle.ffi3_place_rules.specs.declared.Taken.{Taken}
 use Rattle.ffi3_place_rules.specs.Isa.{pushed_bytes, stack_pointer, link_place, reserved_places}
-use Rattle.ffi3_place_rules.specs.Isa.{trampoline_registers}
+use Rattle.ffi3_place_rules.specs.Isa.{trampoline_registers, significand, sign_and_exponent}
 use Rattle.ffi3_place_rules.specs.Standard.{Standard, Placing, Spot, in_pieces, ResultSpot, no_result, in_result_pieces}
 use Rattle.ffi3_place_rules.specs.Standard.{in_buffer, doubleword, round8, start}
 use Rattle.ffi3_place_rules.specs.Doublewords.{doublewords, widening, stack_pieces}
@@ -42,7 +42,7 @@ is_integer_leaf_in j l = lies_in_eightbyte j l && not (is_floating l.kind)
 abbrev pub class_of : Tree → ℕ → Class
 class_of t j = cond (list_any (is_integer_leaf_in j) (leaves_of t)) Integer Sse
 
--- aggregates: structs, and arrays, which are neither arguments nor results by themselves (Classification of aggregates)
+-- aggregates: structs, and arrays, of which only one that stands for a complex long double is an argument or a result by itself (Classification of aggregates)
 abbrev pub is_aggregate : Tree → Bool
 is_aggregate void = false
 is_aggregate (scalar s) = false
@@ -50,9 +50,45 @@ is_aggregate (left_out k) = false
 is_aggregate (structure ts) = true
 is_aggregate (array ts n) = true
 
--- class MEMORY: a struct over two eightbytes, none of which is SSEUP here (Classification of aggregates, step 5 (c): the post merger cleanup)
+-- ---- long double (its mantissa of 64 bits has class X87, its exponent of 16 and six bytes of padding have class X87UP)
+
+abbrev pub is_x87_scalar : Scalar → Bool
+is_x87_scalar x87 = true
+is_x87_scalar _ = false
+
+-- classes X87 and X87UP: one long double and nothing else, by itself or in a struct (Classification; of aggregates, steps 3 and 4)
+abbrev pub is_one_x87 : List Leaf → Bool
+is_one_x87 (l ∷ []) = is_x87_scalar l.kind
+is_one_x87 _ = false
+
+abbrev pub is_x87 : Tree → Bool
+is_x87 void = false
+is_x87 (scalar s) = is_x87_scalar s
+is_x87 (left_out k) = false
+is_x87 (structure ts) = is_one_x87 (leaves_of (structure ts))
+is_x87 (array ts n) = false
+
+-- class COMPLEX_X87: a complex long double by itself (Classification)
+abbrev pub is_complex_x87 : Tree → Bool
+is_complex_x87 void = false
+is_complex_x87 (scalar s) = false
+is_complex_x87 (left_out k) = false
+is_complex_x87 (structure ts) = false
+is_complex_x87 (array ts n) = is_complex ts n
+
+-- one of these three classes
+abbrev pub is_class_x87 : Tree → Bool
+is_class_x87 t = is_x87 t || is_complex_x87 t
+
+-- ---- memory
+
+-- class MEMORY: an aggregate over two eightbytes, none of which is SSEUP here (Classification of aggregates, step 5 (c): the post merger cleanup)
+abbrev pub is_class_memory : Tree → Bool
+is_class_memory t = is_aggregate t && (not (is_complex_x87 t) && nat_lt 16 (size_of t))
+
+-- passed in memory: class MEMORY (Passing, step 1), and X87, X87UP and COMPLEX_X87 (Passing, step 5)
 abbrev pub in_memory : Tree → Bool
-in_memory t = is_aggregate t && nat_lt 16 (size_of t)
+in_memory t = is_class_memory t || is_class_x87 t
 
 -- how many eightbytes a value takes: its size rounded up (eightbyte is this standard's word for doubleword)
 abbrev pub eightbytes : Tree → ℕ
@@ -148,16 +184,27 @@ taken_after before (t ∷ ts) = taken_after (taken_with before t) ts
 -- The address of a result in memory is a hidden first argument. (Returning of Values, step 2)
 abbrev pub taken_at_first : Tree → Taken
 taken_at_first result_type =
-    record { general = cond (in_memory result_type) 1 0; vector = 0; stack = 0 }
+    record { general = cond (is_class_memory result_type) 1 0; vector = 0; stack = 0 }
 
 -- ---- results
 
--- in the caller's storage for class MEMORY, otherwise in the next registers of each eightbyte's class (Returning of Values, steps 2 to 4)
+-- leaf k of the value in st(k): a long double in st(0), the real part of a complex one in st(0) and the imaginary part in st(1) (Returning of Values, steps 6 to 8)
+abbrev pub x87_pieces : ℕ → List Leaf → List Piece
+x87_pieces k [] = []
+x87_pieces k (l ∷ ls) =
+    record { loc = significand k; off = l.at; len = 8; ext = Free }
+    ∷ record { loc = sign_and_exponent k; off = l.at + 8; len = 2; ext = Free } ∷ x87_pieces (k + 1) ls
+
+-- a result in registers: on the x87 stack, or in the next registers of each eightbyte's class (Returning of Values, steps 3, 4 and 6 to 8)
+abbrev pub result_pieces : Tree → List Piece
+result_pieces t =
+    cond (is_class_x87 t) (x87_pieces 0 (leaves_of t)) (register_pieces result_register 0 0 t [] (classes t))
+
+-- in the caller's storage for class MEMORY, otherwise in registers (Returning of Values, step 2)
 abbrev pub result_spot_of : Tree → ResultSpot
 result_spot_of void = no_result
 result_spot_of t =
-    cond (in_memory t) (in_buffer (G (general_argument 0)))
-    (in_result_pieces (register_pieces result_register 0 0 t [] (classes t)))
+    cond (is_class_memory t) (in_buffer (G (general_argument 0))) (in_result_pieces (result_pieces t))
 
 abbrev pub placing_of : Signature → Placing
 placing_of s = record {

@@ -12,8 +12,8 @@ use Rattle.ffi3_place_rules.specs.declared.Taken.{Taken}
 use Rattle.ffi3_place_rules.specs.Sums.{sum_below, end_below}
 use Rattle.ffi3_place_rules.specs.Doublewords.{stack_pieces}
 use Rattle.ffi3_place_rules.specs.Standard.{plan_of, round8, round16, start}
-use Rattle.ffi3_amd64_rules.specs.Amd64.{amd64, integers, sses, in_memory, in_registers, stack_start, stack_end}
-use Rattle.ffi3_amd64_rules.specs.Amd64.{classes, register_pieces, general_argument, result_register, placing_of}
+use Rattle.ffi3_amd64_rules.specs.Amd64.{amd64, integers, sses, is_class_memory, in_registers, stack_start, stack_end}
+use Rattle.ffi3_amd64_rules.specs.Amd64.{classes, register_pieces, general_argument, result_pieces, placing_of}
 
 -- the sum of the terms below n that are chosen
 abbrev pub sum_where : (ℕ → Bool) → (ℕ → ℕ) → ℕ → ℕ
@@ -25,7 +25,7 @@ module _ (s : Signature) (chosen : ℕ → Bool) where
   -- the INTEGER eightbytes of the arguments in registers before number i, and a hidden result's address
   abbrev pub general_before : ℕ → ℕ
   general_before i =
-      cond (in_memory s.result_type) 1 0 + sum_where chosen (λ j. integers (tree_at s.arguments j)) i
+      cond (is_class_memory s.result_type) 1 0 + sum_where chosen (λ j. integers (tree_at s.arguments j)) i
 
   -- the SSE eightbytes of the arguments in registers before number i
   abbrev pub vector_before : ℕ → ℕ
@@ -58,7 +58,7 @@ module _ (s : Signature) (chosen : ℕ → Bool) where
 
   abbrev pub result_end : ℕ
   result_end =
-      cond (in_memory s.result_type) (buffer_start + round8 (size_of s.result_type)) arguments_end
+      cond (is_class_memory s.result_type) (buffer_start + round8 (size_of s.result_type)) arguments_end
 
 -- ---- all of a call
 
@@ -84,11 +84,11 @@ module _ (s : Signature) where
         (stack_pieces (stack_start (stack_before s chosen i) (tree_at s.arguments i)) (tree_at s.arguments i)))
     -- a function of type void returns nothing
     pub no_result : s.result_type ≡ void → p.res ≡ Nothing
-    -- a result in registers: rax and rdx for INTEGER, xmm0 and xmm1 for SSE (Returning of Values, steps 3 and 4)
-    pub result_in_registers : ¬ (s.result_type ≡ void) → in_memory s.result_type ≡ false
-        → p.res ≡ DirectRes (register_pieces result_register 0 0 s.result_type [] (classes s.result_type))
+    -- a result in registers: rax and rdx for INTEGER, xmm0 and xmm1 for SSE, st(0) and st(1) for X87 and COMPLEX_X87 (Returning of Values, steps 3, 4 and 6 to 8)
+    pub result_in_registers : ¬ (s.result_type ≡ void) → is_class_memory s.result_type ≡ false
+        → p.res ≡ DirectRes (result_pieces s.result_type)
     -- a result in memory: its buffer behind the stack arguments, whose address is passed in rdi (Returning of Values, step 2)
-    pub result_in_memory : in_memory s.result_type ≡ true
+    pub result_in_memory : is_class_memory s.result_type ≡ true
         → p.res ≡ Hidden (G (general_argument 0)) (buffer_start s chosen)
     -- the frame ends behind the buffer, or the stack arguments where there is none, at a multiple of 16 (3.2.2)
     pub frame_end : p.frame ≡ round16 (result_end s chosen)

@@ -20,7 +20,7 @@ use ffi3_place::parts::doubleword;
 use ffi3_place::{Abi, Ext, Loc, Pieces, Place, Places, Plan, SaveWord};
 use ffi3_place_rules::Taken;
 use ffi3_type_rules::round_up;
-use ffi3_types::{CheckedSig, CheckedType, FfiType, NoMemory, Sig, Target};
+use ffi3_types::{CheckedType, FfiType, NoMemory, PlacedSig, Sig, Target};
 pub use laws::placement_laws;
 use std::alloc::Global;
 
@@ -272,7 +272,7 @@ fn place_next(
 }
 
 /// Whether argument `i` is a named one, and no variadic one.
-fn is_named(sig: &CheckedSig<'_>, i: u32) -> bool
+fn is_named(sig: &PlacedSig<'_>, i: u32) -> bool
     ensures { result ≡ is_named sig.now.fixed i }
 {
     match sig.fixed() {
@@ -289,7 +289,7 @@ struct Placed {
 }
 
 /// The places of all arguments; copies have no place yet.
-fn place_all(alloc: Global, sig: &CheckedSig<'_>) -> Result<Placed, NoMemory>
+fn place_all(alloc: Global, sig: &PlacedSig<'_>) -> Result<Placed, NoMemory>
     ensures places { IfOk result (λ p. p.places ≡ map without_copy (spots_after sig.now.fixed untouched 0 sig.now.arguments)) }
     ensures taken { IfOk result (λ p. p.taken ≡ taken_after sig.now.fixed untouched 0 sig.now.arguments) }
     ensures low { IfOk result (λ p. p.taken.stack ≤ MOST_ARGUMENTS * ARGUMENT_SPAN) }
@@ -309,7 +309,7 @@ fn place_all(alloc: Global, sig: &CheckedSig<'_>) -> Result<Placed, NoMemory>
 pub struct Apple;
 
 /// Where everything stands in a call.
-fn plan_of(alloc: Global, sig: &CheckedSig<'_>) -> Result<Plan, NoMemory>
+fn plan_of(alloc: Global, sig: &PlacedSig<'_>) -> Result<Plan, NoMemory>
     ensures { IfOk result (λ p. p ≡ plan_of apple sig.now) }
 {
     let Placed { mut places, taken } = place_all(alloc, sig)?;
@@ -368,7 +368,7 @@ impl Abi for Apple {
     }
 
     fn plan(alloc: Global, sig: &Sig) -> Result<Plan, NoMemory> {
-        plan_of(alloc, &CheckedSig::of(sig))
+        plan_of(alloc, &PlacedSig::of(sig))
     }
 
     ghost use Rattle.std.specs.Prelude.{refl};
@@ -394,7 +394,7 @@ impl Abi for Apple {
 
     ghost by_stubs = { λ _. with_stubs };
 
-    ghost result_by_stubs = { λ s _. result_with_stubs s };
+    ghost result_by_stubs = { λ s plain _. result_with_stubs s plain };
 
     ghost sound = { every_law };
 

@@ -1,5 +1,5 @@
 -- A value that is packed on the stack: its pieces have all of it, rise, are filled, and are a chain of places.
-use Rattle.std.proofs.Common.{◌≡◌, ℕ, zero, suc, ◌+◌, ◌-◌, ◌*◌, ◌/◌, ◌≤◌, min, true, false, arith}
+use Rattle.std.proofs.Common.{◌≡◌, ℕ, zero, suc, ◌+◌, ◌-◌, ◌*◌, ◌/◌, ◌≤◌, min, true, false, refl, arith}
 use Rattle.std.specs.List.{AllByRecursion}
 use Rattle.ffi3_type_rules.specs.Tree.{Tree}
 use Rattle.ffi3_type_rules.specs.Layout.{size_of}
@@ -37,7 +37,7 @@ packed_rise first t =
 doublewords_packed : (std : Standard) (t : Tree) (first size j count : ℕ) → AllByRecursion (IsFilled std t) (doublewords_at (packed_place first size) size Free j count)
 doublewords_packed std t first size j zero = tt
 doublewords_packed std t first size j (suc count) =
-    (record { narrow = λ narrow below. absurd (omega (arith, below)); single = λ floating four. absurd (no_register floating) }, doublewords_packed std t first size (j + 1) count)
+    (record { narrow = λ narrow below. absurd (omega (arith, below)); single = λ floating four. absurd (no_register floating); narrow_place = λ _. refl }, doublewords_packed std t first size (j + 1) count)
   where
     no_register : false ≡ true → ⊥
     no_register e = cc

@@ -23,6 +23,7 @@ use Rattle.ffi3_place_rules.specs.Holds.{Carries, LeavesStand, OwnsArgument, Own
 use Rattle.ffi3_place_rules.specs.Isa.{hidden_register, to_list}
 use Rattle.ffi3_place_rules.specs.Sound.{IsOneOf, IsOnStackOrIn, IsSound, argument_locs, buffer_locs, copy_locs, hidden_locs, place_locs}
 use Rattle.ffi3_type_rules.specs.declared.limits.TheConstants.{STACK, STACK_BYTES, STACK_TOP}
+use Rattle.ffi3_type_rules.proofs.Placed.{faultless_is_plain}
 use Rattle.ffi3_machine.specs.State.{State, image_of, scribbled, stack_at, with_sp}
 use Rattle.ffi3_pieces.specs.Passing.{passing}
 use Rattle.ffi3_pieces.specs.Stored.{IsPlace, SameAt, WroteOnly, WroteWithin, with_journal_of}
@@ -144,10 +145,10 @@ hidden_in n k h Nothing all = tt
 hidden_in n k h (DirectRes pieces) all = tt
 hidden_in n k h (Hidden at buffer) all = lie_more n k h at all.0
 
-pub hidden_in_frame : (std : Standard) (s : Signature) → IsSound std s → AllByRecursion (IsPlace (frame_of std s)) (hidden_locs (plan_of std s).res)
-hidden_in_frame std s sound =
+pub hidden_in_frame : (std : Standard) (s : Signature) → IsSound std s → SignatureHasNoFault s → AllByRecursion (IsPlace (frame_of std s)) (hidden_locs (plan_of std s).res)
+hidden_in_frame std s sound right =
     let p = plan_of std s in
-    each_first (IsPlace (frame_of std s)) (hidden_locs p.res) (flat_map place_locs p.places) (each_first (IsPlace (frame_of std s)) (argument_locs p) (copy_locs s.arguments p.places ++ buffer_locs s.result_type p.res) (call_places std s sound))
+    each_first (IsPlace (frame_of std s)) (hidden_locs p.res) (flat_map place_locs p.places) (each_first (IsPlace (frame_of std s)) (argument_locs p) (copy_locs s.arguments p.places ++ buffer_locs s.result_type p.res) (call_places std s sound right))
 
 -- ---- where a callee's parts stand below an entry
 
@@ -166,9 +167,9 @@ stands std s m entry link save count hidden r entry_is link_is save_is count_is 
   hidden_is = hidden_is ∙ ap hidden_of r_is;
 }
 
-pub hidden_lies : (std : Standard) (s : Signature) (m : State) (base : ℕ) (hidden : Option Loc) → IsSound std s → base ≡ m.sp + std.link → hidden ≡ hidden_of (plan_of std s).res → m.sp + std.link + frame_of std s ≤ STACK_TOP → HiddenLies (STACK_TOP - base) hidden
-hidden_lies std s m base hidden sound base_is hidden_is high =
-    subst (HiddenLies (STACK_TOP - base)) (sym hidden_is) (hidden_in (frame_of std s) (STACK_TOP - base) (omega (arith, base_is, high)) (plan_of std s).res (hidden_in_frame std s sound))
+pub hidden_lies : (std : Standard) (s : Signature) (m : State) (base : ℕ) (hidden : Option Loc) → IsSound std s → SignatureHasNoFault s → base ≡ m.sp + std.link → hidden ≡ hidden_of (plan_of std s).res → m.sp + std.link + frame_of std s ≤ STACK_TOP → HiddenLies (STACK_TOP - base) hidden
+hidden_lies std s m base hidden sound right base_is hidden_is high =
+    subst (HiddenLies (STACK_TOP - base)) (sym hidden_is) (hidden_in (frame_of std s) (STACK_TOP - base) (omega (arith, base_is, high)) (plan_of std s).res (hidden_in_frame std s sound right))
 
 listed_of : (P : Loc → Type 0) (r : Res) → AllByRecursion P (hidden_locs r) → AllByRecursion P (to_list (hidden_of r))
 listed_of P Nothing all = tt
@@ -189,9 +190,9 @@ address_at link room m (Hidden at buffer) low lie own =
     let inside : STACK ≤ m.sp + link = omega (arith, low) in
     sym (any_sp (m.sp + link) (m.sp + link) m at) ∙ sym (image_word (with_sp (m.sp + link) m) room inside at lie.0) ∙ ap (λ n. word_at n 0 at) (sym (image_behind link room m low)) ∙ behind_word link (image_of (link + room) m) at ∙ own
 
-pub address_owned : (std : Standard) (s : Signature) (m : State) (vs : List ValueTree) → IsSound std s → STACK ≤ m.sp → OwnsAtEntry std s m vs → IsAddressOf (m.sp + std.link) (hidden_word (m.sp + std.link) m (hidden_of (plan_of std s).res)) (plan_of std s).res
-address_owned std s m vs sound low own =
-    address_at std.link (frame_of std s) m (plan_of std s).res low (hidden_in_frame std s sound) own.hidden
+pub address_owned : (std : Standard) (s : Signature) (m : State) (vs : List ValueTree) → IsSound std s → SignatureHasNoFault s → STACK ≤ m.sp → OwnsAtEntry std s m vs → IsAddressOf (m.sp + std.link) (hidden_word (m.sp + std.link) m (hidden_of (plan_of std s).res)) (plan_of std s).res
+address_owned std s m vs sound right low own =
+    address_at std.link (frame_of std s) m (plan_of std s).res low (hidden_in_frame std s sound right) own.hidden
 
 behind_hidden : (link room : ℕ) (m : State) (r : Res) → STACK ≤ m.sp → OwnsHidden (image_of (link + room) m) link r → OwnsHidden (image_from (m.sp + link) room m) 0 r
 behind_hidden link room m Nothing low own = tt
@@ -236,24 +237,24 @@ module _ (std : Standard) (s : Signature) (block n : ℕ) (m b c d : State) (low
     floating = λ r some. one_of_each (λ l. SameAt 0 l m (passing b)) (F r) std.argument_registers entered.arguments some;
   }
 
-  owned_between : (vs : List ValueTree) → IsSound std s → OwnsAtEntry std s m vs → OwnsArguments (image_from (m.sp + std.link) (frame_of std s) (passing b)) 0 s.arguments (plan_of std s).places vs
-  owned_between vs sound own =
+  owned_between : (vs : List ValueTree) → IsSound std s → SignatureHasNoFault s → OwnsAtEntry std s m vs → OwnsArguments (image_from (m.sp + std.link) (frame_of std s) (passing b)) 0 s.arguments (plan_of std s).places vs
+  owned_between vs sound right own =
       let p = plan_of std s in
-      arguments_owned 0 0 (IsOnStackOrIn std.argument_registers) (image_from (m.sp + std.link) (frame_of std s) m) (image_from (m.sp + std.link) (frame_of std s) (passing b)) alike s.arguments p.places vs (each_rest (IsOnStackOrIn std.argument_registers) (hidden_locs p.res) (flat_map place_locs p.places) sound.passed) (owned_behind std s m vs (omega (arith, low)) own)
+      arguments_owned 0 0 (IsOnStackOrIn std.argument_registers) (image_from (m.sp + std.link) (frame_of std s) m) (image_from (m.sp + std.link) (frame_of std s) (passing b)) alike s.arguments p.places vs (each_rest (IsOnStackOrIn std.argument_registers) (hidden_locs p.res) (flat_map place_locs p.places) (sound.on_machine (faultless_is_plain s right)).passed) (owned_behind std s m vs (omega (arith, low)) own)
 
   pub found_between : (vs : List ValueTree) → IsSound std s → SignatureHasNoFault s → OwnsAtEntry std s m vs → AreFound (m.sp + std.link) (passing b) (plan_of std s).places
   found_between vs sound right own =
-      found_where_owned std s (m.sp + std.link) (passing b) vs sound right (omega (arith, low)) (owned_between vs sound own)
+      found_where_owned std s (m.sp + std.link) (passing b) vs sound right (omega (arith, low)) (owned_between vs sound right own)
 
   -- a hidden result's address stands where it is passed
-  pub address_between : (vs : List ValueTree) → IsSound std s → OwnsAtEntry std s m vs → IsAddressOf (m.sp + std.link) (hidden_word (m.sp + std.link) (passing b) (hidden_of (plan_of std s).res)) (plan_of std s).res
-  address_between vs sound own =
+  pub address_between : (vs : List ValueTree) → IsSound std s → SignatureHasNoFault s → OwnsAtEntry std s m vs → IsAddressOf (m.sp + std.link) (hidden_word (m.sp + std.link) (passing b) (hidden_of (plan_of std s).res)) (plan_of std s).res
+  address_between vs sound right own =
       let p = plan_of std s in
-      let owned = alikes.address_owned 0 0 (IsOnStackOrIn std.argument_registers) (image_from (m.sp + std.link) (frame_of std s) m) (image_from (m.sp + std.link) (frame_of std s) (passing b)) alike p.res (each_first (IsOnStackOrIn std.argument_registers) (hidden_locs p.res) (flat_map place_locs p.places) sound.passed) (behind_hidden std.link (frame_of std s) m p.res (omega (arith, low)) own.hidden) in
-      address_there (m.sp + std.link) (frame_of std s) (passing b) p.res (omega (arith, low)) (hidden_in_frame std s sound) owned
+      let owned = alikes.address_owned 0 0 (IsOnStackOrIn std.argument_registers) (image_from (m.sp + std.link) (frame_of std s) m) (image_from (m.sp + std.link) (frame_of std s) (passing b)) alike p.res (each_first (IsOnStackOrIn std.argument_registers) (hidden_locs p.res) (flat_map place_locs p.places) (sound.on_machine (faultless_is_plain s right)).passed) (behind_hidden std.link (frame_of std s) m p.res (omega (arith, low)) own.hidden) in
+      address_there (m.sp + std.link) (frame_of std s) (passing b) p.res (omega (arith, low)) (hidden_in_frame std s sound right) owned
 
-  pub received : IsSound std s → WroteOnly block (block + block_bytes s) (passing b) (passing c) → d ≡ scribbled n c → ((vs : List ValueTree) → OwnsArguments (image_from (m.sp + std.link) (frame_of std s) (passing b)) 0 s.arguments (plan_of std s).places vs → arguments_in s.arguments (stack_at block (block_bytes s) (passing c)) ≡ vs) → IsReceived std s m d
-  received sound copies d_is values = record {
+  pub received : IsSound std s → SignatureHasNoFault s → WroteOnly block (block + block_bytes s) (passing b) (passing c) → d ≡ scribbled n c → ((vs : List ValueTree) → OwnsArguments (image_from (m.sp + std.link) (frame_of std s) (passing b)) 0 s.arguments (plan_of std s).places vs → arguments_in s.arguments (stack_at block (block_bytes s) (passing c)) ≡ vs) → IsReceived std s m d
+  received sound right copies d_is values = record {
     values = all;
     saved = kept;
     sp = sp;
@@ -270,7 +271,7 @@ module _ (std : Standard) (s : Signature) (block n : ℕ) (m b c d : State) (low
 
       all : (vs : List ValueTree) → OwnsAtEntry std s m vs → arguments_in s.arguments (stack_at d.sp (block_bytes s) d) ≡ vs
       all vs own =
-          ap (λ q. arguments_in s.arguments (stack_at q (block_bytes s) d)) sp_is ∙ ap (λ q. arguments_in s.arguments (stack_at block (block_bytes s) q)) d_is ∙ values vs (owned_between vs sound own)
+          ap (λ q. arguments_in s.arguments (stack_at q (block_bytes s) d)) sp_is ∙ ap (λ q. arguments_in s.arguments (stack_at block (block_bytes s) q)) d_is ∙ values vs (owned_between vs sound right own)
 
       moved : WroteWithin block (block + block_bytes s) b (with_journal_of b d)
       moved =

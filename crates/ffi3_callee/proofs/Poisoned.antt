@@ -208,7 +208,7 @@ module _ (std : Standard) (s : Signature) (byte : ℕ) (a b : State) (low : STAC
       let p = plan_of std s in record {
         reaches = agree.reaches;
         arguments = arguments_same std.link (frame_of std s) (carries std s) old new agree ForAmd64 s.arguments p.places vs (all_ready std s sound right ForAmd64 (each_writable (argument_locs (plan_of std s)))) (λ m j has. or_right (hidden_has m j p.res) (places_have m j s.arguments p.places) has) own.arguments;
-        hidden = hidden_same std.link (frame_of std s) (carries std s) old new agree p.res (hidden_in_frame std s sound) (λ m j has. or_left (hidden_has m j p.res) (places_have m j s.arguments p.places) has) own.hidden;
+        hidden = hidden_same std.link (frame_of std s) (carries std s) old new agree p.res (hidden_in_frame std s sound right) (λ m j has. or_left (hidden_has m j p.res) (places_have m j s.arguments p.places) has) own.hidden;
       }
 
 -- ---- the return address

@@ -20,7 +20,7 @@ use Rattle.ffi3_place_rules.specs.declared.Res.{Res}
 use Rattle.ffi3_place_rules.specs.declared.Res.TheVariants.{Nothing, Direct as DirectRes, Hidden}
 use Rattle.ffi3_place_rules.specs.Standard.{Standard, ResultSpot, no_result, in_result_pieces, in_buffer, plan_of, frame_of, result_at, buffer_end, frame_copies_end, round8}
 use Rattle.ffi3_place_rules.specs.Holds.{leaf_bytes, FillsAs, FillsResult, HoldsResult, OwnsResult, RegisterHolds}
-use Rattle.ffi3_place_rules.specs.Sound.{IsSound, ResultHasAll, piece_locs, result_locs}
+use Rattle.ffi3_place_rules.specs.Sound.{ResultHasAll, piece_locs, result_locs}
 use Rattle.ffi3_type_rules.specs.declared.limits.TheConstants.{STACK, STACK_BYTES, STACK_TOP}
 use Rattle.ffi3_machine.specs.State.{State, stack_at, with_sp}
 use Rattle.ffi3_pieces.specs.Stored.{IsByteOf, IsPlace, byte_of, word_in, KeepsPadding, KeepsUnused, Stays, WroteWithin}
@@ -32,6 +32,7 @@ use Rattle.ffi3_pieces.proofs.Owning.{owned, filled}
 use Rattle.ffi3_pieces.proofs.Stepping.{same_word_in}
 use Rattle.ffi3_callee.specs.Loaded.{image_from}
 use Rattle.ffi3_place_rules.specs.declared.SaveWord.{SaveWord}
+use Rattle.ffi3_place_rules.proofs.OnMachine.{IsSoundOnMachine}
 use Rattle.ffi3_callee.specs.Saved.{AreSaved, IsToSave, saved_word}
 use Rattle.ffi3_callee.specs.Given.{IsSettable, RegisterHoldsWord, RegistersStay, ResultKeepsUnused, ResultWrites, result_uses}
 use Rattle.ffi3_callee.proofs.Copying.{each_writable, stretch_stays}
@@ -102,21 +103,21 @@ module _ (base : ℕ) (m : State) (t : Tree) (v : ValueTree) where
   )
 
 -- its places are registers
-pub direct_places : (std : Standard) (s : Signature) (pieces : List Piece) → IsSound std s → (plan_of std s).res ≡ DirectRes pieces → AllByRecursion (IsPlace 0) (piece_locs pieces)
+pub direct_places : (std : Standard) (s : Signature) (pieces : List Piece) → IsSoundOnMachine std s → (plan_of std s).res ≡ DirectRes pieces → AllByRecursion (IsPlace 0) (piece_locs pieces)
 direct_places std s pieces sound is =
     subst (λ r. AllByRecursion (IsPlace 0) (result_locs r)) is (machine_places (isa_of std.target) 0 (result_locs (plan_of std s).res) sound.result_in_registers)
 
 -- pieces that stand in registers write nothing on the stack
-pub direct_within : (std : Standard) (s : Signature) (base : ℕ) (pieces : List Piece) (a b : State) → IsSound std s → (plan_of std s).res ≡ DirectRes pieces → ((room : ℕ) → AllByRecursion (IsPlace room) (piece_locs pieces) → WroteWithin base (base + room) a b) → WroteWithin base base a b
+pub direct_within : (std : Standard) (s : Signature) (base : ℕ) (pieces : List Piece) (a b : State) → IsSoundOnMachine std s → (plan_of std s).res ≡ DirectRes pieces → ((room : ℕ) → AllByRecursion (IsPlace room) (piece_locs pieces) → WroteWithin base (base + room) a b) → WroteWithin base base a b
 direct_within std s base pieces a b sound is within =
     let none : base + 0 ≡ base = omega arith in
     subst (λ n. WroteWithin base n a b) none (within 0 (direct_places std s pieces sound is))
 
-pub direct_writes : (std : Standard) (s : Signature) (base : ℕ) (t : Tree) (pieces : List Piece) (a b : State) → IsSound std s → (plan_of std s).res ≡ DirectRes pieces → ((room : ℕ) → AllByRecursion (IsPlace room) (piece_locs pieces) → WroteWithin base (base + room) a b) → ResultWrites base t (plan_of std s).res a b
+pub direct_writes : (std : Standard) (s : Signature) (base : ℕ) (t : Tree) (pieces : List Piece) (a b : State) → IsSoundOnMachine std s → (plan_of std s).res ≡ DirectRes pieces → ((room : ℕ) → AllByRecursion (IsPlace room) (piece_locs pieces) → WroteWithin base (base + room) a b) → ResultWrites base t (plan_of std s).res a b
 direct_writes std s base t pieces a b sound is within =
     subst (λ r. ResultWrites base t r a b) (sym is) (direct_within std s base pieces a b sound is within)
 
-pub direct_held : (std : Standard) (s : Signature) (base : ℕ) (m : State) (v : ValueTree) (pieces : List Piece) → IsSound std s → STACK ≤ base → base + frame_of std s ≤ STACK_TOP → length m.stack ≡ STACK_BYTES → (plan_of std s).res ≡ DirectRes pieces → fits s.result_type v ≡ true → PiecesStand base m s.result_type v pieces → HoldsResult std s v (image_from base (frame_of std s) m)
+pub direct_held : (std : Standard) (s : Signature) (base : ℕ) (m : State) (v : ValueTree) (pieces : List Piece) → IsSoundOnMachine std s → STACK ≤ base → base + frame_of std s ≤ STACK_TOP → length m.stack ≡ STACK_BYTES → (plan_of std s).res ≡ DirectRes pieces → fits s.result_type v ≡ true → PiecesStand base m s.result_type v pieces → HoldsResult std s v (image_from base (frame_of std s) m)
 direct_held std s base m v pieces sound low high sized is fit stands =
     let t = s.result_type in
     let frame = frame_of std s in

@@ -12,12 +12,13 @@ use Rattle.ffi3_place_rules.specs.declared.Loc.TheVariants.{G, F, S}
 use Rattle.ffi3_place_rules.specs.Image.{register}
 use Rattle.ffi3_place_rules.specs.Standard.{Standard, frame_of, plan_of}
 use Rattle.ffi3_place_rules.specs.Holds.{HoldsResult}
-use Rattle.ffi3_place_rules.specs.Sound.{IsNoneOf, IsSound, result_locs}
+use Rattle.ffi3_place_rules.specs.Sound.{IsNoneOf, result_locs}
 use Rattle.ffi3_place_rules.specs.Isa.{to_list}
 use Rattle.ffi3_type_rules.specs.declared.limits.TheConstants.{STACK, STACK_TOP}
 use Rattle.ffi3_machine.specs.State.{State, with_sp}
 use Rattle.ffi3_pieces.specs.Stored.{IsPlace, word_in, WroteWithin}
 use Rattle.ffi3_place_rules.specs.declared.SaveWord.{SaveWord}
+use Rattle.ffi3_place_rules.proofs.OnMachine.{IsSoundOnMachine}
 use Rattle.ffi3_pieces.proofs.Outcomes as outcome
 use Rattle.ffi3_callee.specs.Loaded.{image_from}
 use Rattle.ffi3_callee.specs.Given.{IsSettable, RegistersStay}
@@ -65,6 +66,6 @@ register_stays base frame a b (G r) lies h = h
 register_stays base frame a b (F r) lies h = h
 register_stays base frame a b (S n w) lies h = absurd (omega (arith, lies.0, lies.1))
 
-pub result_kept : (base : ℕ) (ls : List Loc) (a b : State) → RegistersStay ls a b → WroteWithin STACK_TOP STACK_TOP a b → (std : Standard) (s : Signature) (target : Target) (v : ValueTree) → IsSound std s → AllByRecursion (IsNoneOf ls) (result_locs (plan_of std s).res) → IsSettable target std.returned_address → AllByRecursion (IsNoneOf ls) (to_list std.returned_address) → HoldsResult std s v (image_from base (frame_of std s) a) → HoldsResult std s v (image_from base (frame_of std s) b)
+pub result_kept : (base : ℕ) (ls : List Loc) (a b : State) → RegistersStay ls a b → WroteWithin STACK_TOP STACK_TOP a b → (std : Standard) (s : Signature) (target : Target) (v : ValueTree) → IsSoundOnMachine std s → AllByRecursion (IsNoneOf ls) (result_locs (plan_of std s).res) → IsSettable target std.returned_address → AllByRecursion (IsNoneOf ls) (to_list std.returned_address) → HoldsResult std s v (image_from base (frame_of std s) a) → HoldsResult std s v (image_from base (frame_of std s) b)
 result_kept base ls a b stay quiet std s target v sound none set clear h =
     outcome.result_kept (image_from base (frame_of std s) a) (image_from base (frame_of std s) b) (IsNoneOf ls) refl (ap (λ xs. take (frame_of std s) (drop (base - STACK) xs)) (same_stack a b quiet)) (λ l lies clear. register_stays base (frame_of std s) a b l lies (stay l lies clear)) std s v sound none (told_lies target std.returned_address set) clear h

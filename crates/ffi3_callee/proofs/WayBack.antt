@@ -7,8 +7,9 @@ use Rattle.ffi3_type_rules.specs.declared.Isa.{Isa}
 use Rattle.ffi3_type_rules.specs.declared.Isa.TheVariants.{Amd64, Aarch64, Riscv}
 use Rattle.ffi3_type_rules.specs.declared.limits.TheConstants.{RETURN, STACK, STACK_TOP}
 use Rattle.ffi3_type_rules.specs.Isa.{isa_of}
-use Rattle.ffi3_type_rules.specs.Signature.{Signature}
+use Rattle.ffi3_type_rules.specs.Signature.{Signature, SignatureHasNoFault}
 use Rattle.ffi3_type_rules.specs.Value.{ValueTree}
+use Rattle.ffi3_type_rules.proofs.Placed.{faultless_is_plain}
 use Rattle.ffi3_place_rules.specs.declared.Loc.{Loc}
 use Rattle.ffi3_place_rules.specs.declared.Loc.TheVariants.{G, F, S}
 use Rattle.ffi3_place_rules.specs.declared.SaveWord.{SaveWord}
@@ -21,6 +22,7 @@ use Rattle.ffi3_place_rules.specs.ByStubs.{AgreesWithStubs, ResultGoesByStubs}
 use Rattle.ffi3_place_rules.specs.Holds.{HoldsResult, Kept, SameIn}
 use Rattle.ffi3_place_rules.specs.Sound.{IsNoneOf, IsOneOf, IsSound, result_locs}
 use Rattle.ffi3_place_rules.proofs.Tests.{each_at}
+use Rattle.ffi3_place_rules.proofs.OnMachine.{as_before}
 use Rattle.ffi3_memory.specs.Memory.{number_of}
 use Rattle.ffi3_machine.specs.State.{State, HasReturnAddress, HasReturnAt, IsMachine, image_of, stack_at, with_x, x_of}
 use Rattle.ffi3_machine.specs.Step.{even}
@@ -249,9 +251,9 @@ module _ (std : Standard) (agrees : AgreesWithMachine std) (entry : ℕ) (m n : 
   image_register base frame a b (F r) lies h = h
   image_register base frame a b (S k w) lies h = absurd (omega (arith, lies.0, lies.1))
 
-  pub gone_keeps : (s : Signature) → IsSound std s → (by_exchange m.target ≡ true → AgreesWithStubs std) → (by_exchange m.target ≡ true → ResultGoesByStubs std s) → (base : ℕ) (v : ValueTree) → HoldsResult std s v (image_from base (frame_of std s) (passing m)) → HoldsResult std s v (image_from base (frame_of std s) n)
-  gone_keeps s sound law result_law base v held =
-      outcome.result_kept (image_from base (frame_of std s) (passing m)) (image_from base (frame_of std s) n) (IsGiven (by_exchange m.target) std) refl (ap (λ xs. take (frame_of std s) (drop (base - STACK) xs)) gone_stack) (λ l lies given. image_register base (frame_of std s) (passing m) n l lies (back.results l lies given)) std s v sound (given_results s (by_exchange m.target) sound result_law) (machine_places (isa_of std.target) 0 (to_list std.returned_address) agrees.returned_exists) (given_address (by_exchange m.target) law) held
+  pub gone_keeps : (s : Signature) → IsSound std s → SignatureHasNoFault s → (by_exchange m.target ≡ true → AgreesWithStubs std) → (by_exchange m.target ≡ true → ResultGoesByStubs std s) → (base : ℕ) (v : ValueTree) → HoldsResult std s v (image_from base (frame_of std s) (passing m)) → HoldsResult std s v (image_from base (frame_of std s) n)
+  gone_keeps s sound right law result_law base v held =
+      outcome.result_kept (image_from base (frame_of std s) (passing m)) (image_from base (frame_of std s) n) (IsGiven (by_exchange m.target) std) refl (ap (λ xs. take (frame_of std s) (drop (base - STACK) xs)) gone_stack) (λ l lies given. image_register base (frame_of std s) (passing m) n l lies (back.results l lies given)) std s v (as_before std s sound (faultless_is_plain s right)) (given_results s (by_exchange m.target) sound result_law) (machine_places (isa_of std.target) 0 (to_list std.returned_address) agrees.returned_exists) (given_address (by_exchange m.target) law) held
 
 -- ---- from the machine at the entry to its image
 

@@ -50,7 +50,7 @@ fn is_leaf_byte(ty: &CheckedType<'_>, offset: u64) -> bool
     let _type = ty.as_type();
     for i in 0..ty.leaf_count() {
         let leaf = ty.leaf(i);
-        if leaf.at <= offset && offset < leaf.at + leaf.kind.size() {
+        if leaf.at <= offset && offset < leaf.at + leaf.kind.value_size() {
             return true;
         }
     }

@@ -93,8 +93,8 @@ module _ (std : Standard) (s : Signature) (sound : IsSound std s) where
       let to_places = apart_across hidden flat (apart_first (argument_locs (plan_of std s)) (copies ++ buffer) sound.apart) in
       uses_each (IsNoneOf hidden) s.arguments places sound.has_all (across_none hidden flat to_places) (across_none hidden copies to_copies)
 
-  pub hidden_lies : (room : ℕ) → frame_of std s ≤ room → AllByRecursion (IsPlace room) (hidden_locs (plan_of std s).res)
-  hidden_lies room h = more (frame_of std s) room h (hidden_locs (plan_of std s).res) (each_first (IsPlace (frame_of std s)) (hidden_locs (plan_of std s).res) (flat_map place_locs (plan_of std s).places) (each_first (IsPlace (frame_of std s)) (argument_locs (plan_of std s)) (copy_locs s.arguments (plan_of std s).places ++ buffer_locs s.result_type (plan_of std s).res) (call_places std s sound)))
+  pub hidden_lies : SignatureHasNoFault s → (room : ℕ) → frame_of std s ≤ room → AllByRecursion (IsPlace room) (hidden_locs (plan_of std s).res)
+  hidden_lies right room h = more (frame_of std s) room h (hidden_locs (plan_of std s).res) (each_first (IsPlace (frame_of std s)) (hidden_locs (plan_of std s).res) (flat_map place_locs (plan_of std s).places) (each_first (IsPlace (frame_of std s)) (argument_locs (plan_of std s)) (copy_locs s.arguments (plan_of std s).places ++ buffer_locs s.result_type (plan_of std s).res) (call_places std s sound right)))
     where
       more : (n m : ℕ) → n ≤ m → (ls : List Loc) → AllByRecursion (IsPlace n) ls → AllByRecursion (IsPlace m) ls
       more n m h [] all = tt
@@ -243,14 +243,14 @@ call_stored std s sound right vs target base r k n z o a b d is low res_is count
     let sp_is : d.sp ≡ o.sp = third.sp ∙ second.sp ∙ first.sp in
     let base_is : base ≡ d.sp = is ∙ sym sp_is in
     let low_d : STACK ≤ d.sp = omega (arith, base_is, low) in
-    let lie = subst (λ q. AllByRecursion (IsPlace (frame_of std s)) (hidden_locs q)) (sym res_is) (hidden_lies std s sound (frame_of std s) (omega arith)) in
+    let lie = subst (λ q. AllByRecursion (IsPlace (frame_of std s)) (hidden_locs q)) (sym res_is) (hidden_lies std s sound right (frame_of std s) (omega arith)) in
     let later = subst (λ x. WroteWithin x (x + frame_of std s) a d) is (wrote_then base (base + frame_of std s) a b d (hidden_within (frame_of std s) lie) (count_within (frame_of std s))) in
     let told_d = subst (λ x. CountStands x d std.vector_count (plan_of std s).vectors) base_is (subst (CountStands base d std.vector_count) number_is (subst (λ q. CountStands base d q n) count_is told)) in
     let stand_d = subst (λ x. AllStand x d s.arguments (plan_of std s).places vs) base_is whole.stand in record {
       sp = sp_is;
       own = owned d (frame_of std s) low_d target s.arguments (plan_of std s).places vs ready fit stand_d;
       filled = all_filled d (frame_of std s) low_d target s.arguments (plan_of std s).places vs ready stand_d;
-      hidden = hidden_owned d (frame_of std s) (plan_of std s).res low_d (hidden_lies std s sound (frame_of std s) (omega arith)) (subst (λ x. HiddenStands x d (plan_of std s).res) base_is whole.hidden);
+      hidden = hidden_owned d (frame_of std s) (plan_of std s).res low_d (hidden_lies std s sound right (frame_of std s) (omega arith)) (subst (λ x. HiddenStands x d (plan_of std s).res) base_is whole.hidden);
       vectors = count_told d (frame_of std s) std.vector_count (plan_of std s).vectors low_d in_registers told_d;
       others = λ l h none. others_same std s sound base l z o a b d h none (opened l h) first second third;
       unused = subst (λ x. AllKeepUnused x o d s.arguments (plan_of std s).places) is

@@ -10,9 +10,10 @@ use Rattle.ffi3_type_rules.specs.declared.Isa.{Isa}
 use Rattle.ffi3_type_rules.specs.declared.Isa.TheVariants.{Amd64, Aarch64, Riscv}
 use Rattle.ffi3_type_rules.specs.declared.limits.TheConstants.{STACK, RETURN}
 use Rattle.ffi3_type_rules.specs.Isa.{isa_of}
-use Rattle.ffi3_type_rules.specs.Signature.{Signature}
+use Rattle.ffi3_type_rules.specs.Signature.{Signature, SignatureHasNoFault}
 use Rattle.ffi3_type_rules.specs.Value.{ValueTree}
 use Rattle.ffi3_type_rules.proofs.Parts.{length_part}
+use Rattle.ffi3_type_rules.proofs.Placed.{faultless_is_plain}
 use Rattle.ffi3_place_rules.specs.declared.Loc.{Loc}
 use Rattle.ffi3_place_rules.specs.declared.Loc.TheVariants.{G, F, S}
 use Rattle.ffi3_place_rules.specs.Isa.{call_loads, call_scratch, exit_scratch, has_stubs, link_place, link_register, to_list, pushed_bytes, reserved_places}
@@ -22,6 +23,7 @@ use Rattle.ffi3_place_rules.specs.ByStubs.{AgreesWithStubs, ResultGoesByStubs}
 use Rattle.ffi3_place_rules.specs.Holds.{OwnResult, OwnsArguments, OwnsHidden, FillArguments, RegisterHolds, Holds}
 use Rattle.ffi3_place_rules.specs.Image.{register}
 use Rattle.ffi3_place_rules.specs.Sound.{Apart, IsNoneOf, IsOneOf, IsOnStackOrIn, IsSound, argument_locs, buffer_locs, closed_to_arguments, closed_to_results, copy_locs, hidden_locs, place_locs, result_locs}
+use Rattle.ffi3_place_rules.proofs.OnMachine.{IsSoundOnMachine}
 use Rattle.ffi3_machine.specs.State.{State, image_of, linked_stack, stack_at}
 use Rattle.ffi3_pieces.specs.Passing.{by_exchange, passing}
 use Rattle.ffi3_pieces.specs.Stored.{IsPlace, SameAt}
@@ -134,7 +136,7 @@ module _ (std : Standard) (agrees : AgreesWithMachine std) where
 
 -- ---- arguments
 
-module _ (std : Standard) (s : Signature) (sound : IsSound std s) (agrees : AgreesWithMachine std) where
+module _ (std : Standard) (s : Signature) (sound : IsSound std s) (right : SignatureHasNoFault s) (agrees : AgreesWithMachine std) where
   arguments_clear : AllByRecursion (IsNoneOf (to_list std.link_register)) (argument_locs (plan_of std s))
   arguments_clear =
       each_map (IsNoneOf (closed_to_arguments std)) (IsNoneOf (to_list std.link_register)) one (argument_locs (plan_of std s)) sound.allowed
@@ -151,7 +153,7 @@ module _ (std : Standard) (s : Signature) (sound : IsSound std s) (agrees : Agre
   carried_arguments : (b : Bool) → (b ≡ true → AgreesWithStubs std) → AllByRecursion (IsCarried b (isa_of std.target)) (argument_locs (plan_of std s))
   carried_arguments true law =
       let laws = law refl in
-      each_map (IsOnStackOrIn std.argument_registers) (IsOnStackOrIn (call_loads (isa_of std.target))) (on_stack_or_in std.argument_registers (call_loads (isa_of std.target)) laws.arguments_loaded) (argument_locs (plan_of std s)) sound.passed
+      each_map (IsOnStackOrIn std.argument_registers) (IsOnStackOrIn (call_loads (isa_of std.target))) (on_stack_or_in std.argument_registers (call_loads (isa_of std.target)) laws.arguments_loaded) (argument_locs (plan_of std s)) (sound.on_machine (faultless_is_plain s right)).passed
   carried_arguments false law =
       subst (λ o. AllByRecursion (IsNoneOf (to_list o)) (argument_locs (plan_of std s))) agrees.link_register arguments_clear
 
@@ -202,7 +204,7 @@ module _ (std : Standard) (s : Signature) (sound : IsSound std s) (agrees : Agre
     arguments_still : AllByRecursion IsStill (argument_locs (plan_of std s))
     arguments_still =
         let p = plan_of std s in
-        each_with (IsPlace (frame_of std s)) (IsCarried (by_exchange m.target) (isa_of m.target)) IsStill (λ l lies carried. (lies, carried)) (argument_locs (plan_of std s)) (each_first (IsPlace (frame_of std s)) (argument_locs p) (copy_locs s.arguments p.places ++ buffer_locs s.result_type p.res) (call_places std s sound))
+        each_with (IsPlace (frame_of std s)) (IsCarried (by_exchange m.target) (isa_of m.target)) IsStill (λ l lies carried. (lies, carried)) (argument_locs (plan_of std s)) (each_first (IsPlace (frame_of std s)) (argument_locs p) (copy_locs s.arguments p.places ++ buffer_locs s.result_type p.res) (call_places std s sound right))
         (subst (λ k. AllByRecursion (IsCarried (by_exchange m.target) (isa_of k)) (argument_locs (plan_of std s))) same (carried_arguments (by_exchange m.target) law))
 
     count_still : AllByRecursion IsStill (to_list std.vector_count)
@@ -251,7 +253,7 @@ passed_back std s true law = let laws = law refl in laws.loaded
 passed_back std s false law = all_back (result_locs (plan_of std s).res)
 
 -- what the image at a return owns is passed back
-pub result_back : (std : Standard) (s : Signature) (m n : State) (v : ValueTree) → IsSound std s → std.target ≡ m.target → (by_exchange m.target ≡ true → ResultGoesByStubs std s) → HasComeBack (frame_of std s) m n → OwnResult std s v (image_of (frame_of std s) m) → OwnResult std s v (image_of (frame_of std s) (at_frame (frame_of std s) n))
+pub result_back : (std : Standard) (s : Signature) (m n : State) (v : ValueTree) → IsSoundOnMachine std s → std.target ≡ m.target → (by_exchange m.target ≡ true → ResultGoesByStubs std s) → HasComeBack (frame_of std s) m n → OwnResult std s v (image_of (frame_of std s) m) → OwnResult std s v (image_of (frame_of std s) (at_frame (frame_of std s) n))
 result_back std s m n v sound same law back own =
     let frame = frame_of std s in
     own_result_kept (image_of (frame_of std s) m) (image_of (frame_of std s) (at_frame (frame_of std s) n)) (IsPassedBack (by_exchange m.target) (isa_of m.target)) back.start (ap (λ a. stack_at a frame n) back.start ∙ ap (λ xs. take frame (drop (m.sp - STACK) xs)) back.stack) (λ l lies some. register_same frame frame m (at_frame (frame_of std s) n) l lies (moved l lies (back.passed l lies some))) std s v sound

@@ -16,13 +16,14 @@ use Rattle.ffi3_place_rules.specs.declared.Res.{Res}
 use Rattle.ffi3_place_rules.specs.declared.Res.TheVariants.{Direct as DirectRes, Hidden}
 use Rattle.ffi3_place_rules.specs.Standard.{Standard, ResultSpot, no_result, in_result_pieces, in_buffer, plan_of, frame_of, result_at, buffer_end, frame_copies_end, round8}
 use Rattle.ffi3_place_rules.specs.Holds.{leaf_bytes, OwnResult, OwnsResult}
-use Rattle.ffi3_place_rules.specs.Sound.{LiesIn, IsSound, HaveAll, IsPieceOf, ResultHasAll, piece_locs, result_locs, IsWithin}
+use Rattle.ffi3_place_rules.specs.Sound.{LiesIn, HaveAll, IsPieceOf, ResultHasAll, piece_locs, result_locs, IsWithin}
 use Rattle.ffi3_place_rules.proofs.Tests.{each_weaker}
 use Rattle.ffi3_machine.specs.State.{State, image_of, stack_at}
 use Rattle.ffi3_pieces.specs.Stored.{IsPlace}
 use Rattle.ffi3_marshal.proofs.Lawful.{machine_place}
 use Rattle.ffi3_caller.specs.Loaded.{AreWithin, loaded}
 use Rattle.ffi3_place_rules.proofs.Reading.{reads}
+use Rattle.ffi3_place_rules.proofs.OnMachine.{IsSoundOnMachine}
 use Rattle.ffi3_caller.proofs.Loading.{leaves_loaded}
 
 each_loc : (P : Loc → Type 0) (pieces : List Piece) → AllByRecursion P (piece_locs pieces) → AllByRecursion (λ p. P p.loc) pieces
@@ -42,7 +43,7 @@ pub are_within : (t : Tree) (r : Res) (pieces : List Piece) → r ≡ DirectRes 
 are_within t r pieces is h =
     each_weaker (IsPieceOf t) (IsWithin (size_of t)) (λ p k. (k.short, k.within, k.fits)) pieces (has_all t r pieces is h).each
 
-pub direct_value : (m : State) (frame : ℕ) (std : Standard) (s : Signature) (pieces : List Piece) (old : List ℕ) (v : ValueTree) → IsSound std s → (plan_of std s).res ≡ DirectRes pieces → length old ≡ size_of s.result_type → length (loaded m pieces old) ≡ length old → OwnResult std s v (image_of frame m) → value_in s.result_type (loaded m pieces old) ≡ v
+pub direct_value : (m : State) (frame : ℕ) (std : Standard) (s : Signature) (pieces : List Piece) (old : List ℕ) (v : ValueTree) → IsSoundOnMachine std s → (plan_of std s).res ≡ DirectRes pieces → length old ≡ size_of s.result_type → length (loaded m pieces old) ≡ length old → OwnResult std s v (image_of frame m) → value_in s.result_type (loaded m pieces old) ≡ v
 direct_value m frame std s pieces old v sound is sized still own =
     let t = s.result_type in
     let all = has_all t (plan_of std s).res pieces is sound.result_has_all in

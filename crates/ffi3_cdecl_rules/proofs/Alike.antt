@@ -1,13 +1,13 @@
 -- Types of which the one is made with fewer counts than the other, and that have the same first fault everywhere.
 use Rattle.std.proofs.Common.{◌≡◌, ℕ, zero, suc, ◌+◌, ◌<◌, ◌≤◌, ◌⊎◌, inl, inr, min, Bool, true, false, cond, nat_lt, List, [], ◌∷◌, length, Option, Some, None, option_map, refl, ap, sym, ◌∙◌, subst, arith}
-use Rattle.std.specs.Prelude.{◌&&◌, not}
+use Rattle.std.specs.Prelude.{◌&&◌, ◌||◌, not}
 use Rattle.std.proofs.lemmas.Bool.{cases_lt, lt-ltb, le-ltb}
 use Rattle.ffi3_type_rules.specs.declared.limits.TheConstants.{DEEPEST_NESTING}
 use Rattle.ffi3_type_rules.specs.declared.Role.{Role}
 use Rattle.ffi3_type_rules.specs.declared.Role.TheVariants.{AsElement}
-use Rattle.ffi3_type_rules.specs.Tree.{Tree, trees_of, struct_of, array_of}
+use Rattle.ffi3_type_rules.specs.Tree.{Tree, void, scalar, left_out, structure, array, tree, no_trees, trees_of, struct_of, array_of, is_complex}
 use Rattle.ffi3_type_rules.specs.Layout.{size_of}
-use Rattle.ffi3_type_rules.specs.Fault.{bad_typedef, too_deep, takes_array}
+use Rattle.ffi3_type_rules.specs.Fault.{bad_typedef, too_deep, takes, takes_array, takes_complex}
 use Rattle.ffi3_type_rules.specs.FirstFault.{Found, or_else, inside_element, fault_of_size, first_fault, first_inside}
 use Rattle.ffi3_cdecl_rules.specs.Tokens.{TOO_GREAT}
 use Rattle.ffi3_cdecl_rules.specs.Machine.{arrays}
@@ -99,7 +99,7 @@ found_in outer t =
 -- and in an array of so many of them that is not too deep
 abbrev found_of : Role → ℕ → ℕ → Tree → Option Found
 found_of role n outer t =
-    cond (takes_array role && not (is_zero n)) (or_else (found_in outer t) (fault_of_size (size_of (array_of t n)))) (Some ([], bad_typedef))
+    cond (takes role (array_of t n) && not (is_zero n)) (or_else (found_in outer t) (fault_of_size (size_of (array_of t n)))) (Some ([], bad_typedef))
 
 array_fault_is : (n : ℕ) (t : Tree) (outer : ℕ) (role : Role) → first_fault outer role (array_of t n) ≡ cond (nat_lt outer DEEPEST_NESTING) (found_of role n outer t) (Some ([], too_deep))
 array_fault_is zero t outer role = refl
@@ -111,11 +111,45 @@ none_in outer t e =
 
 none_of : (role : Role) (n outer : ℕ) (t : Tree) → found_of role n outer t ≡ None → first_fault (outer + 1) AsElement t ≡ None
 none_of role n outer t e =
-    none_in outer t (or_else_none (found_in outer t) (fault_of_size (size_of (array_of t n))) (if_none (takes_array role && not (is_zero n)) _ ([], bad_typedef) e)).0
+    none_in outer t (or_else_none (found_in outer t) (fault_of_size (size_of (array_of t n))) (if_none (takes role (array_of t n) && not (is_zero n)) _ ([], bad_typedef) e)).0
+
+-- what is no scalar is no complex long double's part
+abbrev is_other : Tree → Bool
+is_other void = true
+is_other (scalar s) = false
+is_other (left_out k) = true
+is_other (structure ts) = true
+is_other (array ts n) = true
+
+never_complex : (n : ℕ) (t : Tree) → is_other t ≡ true → is_complex (tree t no_trees) n ≡ false
+never_complex n void other = refl
+never_complex n (scalar s) other = absurd (cc)
+never_complex n (left_out k) other = refl
+never_complex n (structure ts) other = refl
+never_complex n (array ts m) other = refl
+
+complex_beside : (n k : ℕ) (t u : Tree) → is_other t ≡ true → first_fault k AsElement t ≡ first_fault k AsElement u → (first_fault k AsElement t ≡ None → t ≡ u) → is_complex (tree t no_trees) n ≡ is_complex (tree u no_trees) n
+complex_beside n k t void other e same = never_complex n t other
+complex_beside n k t (scalar s) other e same = ap (λ v. is_complex (tree v no_trees) n) (same e)
+complex_beside n k t (left_out kind) other e same = never_complex n t other
+complex_beside n k t (structure us) other e same = never_complex n t other
+complex_beside n k t (array us m) other e same = never_complex n t other
+
+complex_same : (n k : ℕ) (t u : Tree) → first_fault k AsElement t ≡ first_fault k AsElement u → (first_fault k AsElement t ≡ None → t ≡ u) → is_complex (tree t no_trees) n ≡ is_complex (tree u no_trees) n
+complex_same n k void u e same = complex_beside n k void u refl e same
+complex_same n k (scalar s) u e same = ap (λ v. is_complex (tree v no_trees) n) (same refl)
+complex_same n k (left_out kind) u e same = complex_beside n k (left_out kind) u refl e same
+complex_same n k (structure ts) u e same = complex_beside n k (structure ts) u refl e same
+complex_same n k (array ts m) u e same = complex_beside n k (array ts m) u refl e same
+
+takes_same : (role : Role) (n k : ℕ) (t u : Tree) → first_fault k AsElement t ≡ first_fault k AsElement u → (first_fault k AsElement t ≡ None → t ≡ u) → takes role (array_of t n) ≡ takes role (array_of u n)
+takes_same role n k t u e same =
+    ap (λ b. takes_array role || (takes_complex role && b)) (complex_same n k t u e same)
 
 of_same : (role : Role) (n outer : ℕ) (t u : Tree) → first_fault (outer + 1) AsElement t ≡ first_fault (outer + 1) AsElement u → (first_fault (outer + 1) AsElement t ≡ None → t ≡ u) → found_of role n outer t ≡ found_of role n outer u
 of_same role n outer t u e same =
-    if_same (takes_array role && not (is_zero n)) (or_else (found_in outer t) (fault_of_size (size_of (array_of t n)))) (or_else (found_in outer u) (fault_of_size (size_of (array_of u n)))) ([], bad_typedef) (or_else_same (found_in outer t) (found_in outer u) (fault_of_size (size_of (array_of t n))) (fault_of_size (size_of (array_of u n))) (ap (λ f. or_else (option_map (inside_element 0) f) None) e) (λ none. ap (λ v. fault_of_size (size_of (array_of v n))) (same (none_in outer t none))))
+    ap (λ b. cond (b && not (is_zero n)) (or_else (found_in outer t) (fault_of_size (size_of (array_of t n)))) (Some ([], bad_typedef))) (takes_same role n (outer + 1) t u e same)
+    ∙ if_same (takes role (array_of u n) && not (is_zero n)) (or_else (found_in outer t) (fault_of_size (size_of (array_of t n)))) (or_else (found_in outer u) (fault_of_size (size_of (array_of u n)))) ([], bad_typedef) (or_else_same (found_in outer t) (found_in outer u) (fault_of_size (size_of (array_of t n))) (fault_of_size (size_of (array_of u n))) (ap (λ f. or_else (option_map (inside_element 0) f) None) e) (λ none. ap (λ v. fault_of_size (size_of (array_of v n))) (same (none_in outer t none))))
 
 array_alike : (n : ℕ) (t u : Tree) → Alike t u → Alike (array_of t n) (array_of u n)
 array_alike n t u s = record { same_fault = same; same_type = right }

@@ -3,7 +3,7 @@ use Rattle.std.proofs.Common.{◌≡◌, ◌∙◌, ◌⊎◌, ◌<◌, ◌≤�
 use Rattle.std.specs.Prelude.{take, is_some}
 use Rattle.std.proofs.lemmas.Bool.{cases_lt}
 use Rattle.std.proofs.lemmas.List.{take-append-drop, length-take-le, take_all}
-use Rattle.ffi3_type_rules.specs.Tree.{Scalar, u8, s8, u16, s16, u32, s32, u64, s64, u128, s128, float, double, pointer, Tree, Trees, void, scalar, left_out, structure, array, no_trees, tree}
+use Rattle.ffi3_type_rules.specs.Tree.{Scalar, u8, s8, u16, s16, u32, s32, u64, s64, u128, s128, float, double, pointer, x87, binary128, Tree, Trees, void, scalar, left_out, structure, array, no_trees, tree}
 use Rattle.ffi3_type_rules.specs.Signature.{Signature, SignatureHasNoFault, bad_fixed, fixed_outside}
 use Rattle.ffi3_cdecl_rules.specs.Tokens.{wide, Sign, Token, name, open_round, close_round, close_curly, comma, semicolon, dots, cut_from, tokens}
 use Rattle.ffi3_cdecl_rules.specs.Grammar.{opens_round, IsParameter, without_name, IsParameters, last_parameter, last_before_dots, before_types, next_parameter, IsParameterList, some_parameters, one_semicolon, Declaration, IsDeclarationIn}
@@ -66,6 +66,8 @@ scalar_stays u64 rest h = (tt, h)
 scalar_stays s64 rest h = (tt, h)
 scalar_stays float rest h = (tt, h)
 scalar_stays double rest h = (tt, h)
+scalar_stays x87 rest h = h
+scalar_stays binary128 rest h = h
 
 mutual
   counts_stay : (t : Tree) (rest : List Token) → NamesStay rest → NamesStay (count_tokens t rest)

@@ -4,7 +4,7 @@ use Rattle.ffi3_cdecl_rules.specs.Tokens.{Dialect, plain, wide, Sign, signed, To
 use Rattle.ffi3_cdecl_rules.specs.Grammar.{Declaration, IsDeclarationIn}
 use Rattle.ffi3_cdecl_rules.specs.Machine.{State, step, after, finish, begun, is_dead, first_dead, with_signature, with_number, with_end, with_cut, read_in, read}
 use Rattle.ffi3_cdecl_rules.specs.Reading.{IsViableIn, IsNotExpected, IsUnexpected, tokens_of, begins_at, first_too_great, Outcome, unexpected, IsReadingIn, IsReading, has_bad_token, has_unexpected, has_bad_number, is_read, has_bad_signature}
-use Rattle.ffi3_type_rules.specs.Signature.{SignatureFault}
+use Rattle.ffi3_type_rules.specs.Signature.{SignatureFault, for_calls}
 use Rattle.ffi3_type_rules.specs.FirstFault.{first_signature_fault}
 use Rattle.ffi3_type_rules.proofs.FirstSignatureFaults.{SignatureAnswers, signature_answers, signature_none_found, signature_found_by_first}
 use Rattle.ffi3_cdecl_rules.specs.Laws.{LawsOf, DeclarationLaws}
@@ -85,7 +85,7 @@ module _ (r : Dialect) (g : Sign) where
 
   -- ---- a reading is computed
 
-  read_signature : (text : List ℕ) (ps : List Placed) (d : Declaration) → cut_in r g text ≡ tokens ps → IsDeclarationIn r (tokens_of ps) d → first_too_great ps ≡ None → (f : Option SignatureFault) → SignatureAnswers d.signature f → IsReadingIn r g text (with_signature d f)
+  read_signature : (text : List ℕ) (ps : List Placed) (d : Declaration) → cut_in r g text ≡ tokens ps → IsDeclarationIn r (tokens_of ps) d → first_too_great ps ≡ None → (f : Option SignatureFault) → SignatureAnswers for_calls d.signature f → IsReadingIn r g text (with_signature d f)
   read_signature text ps d e p none None right = is_read e p none right
   read_signature text ps d e p none (Some f) first = has_bad_signature e p none first
 
@@ -95,7 +95,7 @@ module _ (r : Dialect) (g : Sign) where
     where
       read_number : (n : Option ℕ) → first_too_great ps ≡ n → IsReadingIn r g text (with_number d n)
       read_number None f =
-          read_signature text ps d e (declaration_of r d (tokens_of ps) h) f (first_signature_fault d.signature) (signature_answers d.signature)
+          read_signature text ps d e (declaration_of r d (tokens_of ps) h) f (first_signature_fault d.signature) (signature_answers for_calls d.signature)
       read_number (Some at) f =
           has_bad_number e (declaration_of r d (tokens_of ps) h) f
   read_end text ps None e h =

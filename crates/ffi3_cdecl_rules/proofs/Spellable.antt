@@ -1,4 +1,4 @@
--- Types that declarations can have: structs that are not empty and not too deep, arrays as members alone, numbers that are not too great. What has no fault is such.
+-- Types that declarations can have: structs that are not empty and not too deep, arrays as members alone, numbers that are not too great, no long doubles. What has no fault is such.
 use Rattle.std.proofs.Common.{◌≡◌, ℕ, zero, suc, ◌+◌, ◌*◌, ◌<◌, ◌≤◌, inl, inr, Bool, true, false, List, [], ◌∷◌, length, Option, Some, None, refl, ap, sym, ◌∙◌, subst, arith}
 use Rattle.std.specs.Prelude.{⊤, is_some}
 use Rattle.std.proofs.lemmas.Bool.{cases_lt}
@@ -6,12 +6,14 @@ use Rattle.ffi3_type_rules.specs.declared.limits.TheConstants.{LARGEST_TYPE, DEE
 use Rattle.ffi3_type_rules.specs.declared.Role.{Role}
 use Rattle.ffi3_type_rules.specs.declared.Role.TheVariants.{AsResult, AsArgument, AsElement}
 use Rattle.ffi3_type_rules.specs.Tree.{Tree, void, scalar, left_out, structure, array, Trees, no_trees, tree, list_of, tree_at, parts_of}
-use Rattle.ffi3_type_rules.specs.Layout.{Layout, layout, layouts, element, end_before, align_before, size_of}
+use Rattle.ffi3_type_rules.specs.Layout.{Layout, layout, layouts, element, end_before, align_before, size_of, is_long_double, has_long_double, have_long_double}
 use Rattle.ffi3_type_rules.specs.Fault.{bad_typedef, left_out_type, too_deep, out_of_place, left_out_kind, nested_deep, misshapen, HasNoFault, IsResultType, IsArgumentType}
 use Rattle.ffi3_type_rules.specs.Signature.{Signature, SignatureHasNoFault, bad_fixed, fixed_outside}
-use Rattle.ffi3_type_rules.proofs.Layouts.{least_multiple-above, scalar_size-bounds}
+use Rattle.ffi3_type_rules.proofs.Layouts.{least_multiple-above, scalar_room-bounds}
 use Rattle.ffi3_type_rules.proofs.Faults.{fault_outside, right_is_small}
 use Rattle.ffi3_type_rules.proofs.Right.{result_is_right, argument_is_right}
+use Rattle.ffi3_type_rules.proofs.Placed.{faultless_is_plain}
+use Rattle.ffi3_type_rules.proofs.LongDoubles.{neither}
 use Rattle.ffi3_cdecl_rules.specs.Tokens.{TOO_GREAT}
 use Rattle.ffi3_cdecl_rules.specs.Grammar.{MOST_OPEN}
 use Rattle.ffi3_cdecl_rules.specs.Canonical.{FixesAll}
@@ -23,7 +25,7 @@ IsLast (tree t ts) = ⊥
 abbrev mutual
   pub IsSpellableMember : ℕ → Tree → Type 0
   IsSpellableMember d void = ⊥
-  IsSpellableMember d (scalar s) = ⊤
+  IsSpellableMember d (scalar s) = is_long_double s ≡ false
   IsSpellableMember d (left_out k) = ⊥
   IsSpellableMember d (structure ts) = (d < MOST_OPEN) × AreSpellableMembers (suc d) ts
   IsSpellableMember d (array ts n) = (n < TOO_GREAT) × IsSpellableElement d ts
@@ -45,14 +47,14 @@ abbrev mutual
 -- a type that is passed
 abbrev pub IsSpellableValue : Tree → Type 0
 IsSpellableValue void = ⊥
-IsSpellableValue (scalar s) = ⊤
+IsSpellableValue (scalar s) = is_long_double s ≡ false
 IsSpellableValue (left_out k) = ⊥
 IsSpellableValue (structure ts) = (0 < MOST_OPEN) × AreSpellableMembers 1 ts
 IsSpellableValue (array ts n) = ⊥
 
 abbrev pub IsSpellableResult : Tree → Type 0
 IsSpellableResult void = ⊤
-IsSpellableResult (scalar s) = ⊤
+IsSpellableResult (scalar s) = is_long_double s ≡ false
 IsSpellableResult (left_out k) = ⊥
 IsSpellableResult (structure ts) = (0 < MOST_OPEN) × AreSpellableMembers 1 ts
 IsSpellableResult (array ts n) = ⊥
@@ -105,7 +107,7 @@ times_some n size some = grind arith
 mutual
   some_size : (outer : ℕ) (t : Tree) → HasNoFault outer AsElement t → 1 ≤ size_of t
   some_size outer void h = absurd (h [] bad_typedef (out_of_place refl refl))
-  some_size outer (scalar s) h = (scalar_size-bounds s).0
+  some_size outer (scalar s) h = (scalar_room-bounds s).0
   some_size outer (left_out k) h =
       absurd (h [] (left_out_type (left_out k)) (left_out_kind refl))
   some_size outer (structure no_trees) h =
@@ -148,66 +150,70 @@ not_deep outer role ts h =
 -- ---- what has no fault can be written
 
 mutual
-  member_spellable : (d outer : ℕ) (t : Tree) → d ≤ outer → HasNoFault outer AsElement t → IsSpellableMember d t
-  member_spellable d outer void e h =
+  member_spellable : (d outer : ℕ) (t : Tree) → d ≤ outer → HasNoFault outer AsElement t → has_long_double t ≡ false → IsSpellableMember d t
+  member_spellable d outer void e h p =
       absurd (h [] bad_typedef (out_of_place refl refl))
-  member_spellable d outer (scalar s) e h = tt
-  member_spellable d outer (left_out k) e h =
+  member_spellable d outer (scalar s) e h p = p
+  member_spellable d outer (left_out k) e h p =
       absurd (h [] (left_out_type (left_out k)) (left_out_kind refl))
-  member_spellable d outer (structure ts) e h =
-      struct_spellable d outer AsElement ts e h
-  member_spellable d outer (array no_trees n) e h =
+  member_spellable d outer (structure ts) e h p =
+      struct_spellable d outer AsElement ts e h p
+  member_spellable d outer (array no_trees n) e h p =
       absurd (h [] bad_typedef (misshapen refl refl))
-  member_spellable d outer (array (tree t no_trees) n) e h =
-      let below : n < TOO_GREAT = omega (arith, small_count outer AsElement t n h) in
-      (below, (member_spellable d (outer + 1) t (omega arith) (part_is_right (array (tree t no_trees) n) h 0 (omega arith)), tt))
-  member_spellable d outer (array (tree t (tree u us)) n) e h =
+  member_spellable d outer (array (tree t no_trees) zero) e h p =
+      absurd (h [] bad_typedef (misshapen refl refl))
+  member_spellable d outer (array (tree t no_trees) (suc n)) e h p =
+      let below : suc n < TOO_GREAT = omega (arith, small_count outer AsElement t (suc n) h) in
+      (below, (member_spellable d (outer + 1) t (omega arith) (part_is_right (array (tree t no_trees) (suc n)) h 0 (omega arith)) (neither (has_long_double t) false p).0, tt))
+  member_spellable d outer (array (tree t (tree u us)) n) e h p =
       absurd (h [] bad_typedef (misshapen refl refl))
 
-  struct_spellable : (d outer : ℕ) (role : Role) (ts : Trees) → d ≤ outer → HasNoFault outer role (structure ts) → (d < MOST_OPEN) × AreSpellableMembers (suc d) ts
-  struct_spellable d outer role no_trees e h =
+  struct_spellable : (d outer : ℕ) (role : Role) (ts : Trees) → d ≤ outer → HasNoFault outer role (structure ts) → has_long_double (structure ts) ≡ false → (d < MOST_OPEN) × AreSpellableMembers (suc d) ts
+  struct_spellable d outer role no_trees e h p =
       absurd (h [] bad_typedef (misshapen refl refl))
-  struct_spellable d outer role (tree t ts) e h =
+  struct_spellable d outer role (tree t ts) e h p =
       let shallow : d < MOST_OPEN = omega (arith, not_deep outer role (tree t ts) h) in
       let right : AllRight (outer + 1) (tree t ts) = part_is_right (structure (tree t ts)) h in
-      (shallow, (member_spellable (suc d) (outer + 1) t (omega arith) (right 0 (omega arith)), more_spellable (suc d) (outer + 1) 1 ts (omega arith) (λ j below. right (suc j) (omega arith)) (omega (arith, few_members outer role (tree t ts) h))))
+      let plain = neither (has_long_double t) (have_long_double ts) p in
+      (shallow, (member_spellable (suc d) (outer + 1) t (omega arith) (right 0 (omega arith)) plain.0, more_spellable (suc d) (outer + 1) 1 ts (omega arith) (λ j below. right (suc j) (omega arith)) plain.1 (omega (arith, few_members outer role (tree t ts) h))))
 
-  more_spellable : (d outer i : ℕ) (ts : Trees) → d ≤ outer → AllRight outer ts → i + length (list_of ts) ≤ TOO_GREAT → AreMoreSpellable d i ts
-  more_spellable d outer i no_trees e right few = tt
-  more_spellable d outer i (tree t ts) e right few =
-      (omega arith, member_spellable d outer t e (right 0 (omega arith)), more_spellable d outer (i + 1) ts e (λ j below. right (suc j) (omega arith)) (omega arith))
+  more_spellable : (d outer i : ℕ) (ts : Trees) → d ≤ outer → AllRight outer ts → have_long_double ts ≡ false → i + length (list_of ts) ≤ TOO_GREAT → AreMoreSpellable d i ts
+  more_spellable d outer i no_trees e right plain few = tt
+  more_spellable d outer i (tree t ts) e right plain few =
+      let parts = neither (has_long_double t) (have_long_double ts) plain in
+      (omega arith, member_spellable d outer t e (right 0 (omega arith)) parts.0, more_spellable d outer (i + 1) ts e (λ j below. right (suc j) (omega arith)) parts.1 (omega arith))
 
-value_spellable : (t : Tree) → IsArgumentType t → IsSpellableValue t
-value_spellable void h = absurd (h [] bad_typedef (out_of_place refl refl))
-value_spellable (scalar s) h = tt
-value_spellable (left_out k) h =
+value_spellable : (t : Tree) → IsArgumentType t → has_long_double t ≡ false → IsSpellableValue t
+value_spellable void h p = absurd (h [] bad_typedef (out_of_place refl refl))
+value_spellable (scalar s) h p = p
+value_spellable (left_out k) h p =
     absurd (h [] (left_out_type (left_out k)) (left_out_kind refl))
-value_spellable (structure ts) h =
-    struct_spellable 0 0 AsArgument ts (omega arith) h
-value_spellable (array ts n) h =
+value_spellable (structure ts) h p =
+    struct_spellable 0 0 AsArgument ts (omega arith) h p
+value_spellable (array ts n) h p =
     absurd (h [] bad_typedef (out_of_place refl refl))
 
-result_spellable : (t : Tree) → IsResultType t → IsSpellableResult t
-result_spellable void h = tt
-result_spellable (scalar s) h = tt
-result_spellable (left_out k) h =
+result_spellable : (t : Tree) → IsResultType t → has_long_double t ≡ false → IsSpellableResult t
+result_spellable void h p = tt
+result_spellable (scalar s) h p = p
+result_spellable (left_out k) h p =
     absurd (h [] (left_out_type (left_out k)) (left_out_kind refl))
-result_spellable (structure ts) h =
-    struct_spellable 0 0 AsResult ts (omega arith) h
-result_spellable (array ts n) h =
+result_spellable (structure ts) h p =
+    struct_spellable 0 0 AsResult ts (omega arith) h p
+result_spellable (array ts n) h p =
     absurd (h [] bad_typedef (out_of_place refl refl))
 
-values_spellable : (ts : List Tree) → ((i : ℕ) → i < length ts → IsArgumentType (tree_at ts i)) → AreSpellableValues ts
-values_spellable [] h = tt
-values_spellable (t ∷ ts) h =
-    (value_spellable t (h 0 (omega arith)), values_spellable ts (λ i below. h (suc i) (omega arith)))
+values_spellable : (ts : List Tree) → ((i : ℕ) → i < length ts → IsArgumentType (tree_at ts i)) → ((i : ℕ) → i < length ts → has_long_double (tree_at ts i) ≡ false) → AreSpellableValues ts
+values_spellable [] h p = tt
+values_spellable (t ∷ ts) h p =
+    (value_spellable t (h 0 (omega arith)) (p 0 (omega arith)), values_spellable ts (λ i below. h (suc i) (omega arith)) (λ i below. p (suc i) (omega arith)))
 
 pub spellable_result : (s : Signature) → SignatureHasNoFault s → IsSpellableResult s.result_type
-spellable_result s right = result_spellable s.result_type (result_is_right s right)
+spellable_result s right = result_spellable s.result_type (result_is_right s right) (faultless_is_plain s right).result_type
 
 pub spellable_arguments : (s : Signature) → SignatureHasNoFault s → AreSpellableValues s.arguments
 spellable_arguments s right =
-    values_spellable s.arguments (argument_is_right s right)
+    values_spellable s.arguments (argument_is_right s right) (faultless_is_plain s right).arguments
 
 module _ (s : Signature) (right : SignatureHasNoFault s) (all : FixesAll s) where
   may_be_variadic : (ts : List Tree) (o : Option ℕ) → s.arguments ≡ ts → s.fixed ≡ o → MayBeVariadic ts (is_some o)

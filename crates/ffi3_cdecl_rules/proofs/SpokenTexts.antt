@@ -1,7 +1,7 @@
 -- The canonical text of a declaration reads as it.
 use Rattle.std.proofs.Common.{◌≡◌, ℕ, suc, ◌+◌, Bool, true, false, List, [], ◌∷◌, ap, sym, subst, refl, ◌∙◌, lit<}
 use Rattle.std.specs.Prelude.{is_some}
-use Rattle.ffi3_type_rules.specs.Tree.{Scalar, u8, s8, u16, s16, u32, s32, u64, s64, u128, s128, float, double, pointer, Tree, Trees, void, scalar, left_out, structure, array, no_trees, tree}
+use Rattle.ffi3_type_rules.specs.Tree.{Scalar, u8, s8, u16, s16, u32, s32, u64, s64, u128, s128, float, double, pointer, x87, binary128, Tree, Trees, void, scalar, left_out, structure, array, no_trees, tree}
 use Rattle.ffi3_cdecl_rules.specs.Tokens.{Token, unsigned, type_word, sign_word, int128_word, void_word, struct_word, name, open_round, close_round, open_curly, close_curly, open_square, close_square, comma, semicolon, star, dots, word_of}
 use Rattle.ffi3_cdecl_rules.specs.Grammar.{IsDeclaration}
 use Rattle.ffi3_cdecl_rules.specs.Reading.{IsReading, is_read, reads}
@@ -124,6 +124,8 @@ scalar_spoken s128 rest h = (int128_spoken, h)
 scalar_spoken float rest h = (float_spoken, h)
 scalar_spoken double rest h = (double_spoken, h)
 scalar_spoken pointer rest h = (void_spoken, (star_spoken, h))
+scalar_spoken x87 rest h = h
+scalar_spoken binary128 rest h = h
 
 pub identifier_of : (word bytes : List ℕ) → word ≡ bytes → IsIdentifierOf word bytes → Spoken (name word)
 identifier_of word [] e h = absurd h

@@ -1,7 +1,8 @@
 -- The canonical tokens of a declaration declare it.
 use Rattle.std.proofs.Common.{◌≡◌, ℕ, suc, ◌+◌, ◌<◌, Bool, true, false, List, [], ◌∷◌, length, Option, Some, None, option_map, ap, sym, subst, refl}
 use Rattle.std.specs.Prelude.{is_some}
-use Rattle.ffi3_type_rules.specs.Tree.{Scalar, u128, s128, pointer, Tree, Trees, void, scalar, structure, array, left_out, no_trees, tree, list_of, trees_of-list_of}
+use Rattle.ffi3_type_rules.specs.Tree.{Scalar, u128, s128, pointer, x87, binary128, Tree, Trees, void, scalar, structure, array, left_out, no_trees, tree, list_of, trees_of-list_of}
+use Rattle.ffi3_type_rules.specs.Layout.{is_long_double}
 use Rattle.ffi3_cdecl_rules.specs.Tokens.{plain, Token, name, number, struct_word, open_round, open_curly, close_curly, open_square, close_square, semicolon}
 use Rattle.ffi3_cdecl_rules.specs.Grammar.{MOST_OPEN, by_word, by_size, by_sign, sign_of_size, an_int128, a_void, a_struct, unqualified, IsType, itself, pointer_to, one_star, IsCounts, no_count, a_count, IsMember, a_member, IsMembers, last_member, next_member, IsParameter, without_name, IsParameters, last_parameter, last_before_dots, next_parameter, IsParameterList, only_void, some_parameters, IsResult, a_result, no_result, one_semicolon, IsDeclaration, declares}
 use Rattle.ffi3_cdecl_rules.specs.Canonical.{scalar_tokens, count_tokens, first_count_tokens, type_tokens, first_type_tokens, member_tokens, end_tokens, more_parameter_tokens, parameter_tokens, declaration_tokens, FixesAll}
@@ -21,12 +22,14 @@ abbrev mutual
   first_inner no_trees = void
   first_inner (tree t ts) = inner t
 
-scalar_written : (d : ℕ) (s : Scalar) (rest : List Token) → IsType plain d (scalar_tokens s rest) rest (scalar s)
-scalar_written d u128 rest =
+scalar_written : (d : ℕ) (s : Scalar) → is_long_double s ≡ false → (rest : List Token) → IsType plain d (scalar_tokens s rest) rest (scalar s)
+scalar_written d u128 short rest =
     itself (unqualified (by_sign refl (sign_of_size an_int128)))
-scalar_written d s128 rest = itself (unqualified (by_size refl an_int128))
-scalar_written d pointer rest = pointer_to (unqualified a_void) one_star
-scalar_written d s rest = itself (unqualified by_word)
+scalar_written d s128 short rest = itself (unqualified (by_size refl an_int128))
+scalar_written d pointer short rest = pointer_to (unqualified a_void) one_star
+scalar_written d x87 short rest = absurd (cc)
+scalar_written d binary128 short rest = absurd (cc)
+scalar_written d s short rest = itself (unqualified by_word)
 
 struct_written : {d : ℕ} {before rest : List Token} (ts : Trees) → d < MOST_OPEN → IsMembers plain (suc d) before rest (list_of ts) → IsType plain d (struct_word ∷ open_curly ∷ before) rest (structure ts)
 struct_written {d = d} {before = before} {rest = rest} ts room m =
@@ -52,7 +55,7 @@ mutual
 mutual
   member_type_written : (d : ℕ) (t : Tree) → IsSpellableMember d t → (rest : List Token) → IsType plain d (type_tokens t rest) rest (inner t)
   member_type_written d void h rest = absurd h
-  member_type_written d (scalar s) h rest = scalar_written d s rest
+  member_type_written d (scalar s) h rest = scalar_written d s h rest
   member_type_written d (left_out k) h rest = absurd h
   member_type_written d (structure ts) h rest =
       struct_written ts h.0 (members_written (suc d) ts h.1 rest)
@@ -74,7 +77,7 @@ mutual
 
 pub value_written : (t : Tree) → IsSpellableValue t → (rest : List Token) → IsType plain 0 (type_tokens t rest) rest t
 value_written void h rest = absurd h
-value_written (scalar s) h rest = scalar_written 0 s rest
+value_written (scalar s) h rest = scalar_written 0 s h rest
 value_written (left_out k) h rest = absurd h
 value_written (structure ts) h rest =
     struct_written ts h.0 (members_written 1 ts h.1 rest)
@@ -82,7 +85,7 @@ value_written (array ts n) h rest = absurd h
 
 pub result_written : (t : Tree) → IsSpellableResult t → (rest : List Token) → IsResult plain (type_tokens t rest) rest t
 result_written void h rest = no_result (unqualified a_void)
-result_written (scalar s) h rest = a_result (scalar_written 0 s rest)
+result_written (scalar s) h rest = a_result (scalar_written 0 s h rest)
 result_written (left_out k) h rest = absurd h
 result_written (structure ts) h rest =
     a_result (struct_written ts h.0 (members_written 1 ts h.1 rest))

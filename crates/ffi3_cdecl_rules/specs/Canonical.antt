@@ -1,7 +1,7 @@
 -- The canonical text of a declaration, by its tokens.
 use Rattle.std.specs.Prelude.{◌≡◌, ℕ, ◌+◌, Bool, true, false, List, [], ◌∷◌, ◌++◌, ◌&&◌, ◌||◌, length, Some, is_some}
 use Rattle.std.specs.Prelude.{codes, decimal}
-use Rattle.ffi3_type_rules.specs.Tree.{Scalar, u8, s8, u16, s16, u32, s32, u64, s64, u128, s128, float, double, pointer}
+use Rattle.ffi3_type_rules.specs.Tree.{Scalar, u8, s8, u16, s16, u32, s32, u64, s64, u128, s128, float, double, pointer, x87, binary128}
 use Rattle.ffi3_type_rules.specs.Tree.{Tree, Trees, void, scalar, left_out, structure, array, no_trees, tree}
 use Rattle.ffi3_cdecl_rules.specs.Tokens.{Token, unsigned, type_word, sign_word, int128_word, void_word, struct_word}
 use Rattle.ffi3_cdecl_rules.specs.Tokens.{name, number, open_round, close_round, open_curly, close_curly, open_square}
@@ -10,11 +10,13 @@ use Rattle.ffi3_cdecl_rules.specs.Tokens.{int_word, long_word, char_word, union_
 use Rattle.ffi3_cdecl_rules.specs.Tokens.{complex_word, attribute_word, other_keyword, is_letter, goes_on_word, word_of}
 use Rattle.ffi3_type_rules.specs.Signature.{Signature}
 
--- a scalar, in front of other tokens
+-- a scalar, in front of other tokens; a long double of 16 bytes has none, as what is left out has none
 abbrev pub scalar_tokens : Scalar → List Token → List Token
 scalar_tokens u128 rest = sign_word unsigned ∷ int128_word ∷ rest
 scalar_tokens s128 rest = int128_word ∷ rest
 scalar_tokens pointer rest = void_word ∷ star ∷ rest
+scalar_tokens x87 rest = rest
+scalar_tokens binary128 rest = rest
 scalar_tokens s rest = type_word s ∷ rest
 
 -- the counts of an array, the outermost first
@@ -94,6 +96,8 @@ scalar_word s128 = []
 scalar_word float = codes "float"
 scalar_word double = codes "double"
 scalar_word pointer = []
+scalar_word x87 = []
+scalar_word binary128 = []
 
 abbrev pub spelled : Token → List ℕ
 spelled (type_word s) = scalar_word s

@@ -8,14 +8,15 @@ ghost use Rattle.ffi3_place_rules.specs.Standard.{plan_of};
 ghost use Rattle.ffi3_cif.specs.Prepared.{IsPrepRefusal};
 ghost use Rattle.ffi3_cif.specs.Runs.{AreRunsOf, pieces_of};
 
+mod placed;
 mod runs;
 
-use ffi3_place::{Abi, Place, Plan, Res};
+use ffi3_place::{Abi, Place, Res};
 use ffi3_types::{CheckedSig, FfiType, Fields, NoMemory, Sig, SigFault, check_sig};
+pub use placed::Placed;
 pub use runs::{Run, Runs};
-use runs::{AllRuns, runs_in_frame};
 use std::alloc::Global;
-use std::marker::{Model, PhantomData};
+use std::marker::Model;
 use thiserror::Error;
 
 /// Why a call interface is not prepared: the signature's first fault, or, where it has none, want of memory. (libffi's FFI_BAD_TYPEDEF and FFI_BAD_ARGTYPE are in the first)
@@ -30,29 +31,19 @@ pub enum PrepFault {
 /// A signature without fault and its plan by the standard `A` (libffi's `ffi_cif`). Contracts see the signature.
 #[derive(Drop)]
 pub struct Cif<A: Abi> {
-    sig: Sig,
-    plan: Plan,
-    runs: AllRuns,
-    standard: PhantomData<A>,
+    placed: Placed<A>,
 }
 
 impl<A: Abi> Model for Cif<A> {
-    ghost use Rattle.std.specs.Prelude.{◌≡◌};
     ghost use Rattle.ffi3_type_rules.specs.Signature.{Signature, signature_code, SignatureHasNoFault};
-    ghost use Rattle.ffi3_place_rules.specs.Standard.{plan_of};
-    ghost use Rattle.ffi3_cif.specs.Runs.{PlacesHaveRuns};
 
     ghost Value = { Signature };
 
     ghost coded = { signature_code };
 
-    ghost view = { λ c. c.sig };
+    ghost view = { λ c. c.placed };
 
-    ghost invariant = { λ c. record {
-      faultless : SignatureHasNoFault c.sig;
-      planned : c.plan ≡ plan_of A.standard c.sig;
-      gathered : PlacesHaveRuns c.plan.places c.runs;
-    } };
+    ghost invariant = { λ c. SignatureHasNoFault c.placed };
 }
 
 impl<A: Abi> Cif<A> {
@@ -61,17 +52,8 @@ impl<A: Abi> Cif<A> {
         requires { SignatureHasNoFault sig }
         ensures { IfOk result (λ c. c ≡ sig) }
     {
-        let Ok(plan) = A::plan(alloc, &sig) else {
-            return Err(NoMemory);
-        };
-        let Ok(runs) = runs_in_frame(alloc, &plan.places, plan.frame) else {
-            return Err(NoMemory);
-        };
         Ok(Cif {
-            sig,
-            plan,
-            runs,
-            standard: PhantomData,
+            placed: Placed::prepare(alloc, sig)?,
         })
     }
 
@@ -87,7 +69,14 @@ impl<A: Abi> Cif<A> {
         ensures value { result.now ≡ self.now }
         ensures faultless { SignatureHasNoFault self.now }
     {
-        &self.sig
+        self.placed.sig()
+    }
+
+    /// The same signature and plan: what can be called can be placed.
+    pub fn placed(&self) -> &Placed<A>
+        ensures { result.now ≡ self.now }
+    {
+        &self.placed
     }
 
     /// The signature, as one of which it is known that it has no fault.
@@ -95,28 +84,28 @@ impl<A: Abi> Cif<A> {
         ensures value { result ≡ self.now }
         ensures faultless { SignatureHasNoFault self.now }
     {
-        CheckedSig::of(&self.sig)
+        CheckedSig::of(self.placed.sig())
     }
 
     /// All the stack that a call takes, in bytes.
     pub fn need(&self) -> u64
         ensures { result ≡ (plan_of A.standard self.now).need }
     {
-        self.plan.need
+        self.placed.need()
     }
 
     /// The bytes of stack arguments, copies and a hidden result's buffer.
     pub fn frame(&self) -> u64
         ensures { result ≡ (plan_of A.standard self.now).frame }
     {
-        self.plan.frame
+        self.placed.frame()
     }
 
     /// The bytes of the callee's copy of its arguments.
     pub fn block(&self) -> u64
         ensures { result ≡ (plan_of A.standard self.now).block }
     {
-        self.plan.block
+        self.placed.block()
     }
 
     /// Where argument `i` stands.
@@ -124,7 +113,7 @@ impl<A: Abi> Cif<A> {
         requires { i < length self.now.arguments }
         ensures { slice_get (plan_of A.standard self.now).places i ≡ Some result.now }
     {
-        self.plan.places.get(i as usize)
+        self.placed.place(i)
     }
 
     /// The bytes of argument `i` that stand on the stack, in as few runs as they make, which rise. An argument by reference has none.
@@ -132,21 +121,21 @@ impl<A: Abi> Cif<A> {
         requires { i < length self.now.arguments }
         ensures { IsSomeAnd (slice_get (plan_of A.standard self.now).places i) (λ p. AreRunsOf (pieces_of p) result.now) }
     {
-        self.runs.get(i as usize)
+        self.placed.runs(i)
     }
 
     /// Where the result stands.
     pub fn result_place(&self) -> &Res
         ensures { result.now ≡ (plan_of A.standard self.now).res }
     {
-        &self.plan.res
+        self.placed.result_place()
     }
 
     /// How many vector registers the arguments use, where the standard tells it at a call; otherwise 0.
     pub fn vectors(&self) -> u8
         ensures { result ≡ (plan_of A.standard self.now).vectors }
     {
-        self.plan.vectors
+        self.placed.vectors()
     }
 }
 

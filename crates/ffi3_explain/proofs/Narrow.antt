@@ -1,6 +1,6 @@
 -- A narrow integer is a number of at most eight bytes, and what extends it.
 use Rattle.std.proofs.Common.{◌≡◌, ℕ, ◌≤◌, true, refl, arith}
-use Rattle.ffi3_type_rules.specs.Tree.{Tree, void, scalar, left_out, structure, array, u8, s8, u16, s16, u32, s32, u64, s64, u128, s128, float, double, pointer}
+use Rattle.ffi3_type_rules.specs.Tree.{Tree, void, scalar, left_out, structure, array, u8, s8, u16, s16, u32, s32, u64, s64, u128, s128, float, double, pointer, x87, binary128}
 use Rattle.ffi3_type_rules.specs.Layout.{size_of}
 use Rattle.ffi3_type_rules.specs.Integer.{is_number_type, scalar_of, widened, widened_from_32}
 use Rattle.ffi3_type_rules.specs.Value.{ValueTree, void_value, leaf_value, struct_value, bytes_of, fits}
@@ -23,6 +23,8 @@ narrow_number (scalar s128) e = cc
 narrow_number (scalar float) e = cc
 narrow_number (scalar double) e = cc
 narrow_number (scalar pointer) e = cc
+narrow_number (scalar x87) e = cc
+narrow_number (scalar binary128) e = cc
 narrow_number (left_out k) e = cc
 narrow_number (structure ts) e = cc
 narrow_number (array ts n) e = cc

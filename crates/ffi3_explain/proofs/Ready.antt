@@ -17,7 +17,8 @@ use Rattle.ffi3_place_rules.specs.declared.Place.{Place}
 use Rattle.ffi3_place_rules.specs.declared.Place.TheVariants.{Direct, ByRef}
 use Rattle.ffi3_place_rules.specs.Image.{Image}
 use Rattle.ffi3_place_rules.specs.Standard.{Standard, plan_of, frame_of, ResultSpot, no_result, in_result_pieces, in_buffer, result_at, buffer_end, frame_copies_end}
-use Rattle.ffi3_place_rules.specs.Sound.{IsSound, LiesIn, IsPieceOf, PlacesHaveAll, place_locs, piece_locs, copy_locs, stack_words_for, argument_locs, hidden_locs, buffer_locs}
+use Rattle.ffi3_place_rules.specs.Sound.{LiesIn, IsPieceOf, PlacesHaveAll, place_locs, piece_locs, copy_locs, stack_words_for, argument_locs, hidden_locs, buffer_locs}
+use Rattle.ffi3_place_rules.proofs.OnMachine.{IsSoundOnMachine}
 use Rattle.ffi3_explain_rules.specs.Arguments.{stack_end, least_stack}
 use Rattle.ffi3_explain_rules.proofs.Copies.{bytes_of_right, copy_fits}
 use Rattle.ffi3_explain_rules.proofs.Places.{join, left_part, right_part}
@@ -103,7 +104,7 @@ module _ (m : Image) (base : ℕ) where
     hidden_ready start end t (in_result_pieces pieces) fit there = tt
     hidden_ready start end t (in_buffer at) fit there = (there.0, omega (arith, fit, high))
 
-module _ (std : Standard) (s : Signature) (sound : IsSound std s) where
+module _ (std : Standard) (s : Signature) (sound : IsSoundOnMachine std s) where
   abbrev Lies : Loc → Type 0
   Lies = LiesIn (isa_of std.target) (frame_of std s)
 

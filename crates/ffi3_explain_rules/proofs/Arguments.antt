@@ -11,6 +11,7 @@ use Rattle.ffi3_type_rules.specs.Layout.{size_of}
 use Rattle.ffi3_type_rules.specs.Fault.{IsLaidOut, IsArgumentType}
 use Rattle.ffi3_type_rules.specs.Signature.{Signature, SignatureHasNoFault}
 use Rattle.ffi3_type_rules.specs.Value.{ValueTree, value_in, values_of, fits, all_fit}
+use Rattle.ffi3_type_rules.proofs.Placed.{faultless_is_plain}
 use Rattle.ffi3_type_rules.proofs.Right.{argument_is_right, argument_is_laid_out}
 use Rattle.ffi3_place_rules.specs.declared.Loc.{Loc}
 use Rattle.ffi3_place_rules.specs.declared.Loc.TheVariants.{G, F, S}
@@ -246,7 +247,7 @@ module _ (std : Standard) (s : Signature) (m : Image) (right : SignatureHasNoFau
 
   copies_lie : AllByRecursion Lies copies
   copies_lie =
-      left_part Lies copies buffer (right_part Lies (argument_locs (plan_of std s)) (copies ++ buffer) sound.in_frame)
+      left_part Lies copies buffer (right_part Lies (argument_locs (plan_of std s)) (copies ++ buffer) (sound.on_machine (faultless_is_plain s right)).in_frame)
 
   owned_read : (vs : List ValueTree) → Own std s vs m → held_by_standard std s m ≡ are_values vs
   owned_read vs own =
@@ -289,7 +290,7 @@ module _ (std : Standard) (s : Signature) (m : Image) (right : SignatureHasNoFau
 
   places_lie : AllByRecursion Lies (flat_map place_locs (plan_of std s).places)
   places_lie =
-      right_part Lies (hidden_locs (plan_of std s).res) (flat_map place_locs (plan_of std s).places) (left_part Lies (argument_locs (plan_of std s)) (copies ++ buffer) sound.in_frame)
+      right_part Lies (hidden_locs (plan_of std s).res) (flat_map place_locs (plan_of std s).places) (left_part Lies (argument_locs (plan_of std s)) (copies ++ buffer) (sound.on_machine (faultless_is_plain s right)).in_frame)
 
   least_is_less : least_stack std s ≤ std.link + frame_of std s
   least_is_less =

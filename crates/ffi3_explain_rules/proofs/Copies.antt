@@ -9,13 +9,13 @@ use Rattle.ffi3_type_rules.specs.Tree.{Tree, void, scalar, left_out, structure, 
 use Rattle.ffi3_type_rules.specs.Layout.{size_of, layouts, align_before, end_before}
 use Rattle.ffi3_type_rules.specs.Fault.{takes_void, HasNoFault, IsArgumentType, bad_typedef, left_out_type, out_of_place, left_out_kind, misshapen}
 use Rattle.ffi3_type_rules.proofs.Faults.{fault_outside}
-use Rattle.ffi3_type_rules.proofs.Layouts.{least_multiple-above, scalar_size-bounds, size_le-end}
+use Rattle.ffi3_type_rules.proofs.Layouts.{least_multiple-above, scalar_room-bounds, size_le-end}
 use Rattle.ffi3_place_rules.specs.Sound.{LiesIn, stack_words, stack_words_for}
 
 -- a type without fault that is not Void has bytes
 has_bytes : (outer : ℕ) (role : Role) (t : Tree) → takes_void role ≡ false → HasNoFault outer role t → 1 ≤ size_of t
 has_bytes outer role void none right = absurd (right [] bad_typedef (out_of_place refl none))
-has_bytes outer role (scalar s) none right = (scalar_size-bounds s).0
+has_bytes outer role (scalar s) none right = (scalar_room-bounds s).0
 has_bytes outer role (left_out k) none right = absurd (right [] (left_out_type (left_out k)) (left_out_kind refl))
 has_bytes outer role (array no_trees n) none right = absurd (right [] bad_typedef (misshapen refl refl))
 has_bytes outer role (array (tree t no_trees) zero) none right = absurd (right [] bad_typedef (misshapen refl refl))

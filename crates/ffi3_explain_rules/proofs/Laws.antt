@@ -6,6 +6,7 @@ use Rattle.std.proofs.lemmas.Bool.Decides.{nat_tests}
 use Rattle.ffi3_type_rules.specs.Isa.{isa_of}
 use Rattle.ffi3_type_rules.specs.Signature.{Signature, SignatureHasNoFault}
 use Rattle.ffi3_type_rules.specs.Value.{ValueTree}
+use Rattle.ffi3_type_rules.proofs.Placed.{faultless_is_plain}
 use Rattle.ffi3_type_rules.proofs.Right.{argument_is_laid_out}
 use Rattle.ffi3_place_rules.specs.declared.Loc.{Loc}
 use Rattle.ffi3_place_rules.specs.declared.Res.{Res}
@@ -98,7 +99,7 @@ module _ (std : Standard) (s : Signature) (m : Image) (right : SignatureHasNoFau
 
   copies_lie : AllByRecursion (LiesIn (isa_of std.target) (frame_of std s)) (copy_locs s.arguments (plan_of std s).places)
   copies_lie =
-      left_part _ (copy_locs s.arguments (plan_of std s).places) (buffer_locs s.result_type (plan_of std s).res) (right_part _ (argument_locs (plan_of std s)) (copy_locs s.arguments (plan_of std s).places ++ buffer_locs s.result_type (plan_of std s).res) sound.in_frame)
+      left_part _ (copy_locs s.arguments (plan_of std s).places) (buffer_locs s.result_type (plan_of std s).res) (right_part _ (argument_locs (plan_of std s)) (copy_locs s.arguments (plan_of std s).places ++ buffer_locs s.result_type (plan_of std s).res) (sound.on_machine (faultless_is_plain s right)).in_frame)
 
   held_holds : AllByRecursion IsHeld (checks std s m) → Holds std s read m
   held_holds held =

@@ -4,9 +4,10 @@ use Rattle.std.proofs.Common.{◌≡◌, ℕ, zero, suc, ◌+◌, ◌<◌, ◌�
 use Rattle.std.specs.List.{AllByRecursion}
 use Rattle.std.specs.Int.{w64, to_le_bytes, from_le_bytes}
 use Rattle.std.proofs.lemmas.Bool.Decides.{nat_tests}
-use Rattle.ffi3_type_rules.specs.Tree.{Tree, void, scalar, left_out, structure, array, Scalar, u8, s8, u16, s16, u32, s32, u64, s64, u128, s128, float, double, pointer}
-use Rattle.ffi3_type_rules.specs.Layout.{Leaf, leaves_of, size_of, scalar_size}
-use Rattle.ffi3_type_rules.specs.Value.{ValueTree, value_in, fits}
+use Rattle.ffi3_type_rules.specs.Tree.{Tree, void, scalar, left_out, structure, array, Scalar, u8, s8, u16, s16, u32, s32, u64, s64, u128, s128, float, double, pointer, x87, binary128}
+use Rattle.ffi3_type_rules.specs.Layout.{Leaf, leaves_of, size_of, scalar_size, scalar_room}
+use Rattle.ffi3_type_rules.specs.Integer.{widened, widened_from_32}
+use Rattle.ffi3_type_rules.specs.Value.{ValueTree, value_in, fits, significant}
 use Rattle.ffi3_type_rules.proofs.Tests.{and_left, and_right, both}
 use Rattle.ffi3_type_rules.proofs.Widened.{byte-widened, byte-widened_from_32}
 use Rattle.ffi3_place_rules.specs.declared.Ext.{Ext}
@@ -175,6 +176,43 @@ module _ (m : Image) (base : ℕ) (has : HasWords m) (t : Tree) (all : List Piec
   narrow_size float h = cc
   narrow_size double h = cc
   narrow_size pointer h = cc
+  narrow_size x87 h = cc
+  narrow_size binary128 h = cc
+
+  -- a narrow integer takes the bytes of its value and no more, and all of them are its value
+  narrow_same : (s : Scalar) → is_narrow_integer (scalar s) ≡ true → scalar_room s ≡ scalar_size s
+  narrow_same u8 h = refl
+  narrow_same s8 h = refl
+  narrow_same u16 h = refl
+  narrow_same s16 h = refl
+  narrow_same u32 h = refl
+  narrow_same s32 h = refl
+  narrow_same u64 h = cc
+  narrow_same s64 h = cc
+  narrow_same u128 h = cc
+  narrow_same s128 h = cc
+  narrow_same float h = cc
+  narrow_same double h = cc
+  narrow_same pointer h = cc
+  narrow_same x87 h = cc
+  narrow_same binary128 h = cc
+
+  narrow_kept : (s : Scalar) (bytes : List ℕ) → is_narrow_integer (scalar s) ≡ true → significant s bytes ≡ bytes
+  narrow_kept u8 bytes h = refl
+  narrow_kept s8 bytes h = refl
+  narrow_kept u16 bytes h = refl
+  narrow_kept s16 bytes h = refl
+  narrow_kept u32 bytes h = refl
+  narrow_kept s32 bytes h = refl
+  narrow_kept u64 bytes h = cc
+  narrow_kept s64 bytes h = cc
+  narrow_kept u128 bytes h = cc
+  narrow_kept s128 bytes h = cc
+  narrow_kept float bytes h = cc
+  narrow_kept double bytes h = cc
+  narrow_kept pointer bytes h = cc
+  narrow_kept x87 bytes h = cc
+  narrow_kept binary128 bytes h = cc
 
   -- a byte of a whole narrow integer
   narrow_byte : (p : Piece) (k n x : ℕ) → p.off ≡ 0 → size_of t ≡ n → k < n → x ≡ get_or out k 0 → x ≡ first_byte m base all (p.off + k)
@@ -192,17 +230,17 @@ module _ (m : Image) (base : ℕ) (has : HasWords m) (t : Tree) (all : List Piec
   extended_byte p Widen (structure ts) same ext short k word h leaf is = cc (ext.0)
   extended_byte p Widen (array ts n) same ext short k word h leaf is = cc (ext.0)
   extended_byte p Widen (scalar s) same ext short k word h leaf is =
-      let sized : size_of t ≡ scalar_size s = ap size_of (sym same) in
+      let sized : size_of t ≡ scalar_size s = ap size_of (sym same) ∙ narrow_same s ext.0 in
       let long = first_bytes-length m base all 0 (size_of t) ∙ sized in
-      narrow_byte p k (scalar_size s) (get_or (to_le_bytes w64 word) k 0) ext.1 sized (omega (arith, h, ext.2)) (ap (λ w. get_or (to_le_bytes w64 w) k 0) is ∙ byte-widened out (out_small (size_of t) 0) s k (omega (arith, ext.2, short)) long (omega (arith, h, ext.2)))
+      narrow_byte p k (scalar_size s) (get_or (to_le_bytes w64 word) k 0) ext.1 sized (omega (arith, h, ext.2, narrow_same s ext.0)) (ap (λ w. get_or (to_le_bytes w64 w) k 0) (is ∙ ap (widened s) (narrow_kept s out ext.0)) ∙ byte-widened out (out_small (size_of t) 0) s k (omega (arith, ext.2, narrow_same s ext.0, short)) long (omega (arith, h, ext.2, narrow_same s ext.0)))
   extended_byte p Riscv void same ext short k word h leaf is = cc (ext.0)
   extended_byte p Riscv (left_out n) same ext short k word h leaf is = cc (ext.0)
   extended_byte p Riscv (structure ts) same ext short k word h leaf is = cc (ext.0)
   extended_byte p Riscv (array ts n) same ext short k word h leaf is = cc (ext.0)
   extended_byte p Riscv (scalar s) same ext short k word h leaf is =
-      let sized : size_of t ≡ scalar_size s = ap size_of (sym same) in
+      let sized : size_of t ≡ scalar_size s = ap size_of (sym same) ∙ narrow_same s ext.0 in
       let long = first_bytes-length m base all 0 (size_of t) ∙ sized in
-      narrow_byte p k (scalar_size s) (get_or (to_le_bytes w64 word) k 0) ext.1 sized (omega (arith, h, ext.2)) (ap (λ w. get_or (to_le_bytes w64 w) k 0) is ∙ byte-widened_from_32 out (out_small (size_of t) 0) s k (narrow_size s ext.0) long (omega (arith, h, ext.2)))
+      narrow_byte p k (scalar_size s) (get_or (to_le_bytes w64 word) k 0) ext.1 sized (omega (arith, h, ext.2, narrow_same s ext.0)) (ap (λ w. get_or (to_le_bytes w64 w) k 0) (is ∙ ap (widened_from_32 s) (narrow_kept s out ext.0)) ∙ byte-widened_from_32 out (out_small (size_of t) 0) s k (narrow_size s ext.0) long (omega (arith, h, ext.2, narrow_same s ext.0)))
 
   -- a place that is as it is wanted
   abbrev pub IsAsWanted : Piece → Type 0

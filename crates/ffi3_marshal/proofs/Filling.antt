@@ -2,10 +2,10 @@
 use Rattle.std.specs.Prelude.{true, ◌/◌, ◌^◌, ◌-◌}
 use Rattle.std.proofs.Common.{◌≡◌, ℕ, ◌+◌, ◌<◌, ◌≤◌, List, get_or, length, refl, ap, sym, ◌∙◌, subst, arith}
 use Rattle.std.specs.Int.{w64, to_le_bytes}
-use Rattle.ffi3_type_rules.specs.Tree.{Tree, void, scalar, left_out, structure, Scalar, u8, s8, u16, s16, u32, s32, u64, s64, u128, s128, float, double, pointer, array}
-use Rattle.ffi3_type_rules.specs.Layout.{size_of, scalar_size}
+use Rattle.ffi3_type_rules.specs.Tree.{Tree, void, scalar, left_out, structure, Scalar, u8, s8, u16, s16, u32, s32, u64, s64, u128, s128, float, double, pointer, x87, binary128, array}
+use Rattle.ffi3_type_rules.specs.Layout.{size_of, scalar_size, scalar_room}
 use Rattle.ffi3_type_rules.specs.Integer.{is_number_type, scalar_of, widened, widened_from_32}
-use Rattle.ffi3_type_rules.specs.Value.{leaf_value, value_in}
+use Rattle.ffi3_type_rules.specs.Value.{leaf_value, value_in, significant}
 use Rattle.ffi3_type_rules.proofs.Widened.{byte-widened, byte-widened_from_32}
 use Rattle.ffi3_place_rules.specs.declared.Ext.{Ext}
 use Rattle.ffi3_place_rules.specs.declared.Ext.TheVariants.{Free, Widen, Riscv, Boxed}
@@ -29,6 +29,43 @@ narrow_scalar s128 h = cc
 narrow_scalar float h = cc
 narrow_scalar double h = cc
 narrow_scalar pointer h = cc
+narrow_scalar x87 h = cc
+narrow_scalar binary128 h = cc
+
+-- a narrow integer takes the bytes of its value and no more, and all of them are its value
+narrow_same : (s : Scalar) → is_narrow_integer (scalar s) ≡ true → scalar_room s ≡ scalar_size s
+narrow_same u8 h = refl
+narrow_same s8 h = refl
+narrow_same u16 h = refl
+narrow_same s16 h = refl
+narrow_same u32 h = refl
+narrow_same s32 h = refl
+narrow_same u64 h = cc
+narrow_same s64 h = cc
+narrow_same u128 h = cc
+narrow_same s128 h = cc
+narrow_same float h = cc
+narrow_same double h = cc
+narrow_same pointer h = cc
+narrow_same x87 h = cc
+narrow_same binary128 h = cc
+
+narrow_kept : (s : Scalar) (bytes : List ℕ) → is_narrow_integer (scalar s) ≡ true → bytes ≡ significant s bytes
+narrow_kept u8 bytes h = refl
+narrow_kept s8 bytes h = refl
+narrow_kept u16 bytes h = refl
+narrow_kept s16 bytes h = refl
+narrow_kept u32 bytes h = refl
+narrow_kept s32 bytes h = refl
+narrow_kept u64 bytes h = cc
+narrow_kept s64 bytes h = cc
+narrow_kept u128 bytes h = cc
+narrow_kept s128 bytes h = cc
+narrow_kept float bytes h = cc
+narrow_kept double bytes h = cc
+narrow_kept pointer bytes h = cc
+narrow_kept x87 bytes h = cc
+narrow_kept binary128 bytes h = cc
 
 pub narrow_number : (t : Tree) → is_narrow_integer t ≡ true → is_number_type t ≡ true
 narrow_number void h = cc
@@ -39,7 +76,7 @@ narrow_number (array ts times) h = cc
 
 pub narrow_small : (t : Tree) → is_narrow_integer t ≡ true → size_of t ≤ 8
 narrow_small void h = cc
-narrow_small (scalar s) h = omega (arith, (narrow_scalar s h).1)
+narrow_small (scalar s) h = omega (arith, (narrow_scalar s h).1, narrow_same s h)
 narrow_small (left_out k) h = cc
 narrow_small (structure ts) h = cc
 narrow_small (array ts times) h = cc
@@ -89,8 +126,8 @@ module _ (base : ℕ) (bytes : List ℕ) (p : Piece) (old new : Image) where
     widened_stored (array ts times) w ext e sized word is = cc (e.0)
     widened_stored (scalar s) w ext e sized word is = record {
       stands = record {
-        held = held_whole s w ((narrow_scalar s e.0).1) e.1 e.2 (λ k h. ap (λ n. get_or (to_le_bytes w64 n) k 0) word ∙ byte-widened bytes small s k (omega (arith, (narrow_scalar s e.0).1)) sized h) is;
-        filled = subst (λ x. FillsAs x (word_at new base p.loc) (scalar s) (leaf_value bytes)) (sym ext) (is.word ∙ word);
+        held = held_whole s w ((narrow_scalar s e.0).1) e.1 (e.2 ∙ narrow_same s e.0) (λ k h. ap (λ n. get_or (to_le_bytes w64 n) k 0) word ∙ byte-widened bytes small s k (omega (arith, (narrow_scalar s e.0).1)) (sized ∙ narrow_same s e.0) h) is;
+        filled = subst (λ x. FillsAs x (word_at new base p.loc) (scalar s) (value_in (scalar s) bytes)) (sym ext) (subst (λ b. FillsAs Widen (word_at new base p.loc) (scalar s) (leaf_value b)) (narrow_kept s bytes e.0) (is.word ∙ word));
       };
       kept = λ free. absurd (widen_fills p.ext ext free);
       stays = is.stays;
@@ -104,8 +141,8 @@ module _ (base : ℕ) (bytes : List ℕ) (p : Piece) (old new : Image) where
     from_32_stored (scalar s) w ext e sized word is =
         let few = (narrow_scalar s e.0).1 in record {
           stands = record {
-            held = held_whole s w few e.1 e.2 (λ k h. ap (λ n. get_or (to_le_bytes w64 n) k 0) word ∙ byte-widened_from_32 bytes small s k few sized h) is;
-            filled = subst (λ x. FillsAs x (word_at new base p.loc) (scalar s) (leaf_value bytes)) (sym ext) (is.word ∙ word);
+            held = held_whole s w few e.1 (e.2 ∙ narrow_same s e.0) (λ k h. ap (λ n. get_or (to_le_bytes w64 n) k 0) word ∙ byte-widened_from_32 bytes small s k few (sized ∙ narrow_same s e.0) h) is;
+            filled = subst (λ x. FillsAs x (word_at new base p.loc) (scalar s) (value_in (scalar s) bytes)) (sym ext) (subst (λ b. FillsAs Riscv (word_at new base p.loc) (scalar s) (leaf_value b)) (narrow_kept s bytes e.0) (is.word ∙ word));
           };
           kept = λ free. absurd (riscv_fills p.ext ext free);
           stays = is.stays;

@@ -12,8 +12,9 @@ use Rattle.ffi3_type_rules.specs.Fault.{takes_void, HasNoFault, IsArgumentType, 
 use Rattle.ffi3_type_rules.specs.Signature.{Signature, SignatureHasNoFault}
 use Rattle.ffi3_type_rules.specs.declared.Role.{Role}
 use Rattle.ffi3_type_rules.specs.declared.Role.TheVariants.{AsArgument, AsElement}
+use Rattle.ffi3_type_rules.proofs.Placed.{faultless_is_plain}
 use Rattle.ffi3_type_rules.proofs.Faults.{fault_outside}
-use Rattle.ffi3_type_rules.proofs.Layouts.{least_multiple-above, scalar_size-bounds, size_le-end}
+use Rattle.ffi3_type_rules.proofs.Layouts.{least_multiple-above, scalar_room-bounds, size_le-end}
 use Rattle.ffi3_type_rules.proofs.Right.{argument_is_right}
 use Rattle.ffi3_place_rules.specs.declared.Loc.{Loc}
 use Rattle.ffi3_place_rules.specs.declared.Loc.TheVariants.{G, F, S}
@@ -147,7 +148,7 @@ copies_fit n (t ∷ ts) (ByRef at copy ∷ ps) some h = (
 
 bytes_of_right : (outer : ℕ) (role : Role) (t : Tree) → takes_void role ≡ false → HasNoFault outer role t → 1 ≤ size_of t
 bytes_of_right outer role void none right = absurd (right [] bad_typedef (out_of_place refl none))
-bytes_of_right outer role (scalar s) none right = (scalar_size-bounds s).0
+bytes_of_right outer role (scalar s) none right = (scalar_room-bounds s).0
 bytes_of_right outer role (left_out k) none right = absurd (right [] (left_out_type (left_out k)) (left_out_kind refl))
 bytes_of_right outer role (array no_trees n) none right = absurd (right [] bad_typedef (misshapen refl refl))
 bytes_of_right outer role (array (tree t no_trees) zero) none right = absurd (right [] bad_typedef (misshapen refl refl))
@@ -206,9 +207,9 @@ ready_from target n (t ∷ ts) (ByRef at copy ∷ ps) all fit lie write = (
 
 module _ (std : Standard) (s : Signature) (sound : IsSound std s) where
   -- all that a call carries lies in the frame
-  pub call_places : AllByRecursion (IsPlace (frame_of std s)) (call_locs s (plan_of std s))
-  call_places =
-      machine_places (isa_of std.target) (frame_of std s) (call_locs s (plan_of std s)) sound.in_frame
+  pub call_places : SignatureHasNoFault s → AllByRecursion (IsPlace (frame_of std s)) (call_locs s (plan_of std s))
+  call_places right =
+      machine_places (isa_of std.target) (frame_of std s) (call_locs s (plan_of std s)) (sound.on_machine (faultless_is_plain s right)).in_frame
 
   pub all_ready : SignatureHasNoFault s → (target : Target) → AllByRecursion (IsWritable target) (argument_locs (plan_of std s)) → AreReady target (frame_of std s) s.arguments (plan_of std s).places
   all_ready right target write =
@@ -217,10 +218,10 @@ module _ (std : Standard) (s : Signature) (sound : IsSound std s) where
       let buffer = buffer_locs s.result_type (plan_of std s).res in
       let hidden = hidden_locs (plan_of std s).res in
       let flat = flat_map place_locs (plan_of std s).places in
-      let in_frame = each_rest (IsPlace (frame_of std s)) arguments (copies ++ buffer) call_places in
+      let in_frame = each_rest (IsPlace (frame_of std s)) arguments (copies ++ buffer) (call_places right) in
       ready_from target (frame_of std s) s.arguments (plan_of std s).places sound.has_all
       (copies_fit (frame_of std s) s.arguments (plan_of std s).places (each_has_bytes s.arguments (argument_is_right s right)) (each_first (IsPlace (frame_of std s)) copies buffer in_frame))
-      (each_rest (IsPlace (frame_of std s)) hidden flat (each_first (IsPlace (frame_of std s)) arguments (copies ++ buffer) call_places))
+      (each_rest (IsPlace (frame_of std s)) hidden flat (each_first (IsPlace (frame_of std s)) arguments (copies ++ buffer) (call_places right)))
       (each_rest (IsWritable target) hidden flat write)
 
   pub all_apart : AreApart (all_uses s.arguments (plan_of std s).places)

@@ -55,6 +55,7 @@ fn number(ty: &FfiType, bytes: &[u8]) -> i128
         FfiType::Void | FfiType::Float | FfiType::Double => unreachable!(),
         FfiType::Struct(_) | FfiType::Array(_, _) => unreachable!(),
         FfiType::LongDouble | FfiType::Complex | FfiType::Vector => unreachable!(),
+        FfiType::X87 | FfiType::Binary128 => unreachable!(),
     }
 }
 
@@ -77,6 +78,7 @@ pub(crate) fn widened(ty: &FfiType, bytes: &[u8]) -> u64
         FfiType::Void | FfiType::Float | FfiType::Double => unreachable!(),
         FfiType::Struct(_) | FfiType::Array(_, _) => unreachable!(),
         FfiType::LongDouble | FfiType::Complex | FfiType::Vector => unreachable!(),
+        FfiType::X87 | FfiType::Binary128 => unreachable!(),
     }
 }
 

@@ -11,7 +11,7 @@ use Rattle.ffi3_type_rules.specs.Layout.{size_of, layouts, end_before, align_bef
 use Rattle.ffi3_type_rules.specs.Fault.{HasNoFault, has_parts, out_of_place, left_out_kind, misshapen, nested_deep, bad_typedef, left_out_type, too_deep}
 use Rattle.ffi3_type_rules.specs.Signature.{Signature, SignatureHasNoFault}
 use Rattle.ffi3_type_rules.proofs.Faults.{fault_by_element, fault_outside, right_is_small}
-use Rattle.ffi3_type_rules.proofs.Layouts.{element-layouts, length-layouts, least_multiple-above, scalar_size-bounds, size_le-struct}
+use Rattle.ffi3_type_rules.proofs.Layouts.{element-layouts, length-layouts, least_multiple-above, scalar_room-bounds, size_le-struct}
 use Rattle.ffi3_type_rules.proofs.Right.{few_arguments, result_is_right, argument_is_right}
 use Rattle.ffi3_nodes.specs.declared.Node.{Node}
 use Rattle.ffi3_nodes.specs.declared.TheConstants.{STRUCT, ARRAY}
@@ -90,7 +90,7 @@ array_above t n = omega (arith, suc-mul n (size_of t))
 mutual
   has_bytes : (outer : ℕ) (t : Tree) → HasNoFault outer AsElement t → 1 ≤ size_of t
   has_bytes outer void right = absurd (right [] bad_typedef (out_of_place refl refl))
-  has_bytes outer (scalar s) right = (scalar_size-bounds s).0
+  has_bytes outer (scalar s) right = (scalar_room-bounds s).0
   has_bytes outer (left_out k) right = absurd (right [] (left_out_type (left_out k)) (left_out_kind refl))
   has_bytes outer (structure ts) right = struct_has_bytes outer AsElement ts right
   has_bytes outer (array ts n) right = array_has_bytes outer AsElement ts n right

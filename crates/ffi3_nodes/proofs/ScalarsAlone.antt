@@ -1,13 +1,15 @@
 -- Nodes that are scalars alone are those of a signature without fault.
 use Rattle.std.specs.List.{AllByRecursion}
-use Rattle.std.specs.Prelude.{IfSome, Option, Some, None, slice_get}
+use Rattle.std.specs.Prelude.{IfSome, false, Option, Some, None, slice_get}
 use Rattle.std.proofs.Common.{◌≡◌, ℕ, zero, suc, ◌+◌, ◌<◌, ◌≤◌, List, [], ◌∷◌, ◌++◌, take, get_or, length, length-append, ap, sym, ◌∙◌, subst, arith, append_assoc}
 use Rattle.std.proofs.lemmas.List.{take_more}
 use Rattle.ffi3_type_rules.specs.declared.Role.{Role}
 use Rattle.ffi3_type_rules.specs.Tree.{Tree, void, scalar, left_out, structure, array, tree_at}
+use Rattle.ffi3_type_rules.specs.Layout.{has_long_double}
 use Rattle.ffi3_type_rules.specs.Fault.{HasNoFault, IsArgumentType, IsResultType}
 use Rattle.ffi3_type_rules.specs.Signature.{Signature, SignatureFault, SignatureHasNoFault, IsSignatureFault, over_most, in_result, in_argument, fixed_outside, promoted}
 use Rattle.ffi3_type_rules.proofs.Faults.{scalar_faults, void_faults}
+use Rattle.ffi3_type_rules.proofs.Signatures.{suited_has_none}
 use Rattle.ffi3_types.specs.ScalarSize.{scalar_size_of}
 use Rattle.ffi3_types.specs.TreeOf.{tree_of}
 use Rattle.ffi3_types.specs.declared.FfiType.{FfiType}
@@ -59,15 +61,19 @@ pub record AreReadSoFar (ret : Tree) (args : List Tree) (nodes : List Node) (i :
   pub written : AreWritten (ret ∷ args) (take i nodes)
   pub right_result : IsResultType ret
   pub right : AllByRecursion IsArgumentType args
+  pub plain_result : has_long_double ret ≡ false
+  pub plain : AllByRecursion (λ t. has_long_double t ≡ false) args
   pub count : length args + 1 ≡ i
 
-pub more_read : (ret t : Tree) (args more : List Tree) (nodes : List Node) (i : ℕ) (d : Node) → i < length nodes → more ≡ args ++ t ∷ [] → AreReadSoFar ret args nodes i → AreWritten (t ∷ []) (get_or nodes i d ∷ []) → IsArgumentType t → AreReadSoFar ret more nodes (i + 1)
-more_read ret t args more nodes i d below e so_far w right =
+pub more_read : (ret t : Tree) (args more : List Tree) (nodes : List Node) (i : ℕ) (d : Node) → i < length nodes → more ≡ args ++ t ∷ [] → AreReadSoFar ret args nodes i → AreWritten (t ∷ []) (get_or nodes i d ∷ []) → IsArgumentType t → has_long_double t ≡ false → AreReadSoFar ret more nodes (i + 1)
+more_read ret t args more nodes i d below e so_far w right plain =
     subst (λ ts. AreReadSoFar ret ts nodes (i + 1)) (sym e)
     (record {
       written = subst (AreWritten (ret ∷ (args ++ t ∷ []))) (sym (take_more nodes i d below)) (written_behind (ret ∷ args) (t ∷ []) (take i nodes) (get_or nodes i d ∷ []) so_far.written w);
       right_result = so_far.right_result;
       right = all_behind IsArgumentType args t so_far.right right;
+      plain_result = so_far.plain_result;
+      plain = all_behind (λ u. has_long_double u ≡ false) args t so_far.plain plain;
       count =
           let was = so_far.count in
           let longer = length-append args (t ∷ []) in
@@ -76,15 +82,16 @@ more_read ret t args more nodes i d below e so_far w right =
 
 -- ---- the whole
 
-no_fault : (ret : Tree) (args : List Tree) → IsResultType ret → AllByRecursion IsArgumentType args → length args ≤ 64 → (f : SignatureFault) → IsSignatureFault (record { result_type = ret; arguments = args; fixed = None }) f → ⊥
-no_fault ret args right rights few f (over_most over) = omega (arith, over, few)
-no_fault ret args right rights few f (in_result {path} {fault} first) = right path fault first.is_there
-no_fault ret args right rights few f (in_argument {i} {path} {fault} below first) =
-    all_at IsArgumentType args i rights below path fault first.is_there
-no_fault ret args right rights few f (fixed_outside e h) = cc
-no_fault ret args right rights few f (promoted e low below is) = cc
+no_fault : (ret : Tree) (args : List Tree) → IsResultType ret → AllByRecursion IsArgumentType args → has_long_double ret ≡ false → AllByRecursion (λ t. has_long_double t ≡ false) args → length args ≤ 64 → (f : SignatureFault) → IsSignatureFault (record { result_type = ret; arguments = args; fixed = None }) f → ⊥
+no_fault ret args right rights plain plains few f (over_most over) = omega (arith, over, few)
+no_fault ret args right rights plain plains few f (in_result {path} {fault} first) =
+    suited_has_none (record { right = right; plain = λ _. plain }) path fault first
+no_fault ret args right rights plain plains few f (in_argument {i} {path} {fault} below first) =
+    suited_has_none (record { right = all_at IsArgumentType args i rights below; plain = λ _. all_at (λ t. has_long_double t ≡ false) args i plains below }) path fault first
+no_fault ret args right rights plain plains few f (fixed_outside e h) = cc
+no_fault ret args right rights plain plains few f (promoted e low below is) = cc
 
 pub scalars_right : (ret : Tree) (args : List Tree) (nodes : List Node) (i : ℕ) (s : Signature) → AreReadSoFar ret args nodes i → i ≤ 65 → s ≡ record { result_type = ret; arguments = args; fixed = None } → SignatureHasNoFault s
 scalars_right ret args nodes i s so_far few is =
     let count = so_far.count in
-    subst SignatureHasNoFault (sym is) (no_fault ret args so_far.right_result so_far.right (omega (arith, count, few)))
+    subst SignatureHasNoFault (sym is) (no_fault ret args so_far.right_result so_far.right so_far.plain_result so_far.plain (omega (arith, count, few)))

@@ -1,6 +1,7 @@
 // The signature of nodes that are scalars alone, which most are: it is read in one pass, and has no fault.
-ghost use Rattle.std.specs.Prelude.{◌≡◌, ◌<◌, ◌≤◌, ◌∷◌, [], IfOk, IfSome, Some, None, slice_get};
+ghost use Rattle.std.specs.Prelude.{◌≡◌, ◌<◌, ◌≤◌, ◌∷◌, [], IfOk, IfSome, Some, None, false, slice_get};
 ghost use Rattle.ffi3_type_rules.specs.Fault.{IsArgumentType, IsResultType};
+ghost use Rattle.ffi3_type_rules.specs.Layout.{has_long_double};
 ghost use Rattle.ffi3_type_rules.specs.Signature.{SignatureHasNoFault};
 ghost use Rattle.ffi3_types.specs.ScalarSize.{scalar_size_of};
 ghost use Rattle.ffi3_types.specs.TreeOf.{tree_of};
@@ -15,6 +16,7 @@ use std::alloc::Global;
 pub fn scalar(kind: u32) -> Option<FfiType>
     ensures some { IfSome result (λ t. slice_get leaves kind ≡ Some (tree_of t)) }
     ensures scalar { IfSome result (λ t. 0 < scalar_size_of (tree_of t)) }
+    ensures plain { IfSome result (λ t. has_long_double (tree_of t) ≡ false) }
     ensures none { result ≡ None → VOID ≤ kind }
 {
     match kind {
@@ -39,6 +41,7 @@ pub fn scalar(kind: u32) -> Option<FfiType>
 fn argument(node: Node) -> Option<FfiType>
     ensures written { IfSome result (λ t. AreWritten (tree_of t ∷ []) (node ∷ [])) }
     ensures right { IfSome result (λ t. IsArgumentType (tree_of t)) }
+    ensures plain { IfSome result (λ t. has_long_double (tree_of t) ≡ false) }
 {
     if node.count != 0 {
         return None;
@@ -50,6 +53,7 @@ fn argument(node: Node) -> Option<FfiType>
 fn returned(node: Node) -> Option<FfiType>
     ensures written { IfSome result (λ t. AreWritten (tree_of t ∷ []) (node ∷ [])) }
     ensures right { IfSome result (λ t. IsResultType (tree_of t)) }
+    ensures plain { IfSome result (λ t. has_long_double (tree_of t) ≡ false) }
 {
     if node.count != 0 {
         return None;

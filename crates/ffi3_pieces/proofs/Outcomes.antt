@@ -17,7 +17,8 @@ use Rattle.ffi3_place_rules.specs.Image.{Image, byte_at, register}
 use Rattle.ffi3_place_rules.specs.Isa.{to_list}
 use Rattle.ffi3_place_rules.specs.Standard.{Standard, frame_of, plan_of}
 use Rattle.ffi3_place_rules.specs.Holds.{leaf_bytes, Carries, FillPieces, FillsAs, FillsResult, HoldsResult, LeavesStand, OwnResult, OwnsResult, RegisterHolds}
-use Rattle.ffi3_place_rules.specs.Sound.{IsSound, piece_locs, result_locs}
+use Rattle.ffi3_place_rules.specs.Sound.{piece_locs, result_locs}
+use Rattle.ffi3_place_rules.proofs.OnMachine.{IsSoundOnMachine}
 use Rattle.ffi3_pieces.specs.Stored.{IsPlace}
 use Rattle.ffi3_marshal.proofs.Lawful.{machine_places}
 
@@ -59,7 +60,7 @@ module _ (a b : Image) (IsKept : Loc → Type 0) (sp : b.sp ≡ a.sp) (stack : b
   fills_kept std t v (Hidden at buffer) lie kept there clear h =
       subst (λ q. RegisterHolds b std.returned_address (q + buffer)) (sym sp) (tells_kept std.returned_address (a.sp + buffer) there clear h)
 
-  pub own_result_kept : (std : Standard) (s : Signature) (v : ValueTree) → IsSound std s → AllByRecursion IsKept (result_locs (plan_of std s).res) → OwnResult std s v a → OwnResult std s v b
+  pub own_result_kept : (std : Standard) (s : Signature) (v : ValueTree) → IsSoundOnMachine std s → AllByRecursion IsKept (result_locs (plan_of std s).res) → OwnResult std s v a → OwnResult std s v b
   own_result_kept std s v sound kept own =
       let lie = machine_places (isa_of std.target) 0 (result_locs (plan_of std s).res) sound.result_in_registers in
       record {
@@ -68,7 +69,7 @@ module _ (a b : Image) (IsKept : Loc → Type 0) (sp : b.sp ≡ a.sp) (stack : b
         stands = owns_kept s.result_type v (plan_of std s).res lie kept own.stands;
       }
 
-  pub result_kept : (std : Standard) (s : Signature) (v : ValueTree) → IsSound std s → AllByRecursion IsKept (result_locs (plan_of std s).res) → AllByRecursion (IsPlace 0) (to_list std.returned_address) → AllByRecursion IsKept (to_list std.returned_address) → HoldsResult std s v a → HoldsResult std s v b
+  pub result_kept : (std : Standard) (s : Signature) (v : ValueTree) → IsSoundOnMachine std s → AllByRecursion IsKept (result_locs (plan_of std s).res) → AllByRecursion (IsPlace 0) (to_list std.returned_address) → AllByRecursion IsKept (to_list std.returned_address) → HoldsResult std s v a → HoldsResult std s v b
   result_kept std s v sound kept there clear h =
       let lie = machine_places (isa_of std.target) 0 (result_locs (plan_of std s).res) sound.result_in_registers in
       record {

@@ -10,7 +10,7 @@ ghost use Rattle.ffi3_place.specs.WithoutCopy.{without_copy};
 use crate::parts::sizes_of;
 use ffi3_place_rules::{Place, Places, Plan, Res};
 use ffi3_type_rules::round_up;
-use ffi3_types::{CheckedSig, CheckedType};
+use ffi3_types::{CheckedType, PlacedSig};
 
 /// Where something of a type begins, after the end of what stands before it: at the next multiple of the type's alignment, and of eight bytes at least.
 pub fn start(ty: &CheckedType<'_>, end: u64) -> u64
@@ -33,7 +33,7 @@ pub fn copy_end(place: &Place, ty: &CheckedType<'_>, end: u64) -> u64
 }
 
 /// Places the copies of the arguments in the frame, in their order, one behind another from `from` on. Returns where the last one ends, or `from` where there is none.
-pub fn lay_copies(places: &mut Places, sig: &CheckedSig<'_>, from: u64) -> u64
+pub fn lay_copies(places: &mut Places, sig: &PlacedSig<'_>, from: u64) -> u64
     requires unlaid { (spots : List Spot) × (places.old ≡ map without_copy spots) }
     requires one_each { length places.old ≡ length sig.now.arguments }
     requires low { from ≤ ARGUMENT_BYTES }
@@ -71,7 +71,7 @@ pub fn buffer_end(res: &Res, ty: &CheckedType<'_>, end: u64) -> u64
 
 /// The plan of a call from its places: the last copy or buffer ends at `end`, and the return address and the callee's save area take `area` bytes.
 pub fn planned(
-    sig: &CheckedSig<'_>,
+    sig: &PlacedSig<'_>,
     places: Places,
     res: Res,
     end: u64,

@@ -3,7 +3,7 @@
 
 ghost use Rattle.std.specs.Prelude.{◌≡◌, ℕ, ◌*◌, ◌<◌, true, IfOk, length, slice_index_or};
 ghost use Rattle.ffi3_type_rules.specs.declared.Target.{Target};
-ghost use Rattle.ffi3_type_rules.specs.Signature.{Signature, SignatureHasNoFault};
+ghost use Rattle.ffi3_type_rules.specs.Signature.{Signature, SignatureIsPlaced, HasNoLongDouble};
 ghost use Rattle.ffi3_place_rules.specs.Standard.{Standard, plan_of};
 ghost use Rattle.ffi3_place_rules.specs.Sound.{IsSound, IsDetermined};
 ghost use Rattle.ffi3_place_rules.specs.Agrees.{AgreesWithMachine};
@@ -73,9 +73,9 @@ pub trait Abi {
     fn returned_address() -> Option<Loc>
         ensures { result ≡ standard.returned_address };
 
-    /// Where everything stands in a call of a signature that has no fault.
+    /// Where everything stands in a call of a signature that can be placed.
     fn plan(alloc: Global, sig: &Sig) -> Result<Plan, NoMemory>
-        requires { SignatureHasNoFault sig.now }
+        requires { SignatureIsPlaced sig.now }
         ensures { IfOk result (λ p. p ≡ plan_of standard sig.now) };
 
     ghost save_is: { standard.save ≡ SAVE };
@@ -97,8 +97,8 @@ pub trait Abi {
     // Where its target has stubs, these load, store and save what the standard names.
     ghost by_stubs: { has_stubs standard.target ≡ true → AgreesWithStubs standard };
 
-    // And they load the registers of each result, and save the address of a hidden one.
-    ghost result_by_stubs: { (s : Signature) → has_stubs standard.target ≡ true → ResultGoesByStubs standard s };
+    // And of a signature that can be called they load the registers of the result, and save the address of a hidden one.
+    ghost result_by_stubs: { (s : Signature) → HasNoLongDouble s → has_stubs standard.target ≡ true → ResultGoesByStubs standard s };
 
     // No two places share anything, none is a forbidden register, and they have all of the values.
     ghost sound: { (s : Signature) → IsSound standard s };

@@ -1,21 +1,22 @@
 // The sizes of arguments, and the pieces of values, as every standard needs them.
-ghost use Rattle.std.specs.Prelude.{◌≡◌, ◌<◌, ◌≤◌, ◌*◌, [], ◌∷◌, length, IfOk};
+ghost use Rattle.std.specs.Prelude.{◌≡◌, ◌<◌, ◌≤◌, ◌+◌, ◌*◌, [], ◌∷◌, length, IfOk};
 ghost use Rattle.std.specs.List.{sum_by};
 ghost use Rattle.ffi3_type_rules.specs.declared.limits.TheConstants.{ARGUMENT_BYTES, LARGEST_TYPE};
 ghost use Rattle.ffi3_type_rules.specs.Layout.{size_of, leaves_of, leaf_at};
 ghost use Rattle.ffi3_types.specs.TreeOf.{tree_of};
+ghost use Rattle.ffi3_place_rules.specs.declared.Ext.TheVariants.{Free};
 ghost use Rattle.ffi3_place_rules.specs.Standard.{doubleword, round8};
 ghost use Rattle.ffi3_place_rules.specs.Doublewords.{doublewords, filling, widening, stack_pieces, leaf_piece};
 
 use ffi3_place_rules::{Ext, Loc, Piece, Pieces};
 use ffi3_type_rules::round_up;
-use ffi3_types::{CheckedSig, CheckedType, FfiType, NoMemory};
+use ffi3_types::{CheckedType, FfiType, NoMemory, PlacedSig};
 use std::alloc::Global;
 
 // ---- signatures
 
 /// The sizes of all arguments in bytes, each a multiple of 8.
-pub fn sizes_of(sig: &CheckedSig<'_>) -> u64
+pub fn sizes_of(sig: &PlacedSig<'_>) -> u64
     ensures value { result ≡ sum_by (λ t. round8 (size_of t)) sig.now.arguments }
     ensures bound { result ≤ ARGUMENT_BYTES }
 {
@@ -79,12 +80,28 @@ pub fn leaf_piece(ty: &CheckedType<'_>, i: u32, loc: Loc, ext: Ext) -> Piece
 {
     let plain = ty.as_type();
     let leaf = plain.leaf(i);
-    let size = leaf.kind.size();
+    let size = leaf.kind.value_size();
     Piece {
         loc,
         off: leaf.at as u32,
         len: size as u8,
         ext,
+    }
+}
+
+/// So many bytes of leaf `i` of a value, from its byte `from` on, in a place whose rest is free.
+pub fn part_of_leaf(ty: &CheckedType<'_>, i: u32, from: u32, len: u8, loc: Loc) -> Piece
+    requires in_range { i < length (leaves_of ty.now) }
+    requires near { from ≤ 16 }
+    ensures { result ≡ record { loc = loc; off = (leaf_at ty.now i).at + from; len = len; ext = Free } }
+{
+    let plain = ty.as_type();
+    let leaf = plain.leaf(i);
+    Piece {
+        loc,
+        off: leaf.at as u32 + from,
+        len,
+        ext: Ext::Free,
     }
 }
 

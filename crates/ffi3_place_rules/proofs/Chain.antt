@@ -6,7 +6,7 @@ use Rattle.ffi3_place_rules.specs.Isa.{general_registers, floating_registers}
 use Rattle.ffi3_place_rules.specs.declared.Loc.{Loc}
 use Rattle.ffi3_place_rules.specs.declared.Loc.TheVariants.{G, F, S}
 use Rattle.ffi3_place_rules.specs.declared.Taken.{Taken}
-use Rattle.ffi3_place_rules.specs.Sound.{Apart, AreApart, IsNoneOf, IsOneOf, IsOnStackOrIn, LiesIn, stack_words}
+use Rattle.ffi3_place_rules.specs.Sound.{Apart, AreApart, IsNoneOf, IsOneOf, IsOnStackOrIn, LiesIn, StandsIn, stack_words}
 
 pub record AtMost (a b : Taken) : Type 0 where
   pub general : a.general ≤ b.general
@@ -123,6 +123,20 @@ module _ (general floating : ℕ → ℕ) (generals floatings : ℕ) where
         one (G r) u = subst (λ q. IsOneOf registers (G q)) (sym u.1) (in_general u.0 (omega (arith, u.2, rest.general)))
         one (F r) u = subst (λ q. IsOneOf registers (F q)) (sym u.1) (in_floating u.0 (omega (arith, u.2, rest.vector)))
         one (S n w) u = absurd (omega (arith, u.0, u.1, rest.stack, no_stack))
+
+  -- each place stands in the machine, where each register of the lists does
+  module _ (isa : Isa) (in_general : (k : ℕ) → k < generals → general k < general_registers isa) (in_floating : (k : ℕ) → k < floatings → StandsIn isa 0 (F (floating k))) where
+    pub chain_stands_in : (a : Taken) (ls : List Loc) (b : Taken) (stack : ℕ) → b.stack ≤ stack → Chain a ls b → AllByRecursion (StandsIn isa stack) ls
+    chain_stands_in a [] b stack room h = tt
+    chain_stands_in a (l ∷ ls) b stack room h = (one l h.1 h.2, chain_stands_in h.0 ls b stack room h.4)
+      where
+        rest : AtMost h.0 b
+        rest = chain_end h.0 ls b h.4
+
+        one : (m : Loc) → From a m → Until h.0 m → StandsIn isa stack m
+        one (G r) f u = inl (subst (λ q. q < general_registers isa) (sym f.1) (in_general f.0 f.3))
+        one (F r) f u = subst (λ q. StandsIn isa 0 (F q)) (sym f.1) (in_floating f.0 f.3)
+        one (S n w) f u = inl (omega (arith, u.0, rest.stack, room), u.1, u.2)
 
   pub chain_lies_in : (isa : Isa) → ((k : ℕ) → k < generals → general k < general_registers isa) → ((k : ℕ) → k < floatings → floating k < floating_registers isa) → (a : Taken) (ls : List Loc) (b : Taken) (stack : ℕ) → b.stack ≤ stack → Chain a ls b → AllByRecursion (LiesIn isa stack) ls
   chain_lies_in isa gs fs a [] b stack room h = tt

@@ -3,7 +3,7 @@ use Rattle.std.proofs.Common.{◌≡◌, ℕ, zero, suc, ◌+◌, ◌*◌, ◌<�
 use Rattle.std.specs.List.{AllByRecursion, Any}
 use Rattle.ffi3_type_rules.specs.Tree.{Tree, void, scalar, left_out, structure, array, Trees, no_trees, tree}
 use Rattle.ffi3_type_rules.specs.Layout.{Leaf, Layout, layouts, element, start_of, end_before, align_before, leaves_before, repeated, moved, leaves_of, size_of, scalar_size}
-use Rattle.ffi3_type_rules.proofs.Layouts.{least_multiple-above}
+use Rattle.ffi3_type_rules.proofs.Layouts.{least_multiple-above, scalar_size-room}
 use Rattle.ffi3_place_rules.specs.declared.Piece.{Piece}
 use Rattle.ffi3_place_rules.specs.Holds.{Carries}
 use Rattle.ffi3_place_rules.specs.Sound.{CoversLeaf}
@@ -40,7 +40,7 @@ repeated_end l h (suc n) =
 mutual
   pub leaves_end : (t : Tree) → AllByRecursion (EndsIn (size_of t)) (leaves_of t)
   leaves_end void = tt
-  leaves_end (scalar s) = (omega arith, tt)
+  leaves_end (scalar s) = (omega (arith, scalar_size-room s), tt)
   leaves_end (left_out k) = tt
   leaves_end (structure ts) =
       let es = layouts ts in

@@ -1,13 +1,13 @@
 -- Pieces that are filled as the standard says: doublewords of one value, and references.
-use Rattle.std.proofs.Common.{◌≡◌, ℕ, zero, suc, ◌+◌, true, false, refl}
+use Rattle.std.proofs.Common.{◌≡◌, ℕ, zero, suc, ◌+◌, ◌<◌, true, false, refl, arith}
 use Rattle.std.specs.List.{AllByRecursion}
-use Rattle.ffi3_type_rules.specs.Tree.{Tree, void, scalar, left_out, structure, u8, s8, u16, s16, u32, s32, u64, s64, u128, s128, float, double, pointer, array}
+use Rattle.ffi3_type_rules.specs.Tree.{Tree, void, scalar, left_out, structure, u8, s8, u16, s16, u32, s32, u64, s64, u128, s128, float, double, pointer, x87, binary128, array}
 use Rattle.ffi3_type_rules.specs.Layout.{size_of}
 use Rattle.ffi3_place_rules.specs.declared.Loc.{Loc}
 use Rattle.ffi3_place_rules.specs.declared.Ext.{Ext}
 use Rattle.ffi3_place_rules.specs.Standard.{Standard}
 use Rattle.ffi3_place_rules.specs.Doublewords.{doublewords_at, filling}
-use Rattle.ffi3_place_rules.specs.Sound.{is_narrow_integer, is_floating_place, IsFilled}
+use Rattle.ffi3_place_rules.specs.Sound.{is_narrow_integer, is_floating_place, IsFilled, IsWhole, place_size}
 
 -- a lone narrow integer's filling is the one given
 pub narrow_filling : (e : Ext) (t : Tree) → is_narrow_integer t ≡ true → filling e t ≡ e
@@ -28,12 +28,18 @@ narrow_filling e (scalar s128) h = cc
 narrow_filling e (scalar float) h = cc
 narrow_filling e (scalar double) h = cc
 narrow_filling e (scalar pointer) h = cc
+narrow_filling e (scalar x87) h = cc
+narrow_filling e (scalar binary128) h = cc
 
--- doublewords none of which stands in a floating register
-pub doublewords_filled : (std : Standard) (t : Tree) (place : ℕ → Loc) → ((j : ℕ) → is_floating_place (place j) ≡ false) → (j count : ℕ) → AllByRecursion (IsFilled std t) (doublewords_at place (size_of t) (filling std.narrow t) j count)
-doublewords_filled std t place none j zero = tt
-doublewords_filled std t place none j (suc count) =
-    (record { narrow = λ is_narrow _. narrow_filling std.narrow t is_narrow; single = λ is_floating. absurd (differ (place j) is_floating (none j)) }, doublewords_filled std t place none (j + 1) count)
+-- a place of eight bytes is no narrower one
+pub no_narrow_place : {n : ℕ} (l : Loc) → IsWhole l → place_size l < 8 → n ≡ place_size l
+no_narrow_place l whole h = absurd (omega (arith, whole, h))
+
+-- doublewords in places of eight bytes, none of which is a floating register
+pub doublewords_filled : (std : Standard) (t : Tree) (place : ℕ → Loc) → ((j : ℕ) → is_floating_place (place j) ≡ false) → ((j : ℕ) → IsWhole (place j)) → (j count : ℕ) → AllByRecursion (IsFilled std t) (doublewords_at place (size_of t) (filling std.narrow t) j count)
+doublewords_filled std t place none whole j zero = tt
+doublewords_filled std t place none whole j (suc count) =
+    (record { narrow = λ is_narrow _. narrow_filling std.narrow t is_narrow; single = λ is_floating. absurd (differ (place j) is_floating (none j)); narrow_place = no_narrow_place (place j) (whole j) }, doublewords_filled std t place none whole (j + 1) count)
   where
     differ : (l : Loc) → is_floating_place l ≡ true → is_floating_place l ≡ false → ⊥
     differ l a b = cc

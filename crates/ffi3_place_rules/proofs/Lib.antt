@@ -19,3 +19,5 @@ pub mod Planned
 pub mod Alike
 mod Area
 pub mod Reading
+pub mod Further
+pub mod OnMachine

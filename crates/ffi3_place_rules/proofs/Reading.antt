@@ -2,11 +2,12 @@
 use Rattle.std.specs.Prelude.{⊤}
 use Rattle.std.specs.List.{AllByRecursion}
 use Rattle.std.proofs.Common.{◌≡◌, ℕ, zero, suc, ◌+◌, ◌<◌, ◌≤◌, true, List, [], ◌∷◌, ◌++◌, map, replicate, get_or, length, refl, ap, sym, ◌∙◌, subst, append_assoc, append-nil, arith}
-use Rattle.std.proofs.lemmas.List.{ext_get_or, length-map}
+use Rattle.std.proofs.lemmas.List.{ext_get_or, length-map, get_or-take}
 use Rattle.std.proofs.lemmas.Bool.Decides.{nat_tests}
-use Rattle.ffi3_type_rules.specs.Tree.{Tree, void, scalar, left_out, structure, array, Trees, no_trees, tree, trees_of, first_of}
+use Rattle.ffi3_type_rules.specs.Tree.{Tree, void, scalar, left_out, structure, array, Trees, no_trees, tree, trees_of, first_of, Scalar, u8, x87}
 use Rattle.ffi3_type_rules.specs.Layout.{Leaf, Layout, layout, layouts, element, start_of, end_before, align_before, leaves_before, moved, leaves_of, size_of, scalar_size}
-use Rattle.ffi3_type_rules.specs.Value.{ValueTree, void_value, leaf_value, struct_value, ValueTrees, no_values, value, fits, all_fit, part, value_in, values_in}
+use Rattle.ffi3_type_rules.specs.Value.{ValueTree, void_value, leaf_value, struct_value, ValueTrees, no_values, value, fits, all_fit, part, value_in, values_in, significant}
+use Rattle.ffi3_type_rules.proofs.Significant.{length-significant}
 use Rattle.ffi3_type_rules.proofs.Arrays.{array_leaves, array_size}
 use Rattle.ffi3_type_rules.proofs.ArrayValues.{array_value}
 use Rattle.ffi3_type_rules.proofs.Parts.{index_part, length_part}
@@ -97,6 +98,12 @@ counted t v f =
 
 -- ---- the value
 
+-- the bytes of a scalar's value are the first of those that it takes
+significant_same : (s : Scalar) (bytes : List ℕ) (k : ℕ) → k < scalar_size s → get_or bytes k 0 ≡ get_or (significant s bytes) k 0
+significant_same x87 bytes k h = sym (get_or-take 10 bytes k 0 h)
+significant_same u8 bytes k h = refl
+significant_same _ bytes k h = refl
+
 -- equal elements, each read from its part
 equal_read : (es : List Layout) (t : Tree) → ((out : List ℕ) → LeavesRead out (leaves_of t) (leaf_bytes (value_in t out))) → (n i : ℕ) (out : List ℕ) → LeavesRead out (leaves_from es i (layouts (trees_of (replicate n t)))) (all_leaf_bytes (values_in (trees_of (replicate n t)) es i out))
 equal_read es t one zero i out = tt
@@ -112,7 +119,7 @@ mutual
   leaves_read void out = tt
   leaves_read (scalar s) out = (
     λ k h. let n : 0 + k ≡ k = omega arith in
-        ap (λ i. get_or out i 0) n,
+        ap (λ i. get_or out i 0) n ∙ significant_same s out k h,
     tt,
   )
   leaves_read (left_out k) out = tt
@@ -146,8 +153,10 @@ mutual
   reads (scalar s) void_value out f sized r = cc
   reads (scalar s) (leaf_value b) out f sized r =
       let many : length b ≡ scalar_size s = grind (arith, nat_tests, f) in
-      ap leaf_value (ext_get_or 0 out b (sized ∙ sym many) (λ k h. let n : k ≡ 0 + k = omega arith in
-      ap (λ i. get_or out i 0) n ∙ r.0 k (omega (arith, sized, h))))
+      let kept : length (significant s out) ≡ scalar_size s = length-significant s out sized in
+      ap leaf_value (ext_get_or 0 (significant s out) b (kept ∙ sym many) (λ k h. let n : k ≡ 0 + k = omega arith in
+      let below : k < scalar_size s = omega (arith, kept, h) in
+      sym (significant_same s out k below) ∙ ap (λ i. get_or out i 0) n ∙ r.0 k below))
   reads (scalar s) (struct_value vs) out f sized r = cc
   reads (left_out k) v out f sized r = cc
   reads (structure ts) void_value out f sized r = cc

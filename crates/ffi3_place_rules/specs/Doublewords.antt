@@ -1,7 +1,7 @@
 -- A value in doublewords, and a leaf in a place of its own; what fills the rest of a lone integer's place.
 use Rattle.std.specs.Prelude.{ℕ, zero, suc, ◌+◌, ◌*◌, ◌/◌, List, [], ◌∷◌}
 use Rattle.ffi3_type_rules.specs.Tree.{Tree, scalar, Scalar, u8, s8, u16, s16, u32, s32, u64, s64, u128, s128, float}
-use Rattle.ffi3_type_rules.specs.Tree.{double, pointer}
+use Rattle.ffi3_type_rules.specs.Tree.{double, pointer, x87, binary128}
 use Rattle.ffi3_type_rules.specs.Layout.{Leaf, size_of, scalar_size}
 use Rattle.ffi3_place_rules.specs.declared.Loc.{Loc}
 use Rattle.ffi3_place_rules.specs.declared.Loc.TheVariants.{S}
@@ -29,6 +29,8 @@ filling_of_scalar e s128 = Free
 filling_of_scalar e float = Free
 filling_of_scalar e double = Free
 filling_of_scalar e pointer = Free
+filling_of_scalar e x87 = Free
+filling_of_scalar e binary128 = Free
 
 abbrev pub filling : Ext → Tree → Ext
 filling e (scalar s) = filling_of_scalar e s

@@ -1,6 +1,6 @@
 -- What an instruction set's machine has: its registers by number, and what a call and a closure's trampoline do with them. (System V psABI AMD64, "Register Usage"; Arm AAPCS64 6.1.1 and 6.1.2; RISC-V ELF psABI, "Integer Register Convention" and "Floating-point Register Convention")
 use Rattle.std.specs.Prelude.{◌≡◌, ℕ, ◌+◌, ◌*◌, ◌%◌, ◌^◌, Bool, true, false, ◌==◌, ⊤, List, [], ◌∷◌, ◌++◌, map, Option}
-use Rattle.std.specs.Prelude.{Some, None, option_map, length}
+use Rattle.std.specs.Prelude.{Some, None, option_map, length, ◌-◌, ◌&&◌, cond, nat_le, nat_lt}
 use Rattle.std.specs.List.{list_any}
 use Rattle.ffi3_type_rules.specs.declared.Target.{Target}
 use Rattle.ffi3_type_rules.specs.declared.Target.TheVariants as target
@@ -68,7 +68,38 @@ jump_register Amd64 = None
 jump_register Aarch64 = Some 16
 jump_register Riscv = Some 7
 
+-- ---- further words of the floating file: what a register has beyond the 64 bits that the modelled machine knows of it. They have numbers that no register has, and no stub moves them.
+
+-- Of AMD64 st(0) is 16 and 17, and st(1) 18 and 19: its significand of 64 bits, and its sign and exponent in 16 more (psABI AMD64 3.2.1, figure 3.4; Intel 64 and IA-32 Architectures Software Developer's Manual, volume 1, "x87 FPU Data Registers"). Of AArch64 32 to 39 are the upper halves of v0 to v7 (AAPCS64 6.1.2).
+abbrev pub is_further : Isa → ℕ → Bool
+is_further Amd64 r = nat_le 16 r && nat_lt r 20
+is_further Aarch64 r = nat_le 32 r && nat_lt r 40
+is_further Riscv r = false
+
+-- the word of the same register that stands below it: the significand, or the lower half
+abbrev pub word_below : Isa → ℕ → Option ℕ
+word_below Amd64 r = cond (r == 17) (Some 16) (cond (r == 19) (Some 18) None)
+word_below Aarch64 r = cond (nat_le 32 r) (Some (r - 32)) None
+word_below Riscv r = None
+
 -- ---- the same as places
+
+-- the two words of st(k)
+abbrev pub significand : ℕ → Loc
+significand k = F (16 + 2 * k)
+
+abbrev pub sign_and_exponent : ℕ → Loc
+sign_and_exponent k = F (17 + 2 * k)
+
+-- the upper half of v(k)
+abbrev pub upper_half : ℕ → Loc
+upper_half k = F (32 + k)
+
+-- the further words in which arguments are passed
+abbrev pub further_arguments : Isa → List Loc
+further_arguments Amd64 = []
+further_arguments Aarch64 = F 32 ∷ F 33 ∷ F 34 ∷ F 35 ∷ F 36 ∷ F 37 ∷ F 38 ∷ F 39 ∷ []
+further_arguments Riscv = []
 
 -- the place alone, or none
 abbrev pub to_list : Option Loc → List Loc

@@ -1,15 +1,16 @@
 -- What the places of a signature keep, whatever the standard: no two share anything, none is a forbidden register, and they have the whole value. (No standard states these laws: each follows from its rules, and is proved of them.)
 use Rattle.std.specs.Prelude.{◌≡◌, ◌≢◌, ℕ, zero, suc, ◌+◌, ◌/◌, ◌%◌, ◌<◌, ◌≤◌, ◌⊎◌, ⊤, Bool, true, false, ◌&&◌, nat_lt}
-use Rattle.std.specs.Prelude.{List, [], ◌∷◌, ◌++◌}
+use Rattle.std.specs.Prelude.{List, [], ◌∷◌, ◌++◌, Option, Some, None}
 use Rattle.std.specs.List.{AllByRecursion, Any, flat_map}
 use Rattle.ffi3_type_rules.specs.Tree.{Tree, void, scalar}
 use Rattle.ffi3_type_rules.specs.Layout.{Leaf, leaves_of, size_of, scalar_size}
 use Rattle.ffi3_type_rules.specs.Integer.{is_integer}
-use Rattle.ffi3_type_rules.specs.Signature.{Signature}
+use Rattle.ffi3_type_rules.specs.Signature.{Signature, HasNoLongDouble}
 use Rattle.ffi3_type_rules.specs.Value.{ValueTree}
 use Rattle.ffi3_type_rules.specs.declared.Isa.{Isa}
 use Rattle.ffi3_type_rules.specs.Isa.{isa_of}
-use Rattle.ffi3_place_rules.specs.Isa.{general_registers, floating_registers, to_list}
+use Rattle.ffi3_place_rules.specs.Isa.{general_registers, floating_registers, to_list, is_further, word_below}
+use Rattle.ffi3_place_rules.specs.Isa.{further_arguments}
 use Rattle.ffi3_place_rules.specs.declared.Loc.{Loc}
 use Rattle.ffi3_place_rules.specs.declared.Loc.TheVariants.{G, F, S}
 use Rattle.ffi3_place_rules.specs.declared.Ext.{Ext}
@@ -48,6 +49,16 @@ abbrev pub LiesIn : Isa → ℕ → Loc → Type 0
 LiesIn isa stack (G r) = r < general_registers isa
 LiesIn isa stack (F r) = r < floating_registers isa
 LiesIn isa stack (S n w) = (n + w ≤ stack) × (0 < w) × (w ≤ 8)
+
+-- a further word of the floating file, which the modelled machine has not
+abbrev pub IsFurther : Isa → Loc → Type 0
+IsFurther isa (F r) = is_further isa r ≡ true
+IsFurther isa (G r) = ⊥
+IsFurther isa (S n w) = ⊥
+
+-- the same of a place that may be such a word
+abbrev pub StandsIn : Isa → ℕ → Loc → Type 0
+StandsIn isa stack l = LiesIn isa stack l ⊎ IsFurther isa l
 
 -- the place is one of the list
 abbrev pub IsOneOf : List Loc → Loc → Type 0
@@ -140,10 +151,11 @@ pub record IsPieceOf (t : Tree) (p : Piece) : Type 0 where
   pub fits : p.len ≤ place_size p.loc
   pub extended : IsExtended t p p.ext
 
--- The other way round: a lone narrow integer fills its place as the standard says, where that is wider, and so does a float in a floating register.
+-- The other way round: a lone narrow integer fills its place as the standard says, where that is wider, and so does a float in a floating register. A place of fewer than eight bytes has its piece's bytes and no others.
 pub record IsFilled (std : Standard) (t : Tree) (p : Piece) : Type 0 where
   pub narrow : is_narrow_integer t ≡ true → p.len < place_size p.loc → p.ext ≡ std.narrow
   pub single : is_floating_place p.loc ≡ true → p.len ≡ 4 → p.ext ≡ std.single
+  pub narrow_place : place_size p.loc < 8 → p.len ≡ place_size p.loc
 
 abbrev pub PlaceIsFilled : Standard → Tree → Place → Type 0
 PlaceIsFilled std t (Direct pieces) = AllByRecursion (IsFilled std t) pieces
@@ -180,6 +192,32 @@ ResultHasAll t Nothing = t ≡ void
 ResultHasAll t (DirectRes pieces) = HaveAll t pieces
 ResultHasAll t (Hidden at buffer) = ⊤
 
+-- ---- registers of which the modelled machine has a part
+
+-- what a word of a register has stands right behind what the word below it has
+abbrev pub StandsAbove : List Piece → Piece → Option ℕ → Type 0
+StandsAbove pieces p (Some r) = Any (λ q. (q.loc ≡ F r) × (q.len ≡ 8) × (q.off + 8 ≡ p.off)) pieces
+StandsAbove pieces p None = ⊤
+
+abbrev pub word_below_place : Isa → Loc → Option ℕ
+word_below_place isa (F r) = word_below isa r
+word_below_place isa (G r) = None
+word_below_place isa (S n w) = None
+
+-- no value has an upper word of a register whose lower one it has not
+abbrev pub HaveLowerWords : Isa → List Piece → Type 0
+HaveLowerWords isa pieces =
+    AllByRecursion (λ p. StandsAbove pieces p (word_below_place isa p.loc)) pieces
+
+abbrev pub PlaceHasLowerWords : Isa → Place → Type 0
+PlaceHasLowerWords isa (Direct pieces) = HaveLowerWords isa pieces
+PlaceHasLowerWords isa (ByRef at copy) = ⊤
+
+abbrev pub ResultHasLowerWords : Isa → Res → Type 0
+ResultHasLowerWords isa (DirectRes pieces) = HaveLowerWords isa pieces
+ResultHasLowerWords isa Nothing = ⊤
+ResultHasLowerWords isa (Hidden at buffer) = ⊤
+
 -- ---- pieces on the stack
 
 -- where both stand on the stack, the second stands higher and has later bytes of the value
@@ -196,15 +234,31 @@ abbrev pub PlaceRises : Place → Type 0
 PlaceRises (Direct pieces) = AreRising pieces
 PlaceRises (ByRef at copy) = ⊤
 
+-- ---- all of it
+
+-- what is so of a signature that can be called on the modelled machine: each register is one that it has
+pub record IsOnMachine (std : Standard) (s : Signature) : Type 0 where
+  pub in_frame : AllByRecursion (LiesIn (isa_of std.target) (plan_of std s).frame) (call_locs s (plan_of std s))
+  pub on_stack : AllByRecursion (LiesIn (isa_of std.target) (std.placing s).stack_bytes) (argument_locs (plan_of std s))
+  -- what is passed in a register is passed in an argument register
+  pub passed : AllByRecursion (IsOnStackOrIn std.argument_registers) (argument_locs (plan_of std s))
+  pub result_in_registers : AllByRecursion (LiesIn (isa_of std.target) 0) (result_locs (plan_of std s).res)
+
 -- THE PLACES OF A SIGNATURE ARE SOUND
 pub record IsSound (std : Standard) (s : Signature) : Type 0 where
   -- no two places, copies and buffer included, share a register or a byte of the stack
   pub apart : AreApart (call_locs s (plan_of std s))
-  pub in_frame : AllByRecursion (LiesIn (isa_of std.target) (plan_of std s).frame) (call_locs s (plan_of std s))
-  pub on_stack : AllByRecursion (LiesIn (isa_of std.target) (std.placing s).stack_bytes) (argument_locs (plan_of std s))
+  pub in_frame : AllByRecursion (StandsIn (isa_of std.target) (plan_of std s).frame) (call_locs s (plan_of std s))
+  pub on_stack :
+      AllByRecursion (StandsIn (isa_of std.target) (std.placing s).stack_bytes) (argument_locs (plan_of std s))
   pub allowed : AllByRecursion (IsNoneOf (closed_to_arguments std)) (argument_locs (plan_of std s))
-  -- what is passed in a register is passed in an argument register
-  pub passed : AllByRecursion (IsOnStackOrIn std.argument_registers) (argument_locs (plan_of std s))
+  -- what is passed in a register is passed in an argument register, or in the upper half of one
+  pub passed :
+      AllByRecursion
+      (IsOnStackOrIn (std.argument_registers ++ further_arguments (isa_of std.target)))
+      (argument_locs (plan_of std s))
+  -- where a value has an upper word of a register, it has the lower one too
+  pub lower_words : AllByRecursion (PlaceHasLowerWords (isa_of std.target)) (plan_of std s).places
   pub has_all : PlacesHaveAll s.arguments (plan_of std s).places
   -- the address of a hidden result has eight bytes
   pub address : AllByRecursion IsWhole (hidden_locs (plan_of std s).res)
@@ -213,13 +267,16 @@ pub record IsSound (std : Standard) (s : Signature) : Type 0 where
   pub rising : AllByRecursion PlaceRises (plan_of std s).places
   -- the result's are registers
   pub result_apart : AreApart (result_locs (plan_of std s).res)
-  pub result_in_registers : AllByRecursion (LiesIn (isa_of std.target) 0) (result_locs (plan_of std s).res)
+  pub result_in_registers : AllByRecursion (StandsIn (isa_of std.target) 0) (result_locs (plan_of std s).res)
+  pub result_lower_words : ResultHasLowerWords (isa_of std.target) (plan_of std s).res
   pub result_allowed : AllByRecursion (IsNoneOf (closed_to_results std)) (result_locs (plan_of std s).res)
   pub result_has_all : ResultHasAll s.result_type (plan_of std s).res
   pub result_filled : ResultIsFilled std s.result_type (plan_of std s).res
-  -- a call keeps the stack pointer at multiples of 16 (psABI AMD64 3.2.2 "The Stack Frame"; AAPCS64, "The Stack"; RISC-V ELF psABI, "Integer Calling Convention"; Microsoft, "x64 stack usage", "Stack allocation")
+  -- a call keeps the stack pointer at multiples of 16 (psABI AMD64 3.2.2 "The Stack Frame"; AAPCS64, "The Stack", by which Apple's goes too; RISC-V ELF psABI, "Integer Calling Convention"; Microsoft, "x64 stack usage", "Stack allocation")
   pub frame_aligned : frame_of std s % 16 ≡ 0
   pub need_aligned : need_of std s % 16 ≡ 0
+  -- without a long double of 16 bytes all of it is what the modelled machine has
+  pub on_machine : HasNoLongDouble s → IsOnMachine std s
 
 -- AN IMAGE THAT OWNS VALUES DETERMINES THEM
 pub record IsDetermined (std : Standard) (s : Signature) : Type 0 where

@@ -25,7 +25,7 @@ use ffi3_place::{Abi, Ext, Loc, Piece, Pieces, Place, Places, Plan, Res, SaveWor
 pub use ffi3_riscv_rules::Shape;
 use ffi3_riscv_rules::TakenWords;
 use ffi3_type_rules::round_up;
-use ffi3_types::{CheckedSig, CheckedType, FfiType, NoMemory, Sig, Target};
+use ffi3_types::{CheckedType, FfiType, NoMemory, PlacedSig, Sig, Target};
 pub use laws::placement_laws;
 use std::alloc::Global;
 
@@ -41,6 +41,7 @@ fn is_word_integer(kind: &FfiType) -> bool
         FfiType::Float | FfiType::Double => false,
         FfiType::Void | FfiType::Struct(_) | FfiType::Array(_, _) => false,
         FfiType::LongDouble | FfiType::Complex | FfiType::Vector => false,
+        FfiType::X87 | FfiType::Binary128 => false,
     }
 }
 
@@ -135,6 +136,7 @@ fn found_of(ty: &CheckedType<'_>) -> Found
         FfiType::U8 | FfiType::S8 | FfiType::U16 | FfiType::S16 => otherwise,
         FfiType::U32 | FfiType::S32 | FfiType::U64 | FfiType::S64 => otherwise,
         FfiType::U128 | FfiType::S128 | FfiType::Pointer => otherwise,
+        FfiType::X87 | FfiType::Binary128 => otherwise,
         FfiType::Void | FfiType::LongDouble | FfiType::Complex | FfiType::Vector => otherwise,
     };
     Found {
@@ -301,6 +303,7 @@ fn boxing(kind: &FfiType) -> Ext
         FfiType::U128 | FfiType::S128 => Ext::Free,
         FfiType::Void | FfiType::Struct(_) | FfiType::Array(_, _) => Ext::Free,
         FfiType::LongDouble | FfiType::Complex | FfiType::Vector => Ext::Free,
+        FfiType::X87 | FfiType::Binary128 => Ext::Free,
     }
 }
 
@@ -393,7 +396,7 @@ fn place_of(
 }
 
 /// Whether argument `i` is a named one, and no variadic one.
-fn is_fixed(sig: &CheckedSig<'_>, i: u32) -> bool
+fn is_fixed(sig: &PlacedSig<'_>, i: u32) -> bool
     ensures { result ≡ is_fixed sig.now.fixed i }
 {
     match sig.fixed() {
@@ -434,7 +437,7 @@ struct Passed {
 }
 
 /// How argument `i` is passed, behind others that take `taken`.
-fn passed_after(sig: &CheckedSig<'_>, i: u32, taken: TakenWords) -> Passed
+fn passed_after(sig: &PlacedSig<'_>, i: u32, taken: TakenWords) -> Passed
     requires in_range { i < length sig.now.arguments }
     requires few { taken.floats ≤ 8 }
     requires low { taken.words ≤ 3 * MOST_ARGUMENTS + 1 }
@@ -477,7 +480,7 @@ struct Placed {
 }
 
 /// The places of all arguments, if the result is passed as `returned`; copies have no place yet.
-fn place_all(alloc: Global, sig: &CheckedSig<'_>, returned: Shape) -> Result<Placed, NoMemory>
+fn place_all(alloc: Global, sig: &PlacedSig<'_>, returned: Shape) -> Result<Placed, NoMemory>
     requires { returned ≡ result_shape sig.now.result_type }
     ensures places { IfOk result (λ p. p.places ≡ map without_copy (placing_of sig.now).arguments) }
     ensures taken { IfOk result (λ p. p.taken ≡ taken_by_all sig.now) }
@@ -496,12 +499,7 @@ fn place_all(alloc: Global, sig: &CheckedSig<'_>, returned: Shape) -> Result<Pla
 }
 
 /// A result's place is that of an argument. What stands before its buffer ends `end` bytes from the frame's start.
-fn place_result(
-    alloc: Global,
-    sig: &CheckedSig<'_>,
-    shape: Shape,
-    end: u64,
-) -> Result<Res, NoMemory>
+fn place_result(alloc: Global, sig: &PlacedSig<'_>, shape: Shape, end: u64) -> Result<Res, NoMemory>
     requires shape { shape ≡ result_shape sig.now.result_type }
     requires near { end ≤ 2 * ARGUMENT_BYTES }
     ensures { IfOk result (λ r. r ≡ result_at riscv.copy_start end sig.now.result_type (result_spot_of sig.now.result_type)) }
@@ -572,7 +570,7 @@ const ARGUMENT_REGISTERS: [Loc; 16] = [
 ];
 
 /// Where everything stands in a call.
-fn plan_of(alloc: Global, sig: &CheckedSig<'_>) -> Result<Plan, NoMemory>
+fn plan_of(alloc: Global, sig: &PlacedSig<'_>) -> Result<Plan, NoMemory>
     ensures { IfOk result (λ p. p ≡ plan_of riscv sig.now) }
 {
     let shape = result_shape(&sig.ret());
@@ -637,7 +635,7 @@ impl Abi for Riscv {
     }
 
     fn plan(alloc: Global, sig: &Sig) -> Result<Plan, NoMemory> {
-        plan_of(alloc, &CheckedSig::of(sig))
+        plan_of(alloc, &PlacedSig::of(sig))
     }
 
     ghost use Rattle.std.specs.Prelude.{refl};
@@ -663,7 +661,7 @@ impl Abi for Riscv {
 
     ghost by_stubs = { λ _. with_stubs };
 
-    ghost result_by_stubs = { λ s _. result_with_stubs s };
+    ghost result_by_stubs = { λ s _ _. result_with_stubs s };
 
     ghost sound = { every_law };
 

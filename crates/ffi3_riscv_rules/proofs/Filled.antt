@@ -1,20 +1,20 @@
 -- What fills the rest of each place is what the standard says: a lone narrow integer is extended, a float in a floating register is NaN-boxed.
 use Rattle.std.proofs.Common.{◌≡◌, ℕ, ◌+◌, ◌-◌, ◌*◌, Bool, true, false, cond, ltb, List, [], ◌∷◌, length, refl, arith}
 use Rattle.std.specs.Prelude.{Option}
-use Rattle.ffi3_type_rules.specs.Tree.{Tree, void, scalar, left_out, structure, Scalar, u8, s8, u16, s16, u32, s32, u64, s64, u128, s128, float, double, pointer, array}
+use Rattle.ffi3_type_rules.specs.Tree.{Tree, void, scalar, left_out, structure, Scalar, u8, s8, u16, s16, u32, s32, u64, s64, u128, s128, float, double, pointer, x87, binary128, array}
 use Rattle.ffi3_type_rules.specs.Layout.{Leaf, leaves_of, leaf_at, size_of, scalar_size}
 use Rattle.ffi3_type_rules.specs.Integer.{is_floating, is_integer}
 use Rattle.ffi3_place_rules.specs.declared.Loc.{Loc}
-use Rattle.ffi3_place_rules.specs.declared.Loc.TheVariants.{G, S}
+use Rattle.ffi3_place_rules.specs.declared.Loc.TheVariants.{G, F, S}
 use Rattle.ffi3_place_rules.specs.declared.Ext.TheVariants.{Boxed}
 use Rattle.ffi3_place_rules.specs.Standard.{copy_end, place_at, places_from}
-use Rattle.ffi3_place_rules.specs.Sound.{is_narrow_integer, is_floating_place, IsFilled, PlaceIsFilled, PlacesAreFilled}
+use Rattle.ffi3_place_rules.specs.Sound.{is_narrow_integer, is_floating_place, IsFilled, IsWhole, PlaceIsFilled, PlacesAreFilled}
 use Rattle.ffi3_place_rules.proofs.Tests.{and_left}
-use Rattle.ffi3_place_rules.proofs.Filled.{doublewords_filled}
+use Rattle.ffi3_place_rules.proofs.Filled.{doublewords_filled, no_narrow_place}
 use Rattle.ffi3_riscv_rules.specs.declared.Shape.{Shape}
 use Rattle.ffi3_riscv_rules.specs.declared.Shape.TheVariants.{OneF, TwoF, FI, IF, Words, ByRef}
 use Rattle.ffi3_riscv_rules.specs.declared.TakenWords.{TakenWords}
-use Rattle.ffi3_riscv_rules.specs.Riscv.{riscv, integer_register, word, boxing, floating_piece, integer_piece, spot_of, is_fixed, taken_at_start, shape_after, spot_after, taken_with, spots_after}
+use Rattle.ffi3_riscv_rules.specs.Riscv.{riscv, integer_register, floating_register, word, boxing, floating_piece, integer_piece, spot_of, is_fixed, taken_at_start, shape_after, spot_after, taken_with, spots_after}
 use Rattle.ffi3_riscv_rules.proofs.Shapes.{Suits, HasFloats, passed_suits, passed_floats}
 
 -- ---- values that are no lone narrow integer
@@ -33,6 +33,8 @@ no_integer s128 f i = cc
 no_integer float f i = cc
 no_integer double f i = cc
 no_integer pointer f i = cc
+no_integer x87 f i = cc
+no_integer binary128 f i = cc
 
 first_floats : (t : Tree) → is_floating (leaf_at t 0).kind ≡ true → is_narrow_integer t ≡ true → ⊥
 first_floats void f n = cc
@@ -64,13 +66,15 @@ float_boxed s128 f e = cc
 float_boxed float f e = refl
 float_boxed double f e = absurd (omega (arith, e))
 float_boxed pointer f e = cc
+float_boxed x87 f e = cc
+float_boxed binary128 f e = cc
 
 module _ (t : Tree) (wide : is_narrow_integer t ≡ true → ⊥) where
   floating_filled : (f : ℕ) (l : Leaf) → is_floating l.kind ≡ true → IsFilled riscv t (floating_piece f l)
-  floating_filled f l floats = record { narrow = λ n _. absurd (wide n); single = λ _ e. float_boxed l.kind floats e }
+  floating_filled f l floats = record { narrow = λ n _. absurd (wide n); single = λ _ e. float_boxed l.kind floats e; narrow_place = no_narrow_place (F (floating_register f)) refl }
 
   integer_filled : (w : ℕ) (l : Leaf) → IsFilled riscv t (integer_piece w l)
-  integer_filled w l = record { narrow = λ n _. absurd (wide n); single = λ h e. absurd (in_general h) }
+  integer_filled w l = record { narrow = λ n _. absurd (wide n); single = λ h e. absurd (in_general h); narrow_place = no_narrow_place (G (integer_register w)) refl }
     where
       in_general : is_floating_place (G (integer_register w)) ≡ true → ⊥
       in_general h = cc
@@ -81,6 +85,13 @@ word_if w false = refl
 
 word_not_floating : (w : ℕ) → is_floating_place (word w) ≡ false
 word_not_floating w = word_if w (ltb w 8)
+
+whole_if : (w : ℕ) (b : Bool) → IsWhole (cond {A = Loc} b (G (integer_register w)) (S (8 * (w - 8)) 8))
+whole_if w true = refl
+whole_if w false = refl
+
+word_whole : (w : ℕ) → IsWhole (word w)
+word_whole w = whole_if w (ltb w 8)
 
 -- ---- by shapes
 
@@ -94,7 +105,7 @@ spot_filled start copies before t FI h f =
 spot_filled start copies before t IF h f =
     (integer_filled t (has_two t h) before.words (leaf_at t 0), (floating_filled t (has_two t h) before.floats (leaf_at t 1) f, tt))
 spot_filled start copies before t (Words n) h f =
-    doublewords_filled riscv t (λ j. word (before.words + j)) (λ j. word_not_floating (before.words + j)) 0 n
+    doublewords_filled riscv t (λ j. word (before.words + j)) (λ j. word_not_floating (before.words + j)) (λ j. word_whole (before.words + j)) 0 n
 spot_filled start copies before t ByRef h f = tt
 
 pub arguments_filled : (start : ℕ → Tree → ℕ) (copies : ℕ) (fixed : Option ℕ) (end : TakenWords) (i : ℕ) (ts : List Tree) → PlacesAreFilled riscv ts (places_from start copies ts (spots_after fixed end i ts))

@@ -1,6 +1,6 @@
 -- Worked rows, computed.
 use Rattle.std.specs.Prelude.{◌≡◌, ℕ, List, [], ◌∷◌, ◌++◌, refl, Some, replicate}
-use Rattle.ffi3_type_rules.specs.Tree.{Tree, void, scalar, struct_of, s8, s32, s128, float, double, pointer, array_of, u8, u32}
+use Rattle.ffi3_type_rules.specs.Tree.{Tree, void, scalar, struct_of, s8, s32, s128, float, double, pointer, array_of, u8, u32, binary128}
 use Rattle.ffi3_type_rules.specs.Layout.{least_multiple}
 use Rattle.ffi3_place_rules.specs.declared.Loc.{Loc}
 use Rattle.ffi3_place_rules.specs.declared.Loc.TheVariants.{G, F, S}
@@ -316,3 +316,44 @@ pub arrays : plan_of riscv (sig_of void (struct_of (array_of (scalar float) 2 �
 }
 unfolding least_multiple
 arrays = refl
+
+-- ---- long double, of 128 bits: as an integer of 128 bits
+
+abbrev quad : Tree
+quad = scalar binary128
+
+-- binary128(seven sint64, binary128, double): split between a7 and the stack; no floating register
+pub long_double : plan_of riscv (sig_of quad (integer ∷ integer ∷ integer ∷ integer ∷ integer ∷ integer ∷ integer ∷ quad ∷ scalar double ∷ [])) ≡ record {
+  places = alone (G 10) ∷ alone (G 11) ∷ alone (G 12) ∷ alone (G 13) ∷ alone (G 14) ∷ alone (G 15) ∷ alone (G 16) ∷ halves (G 17) (S 0 8) ∷ alone (F 10) ∷ [];
+  res = DirectRes (at (G 10) 0 8 ∷ at (G 11) 8 8 ∷ []);
+  need = 304;
+  frame = 16;
+  block = 80;
+  vectors = 0;
+}
+unfolding least_multiple
+long_double = refl
+
+-- void(sint64;binary128): a variadic one begins at an even word
+pub variadic_long_double : plan_of riscv (variadic_from void (integer ∷ quad ∷ []) 1) ≡ record {
+  places = alone (G 10) ∷ halves (G 12) (G 13) ∷ [];
+  res = Nothing;
+  need = 240;
+  frame = 0;
+  block = 32;
+  vectors = 0;
+}
+unfolding least_multiple
+variadic_long_double = refl
+
+-- struct{binary128}(struct{float,binary128})
+pub long_double_in_structs : plan_of riscv (sig_of (struct_of (quad ∷ [])) (struct_of (scalar float ∷ quad ∷ []) ∷ [])) ≡ record {
+  places = ByRef (G 10) 0 ∷ [];
+  res = DirectRes (at (G 10) 0 8 ∷ at (G 11) 8 8 ∷ []);
+  need = 272;
+  frame = 32;
+  block = 32;
+  vectors = 0;
+}
+unfolding least_multiple
+long_double_in_structs = refl

@@ -2,7 +2,7 @@
 use Rattle.std.proofs.Common.{◌≡◌, ℕ, ◌+◌, ◌/◌, ◌≤◌, Bool, true, false, ◌&&◌, cond, leb, List, [], ◌∷◌, length, refl, arith}
 use Rattle.std.specs.Prelude.{⊤, slice_index_or}
 use Rattle.std.proofs.lemmas.Bool.{leb-true}
-use Rattle.ffi3_type_rules.specs.Tree.{Tree, Scalar, u8, u128, s128}
+use Rattle.ffi3_type_rules.specs.Tree.{Tree, Scalar, u8, u128, s128, x87, binary128}
 use Rattle.ffi3_type_rules.specs.Layout.{Leaf, leaves_of, size_of, scalar_size}
 use Rattle.ffi3_type_rules.specs.Integer.{is_floating, is_integer}
 use Rattle.ffi3_place_rules.proofs.Tests.{and_left, and_right}
@@ -93,6 +93,8 @@ passed_floats before fixed t =
 floating_small : (s : Scalar) → is_floating s ≡ true → scalar_size s ≤ 8
 floating_small u128 e = cc
 floating_small s128 e = cc
+floating_small x87 e = cc
+floating_small binary128 e = cc
 floating_small _ e = omega arith
 
 word_small : (s : Scalar) → is_word_integer s ≡ true → scalar_size s ≤ 8

@@ -21,6 +21,7 @@ use Rattle.ffi3_place_rules.proofs.Aligned.{frame_is_aligned, need_is_aligned}
 use Rattle.ffi3_place_rules.proofs.Tests.{each_of_two}
 use Rattle.ffi3_place_rules.proofs.Forbidden.{is_one_of, one_of}
 use Rattle.ffi3_place_rules.proofs.Determines.{determined}
+use Rattle.ffi3_place_rules.proofs.OnMachine.{sound_on_machine}
 use Rattle.ffi3_riscv_rules.specs.declared.Shape.{Shape}
 use Rattle.ffi3_riscv_rules.specs.declared.Shape.TheVariants.{OneF, TwoF, FI, IF, Words, ByRef}
 use Rattle.ffi3_riscv_rules.specs.declared.TakenWords.{TakenWords}
@@ -274,7 +275,7 @@ hidden_whole t buffer =
 pub sound : (s : Signature) → IsSound riscv s
 sound s =
     let buffer = frame_copies_end riscv s in
-    record {
+    sound_on_machine riscv s (record {
       apart = plan_apart s;
       in_frame = plan_in_frame s;
       on_stack = plan_lies_in s;
@@ -291,7 +292,7 @@ sound s =
       result_filled = result_filled s.result_type buffer;
       frame_aligned = frame_is_aligned riscv s;
       need_aligned = need_is_aligned riscv s agrees.save_aligned;
-    }
+    })
 
 pub determines : (s : Signature) → IsDetermined riscv s
 determines s = determined riscv s (sound s).has_all (sound s).result_has_all

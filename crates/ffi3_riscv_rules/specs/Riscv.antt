@@ -4,7 +4,7 @@ use Rattle.std.specs.Prelude.{◌++◌, map, length, Option, Some, None}
 use Rattle.ffi3_type_rules.specs.declared.Target.TheVariants as target
 use Rattle.ffi3_type_rules.specs.declared.Isa.TheVariants as isa
 use Rattle.ffi3_type_rules.specs.Tree.{Tree, void, Scalar, u8, s8, u16, s16, u32, s32, u64, s64, u128, s128, float}
-use Rattle.ffi3_type_rules.specs.Tree.{double, pointer}
+use Rattle.ffi3_type_rules.specs.Tree.{double, pointer, x87, binary128}
 use Rattle.ffi3_type_rules.specs.Layout.{Leaf, leaves_of, leaf_at, size_of, align_of, scalar_size, least_multiple}
 use Rattle.ffi3_type_rules.specs.Signature.{Signature}
 use Rattle.ffi3_type_rules.specs.Integer.{is_floating, is_integer}
@@ -42,7 +42,7 @@ shape_of_two otherwise a b =
     (cond {A = Shape} (is_floating a && is_word_integer b) FI
     (cond {A = Shape} (is_word_integer a && is_floating b) IF otherwise))
 
--- A value whose structs are flattened, arrays in them too. ("Hardware Floating-point Calling Convention", on what "struct" means there, on a real floating-point argument, and on a struct of just one)
+-- A value whose structs are flattened, arrays in them too. A floating-point real is no more than ABI_FLEN bits wide: a long double, which has 128, follows the integer convention, alone and in a struct. ("Hardware Floating-point Calling Convention", on what "struct" means there, on a real floating-point argument, and on a struct of just one)
 abbrev pub shape_of_leaves : Shape → List Leaf → Shape
 shape_of_leaves otherwise (a ∷ []) =
     cond {A = Shape} (is_floating a.kind) OneF otherwise
@@ -119,6 +119,8 @@ boxing s128 = Free
 boxing float = Boxed
 boxing double = Free
 boxing pointer = Free
+boxing x87 = Free
+boxing binary128 = Free
 
 abbrev pub floating_piece : ℕ → Leaf → Piece
 floating_piece f l = leaf_piece (F (floating_register f)) (boxing l.kind) l

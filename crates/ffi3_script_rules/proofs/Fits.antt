@@ -4,7 +4,7 @@ use Rattle.std.specs.Prelude.{slice_index_or, nat_lt, ◌&&◌, is_none, replica
 use Rattle.std.specs.Int.{w64, to_le_bytes}
 use Rattle.std.specs.List.{list_all}
 use Rattle.std.proofs.lemmas.Bool.{eq-eqb, ltb-true}
-use Rattle.ffi3_type_rules.specs.Tree.{Scalar, u8, s8, u16, s16, u32, s32, u64, s64, u128, s128, float, double, pointer, Tree, void, scalar, left_out, structure, array, Trees, no_trees, tree, tree_at, trees_of, list_of, elements_of, trees_of-list_of}
+use Rattle.ffi3_type_rules.specs.Tree.{Scalar, u8, s8, u16, s16, u32, s32, u64, s64, u128, s128, float, double, pointer, x87, binary128, Tree, void, scalar, left_out, structure, array, Trees, no_trees, tree, tree_at, trees_of, list_of, elements_of, trees_of-list_of}
 use Rattle.ffi3_type_rules.specs.declared.Role.TheVariants.{Anywhere}
 use Rattle.ffi3_type_rules.specs.Integer.{is_integer, is_number, bytes_of_number, number_of, sum_of}
 use Rattle.ffi3_type_rules.specs.Layout.{scalar_size}
@@ -64,10 +64,10 @@ leaf_fits (structure ts) bytes h = cc
 leaf_fits (array ts n) bytes h = cc
 
 -- the bytes of a number
-number_fits : (s : Scalar) (t : Tree) (bytes : List ℕ) → length bytes ≡ scalar_size s → is_number_of s t ≡ true → fits t (leaf_value bytes) ≡ true
+number_fits : (s : Scalar) (t : Tree) (bytes : List ℕ) → (is_number s ≡ true → length bytes ≡ scalar_size s) → is_number_of s t ≡ true → fits t (leaf_value bytes) ≡ true
 number_fits s (scalar r) bytes n h =
     let same = scalars_are_same s r (and_left (same_scalar s r) _ h) in
-    eq-eqb (length bytes) (scalar_size r) (n ∙ ap scalar_size same)
+    eq-eqb (length bytes) (scalar_size r) (n (ap is_number same ∙ and_right (same_scalar s r) _ h) ∙ ap scalar_size same)
 number_fits s void bytes n h = cc
 number_fits s (left_out k) bytes n h = cc
 number_fits s (structure ts) bytes n h = cc
@@ -87,6 +87,8 @@ integer_is_number s128 h = refl
 integer_is_number float h = cc
 integer_is_number double h = cc
 integer_is_number pointer h = cc
+integer_is_number x87 h = cc
+integer_is_number binary128 h = cc
 
 -- an integer's type is a number's
 pub number_by_integer : (s : Scalar) (t : Tree) → is_integer_of s t ≡ true → is_number_of s t ≡ true

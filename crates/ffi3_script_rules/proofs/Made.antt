@@ -10,10 +10,10 @@ use Rattle.ffi3_type_rules.specs.declared.limits.TheConstants.{MOST_ARGUMENTS}
 use Rattle.ffi3_type_rules.specs.declared.Role.TheVariants.{AsArgument}
 use Rattle.ffi3_type_rules.specs.Tree.{Tree, void, scalar, tree_at, trees_of, struct_of, elements_of, u8, s32, u64, float, double, pointer}
 use Rattle.ffi3_type_rules.specs.Layout.{least_multiple}
-use Rattle.ffi3_type_rules.specs.Signature.{Signature, at_argument, SignatureFault, too_many}
+use Rattle.ffi3_type_rules.specs.Signature.{Signature, at_argument, SignatureFault, too_many, for_calls}
 use Rattle.ffi3_type_rules.specs.Same.{same_tree}
 use Rattle.ffi3_run_rules.specs.Move.{no_signature}
-use Rattle.ffi3_type_rules.specs.FirstFault.{first_fault, first_in_arguments, or_else, at_position}
+use Rattle.ffi3_type_rules.specs.FirstFault.{found_fault, first_in_arguments, or_else, at_position}
 use Rattle.ffi3_script_rules.specs.Script.{Expression, argument, outcome, element, sum, cast, expressions_of, return, ScriptMove}
 use Rattle.ffi3_script_rules.specs.Bodies.{ends, type_of_act}
 use Rattle.ffi3_script_rules.specs.Typed.{Kinds, Setting, is_at, own_type, has_type, have_types, act_is_typed, moves_are_typed, gives_too, body_is_typed, signature_is_right, script_is_typed, function_is_typed}
@@ -30,7 +30,7 @@ drawn_below n x some = mod_below (x / 65536) n some
 
 -- what is asked of a type that is drawn
 pub record IsMade (t : Tree) : Type 0 where
-  pub right : first_fault 0 AsArgument t ≡ None
+  pub right : found_fault for_calls AsArgument t ≡ None
   pub fills : (k : Kinds) (n : ℕ) → has_type k t (filled n t) ≡ true
   pub adds : (k : Kinds) (so_far e : Expression) → has_type k (scalar u64) so_far ≡ true → own_type k e ≡ t → has_type k t e ≡ true → has_type k (scalar u64) (with_leaves so_far t e) ≡ true
 
@@ -141,10 +141,10 @@ drawn_arguments_are x = record {
 
 -- ---- signatures
 
-no_fault_in : (ts : List Tree) (i : ℕ) → AreMade ts → first_in_arguments i (ts ++ scalar u64 ∷ []) ≡ None
+no_fault_in : (ts : List Tree) (i : ℕ) → AreMade ts → first_in_arguments for_calls i (ts ++ scalar u64 ∷ []) ≡ None
 no_fault_in [] i all = refl
 no_fault_in (t ∷ ts) i all =
-    ap (λ f. or_else (option_map (at_position (at_argument i)) f) (first_in_arguments (i + 1) (ts ++ scalar u64 ∷ []))) all.0.right ∙ no_fault_in ts (i + 1) all.1
+    ap (λ f. or_else (option_map (at_position (at_argument i)) f) (first_in_arguments for_calls (i + 1) (ts ++ scalar u64 ∷ []))) all.0.right ∙ no_fault_in ts (i + 1) all.1
 
 -- a test that fails, and then what is there otherwise
 otherwise : (b : Bool) (f g : Option SignatureFault) → b ≡ false → g ≡ None → (if b then f else g) ≡ None
@@ -155,7 +155,7 @@ pub made_signature_is_right : (ts : List Tree) → AreDrawn ts → signature_is_
 made_signature_is_right ts d =
     let count = length (ts ++ scalar u64 ∷ []) in
     let few : count ≤ MOST_ARGUMENTS = omega (arith, length-append ts (scalar u64 ∷ []), d.few) in
-    ap is_none (otherwise (nat_lt MOST_ARGUMENTS count) (Some (too_many count)) (or_else (first_in_arguments 0 (ts ++ scalar u64 ∷ [])) None) (le-ltb MOST_ARGUMENTS count few) (ap (λ f. or_else f None) (no_fault_in ts 0 d.made)))
+    ap is_none (otherwise (nat_lt MOST_ARGUMENTS count) (Some (too_many count)) (or_else (first_in_arguments for_calls 0 (ts ++ scalar u64 ∷ [])) None) (le-ltb MOST_ARGUMENTS count few) (ap (λ f. or_else f None) (no_fault_in ts 0 d.made)))
 
 -- ---- arguments
 

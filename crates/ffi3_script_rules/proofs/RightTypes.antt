@@ -7,16 +7,17 @@ use Rattle.std.proofs.lemmas.List.{length-replicate}
 use Rattle.ffi3_type_rules.specs.declared.limits.TheConstants.{DEEPEST_NESTING, MOST_ARGUMENTS}
 use Rattle.ffi3_type_rules.specs.declared.Role.{Role}
 use Rattle.ffi3_type_rules.specs.declared.Role.TheVariants.{AsResult, AsArgument, AsElement, Anywhere}
-use Rattle.ffi3_type_rules.specs.Tree.{Tree, void, scalar, left_out, structure, array, Trees, no_trees, tree, tree_at, list_of, trees_of, elements_of, parts_of, trees_of-list_of}
-use Rattle.ffi3_type_rules.specs.Layout.{Layout, layouts, start_of, size_of}
-use Rattle.ffi3_type_rules.specs.Value.{ValueTree, part, value_in, values_in, first_value_in, repeated_values, zero_value, fits, all_fit}
-use Rattle.ffi3_type_rules.specs.Fault.{bad_typedef, too_deep, takes, is_misshapen}
+use Rattle.ffi3_type_rules.specs.Tree.{Tree, void, scalar, left_out, long_double, structure, array, Trees, no_trees, tree, tree_at, list_of, trees_of, elements_of, parts_of, trees_of-list_of}
+use Rattle.ffi3_type_rules.specs.Layout.{Layout, layouts, start_of, size_of, scalar_size, has_long_double}
+use Rattle.ffi3_type_rules.specs.Value.{ValueTree, part, significant, value_in, values_in, first_value_in, repeated_values, zero_value, fits, all_fit}
+use Rattle.ffi3_type_rules.specs.Fault.{bad_typedef, left_out_type, too_deep, takes, is_misshapen}
 use Rattle.ffi3_type_rules.proofs.Faults.{part_is_right, right_anywhere}
 use Rattle.ffi3_type_rules.proofs.Arrays.{length_of_equal, one_of_equal}
-use Rattle.ffi3_type_rules.specs.Signature.{Signature, signature_at, at_result, at_argument, SignatureFault, too_many}
+use Rattle.ffi3_type_rules.specs.Signature.{Signature, signature_at, at_result, at_argument, SignatureFault, too_many, for_calls}
 use Rattle.ffi3_type_rules.proofs.Values.{element_within}
 use Rattle.ffi3_type_rules.proofs.Parts.{length_part}
-use Rattle.ffi3_type_rules.specs.FirstFault.{Found, first_fault, first_inside, or_else, in_composite, unless_deep, inside_element, fault_of_size, first_signature_fault, first_in_arguments, first_in_fixed, at_position}
+use Rattle.ffi3_type_rules.proofs.Significant.{length-significant}
+use Rattle.ffi3_type_rules.specs.FirstFault.{Found, first_fault, found_fault, first_inside, or_else, in_composite, unless_deep, inside_element, fault_of_size, first_signature_fault, first_in_arguments, first_in_fixed, at_position}
 use Rattle.ffi3_script_rules.specs.Typed.{is_right, is_right_argument, is_laid_out, signature_is_right}
 use Rattle.ffi3_type_rules.proofs.FirstFaults.{right_by_none, none_found}
 use Rattle.ffi3_script_rules.proofs.Tests.{and_left, and_right, both}
@@ -127,7 +128,8 @@ mutual
   -- the bytes of a right type have a value that fits it
   pub value_in-fits : (outer : ℕ) (role : Role) (t : Tree) (bytes : List ℕ) → first_fault outer role t ≡ None → length bytes ≡ size_of t → fits t (value_in t bytes) ≡ true
   value_in-fits outer role void bytes h n = refl
-  value_in-fits outer role (scalar s) bytes h n = eq-eqb (length bytes) _ n
+  value_in-fits outer role (scalar s) bytes h n =
+      eq-eqb (length (significant s bytes)) (scalar_size s) (length-significant s bytes n)
   value_in-fits outer role (left_out k) bytes h n = cc
   value_in-fits outer role (structure ts) bytes h n =
       values_in-fit (outer + 1) 0 ts (layouts ts) 0 bytes (inside_is_right outer role (structure ts) (first_inside (outer + 1) 0 ts) h) (has_room ts bytes n)
@@ -155,10 +157,15 @@ zero_fits t h =
 
 -- ---- signatures
 
+-- a type that is found to have no fault has none of its own
+own_none : (role : Role) (t : Tree) → found_fault for_calls role t ≡ None → is_none (first_fault 0 role t) ≡ true
+own_none role t e =
+    none-is_none (first_fault 0 role t) (none_first (first_fault 0 role t) (if has_long_double t then Some ([], left_out_type (left_out long_double)) else None) e)
+
 -- the first fault of a signature, but for its number of arguments
 abbrev first_but_number : Signature → Option SignatureFault
 first_but_number s =
-    or_else (option_map (at_position at_result) (first_fault 0 AsResult s.result_type)) (or_else (first_in_arguments 0 s.arguments) (first_in_fixed s.fixed s.arguments))
+    or_else (option_map (at_position at_result) (found_fault for_calls AsResult s.result_type)) (or_else (first_in_arguments for_calls 0 s.arguments) (first_in_fixed s.fixed s.arguments))
 
 none_but_number : (s : Signature) → signature_is_right s ≡ true → first_but_number s ≡ None
 none_but_number s h =
@@ -167,20 +174,20 @@ none_but_number s h =
 -- the result type of a right signature
 pub result_type_is_right : (s : Signature) → signature_is_right s ≡ true → is_right s.result_type ≡ true
 result_type_is_right s h =
-    none-is_none (first_fault 0 AsResult s.result_type) (none_mapped (at_position at_result) (first_fault 0 AsResult s.result_type) (none_first (option_map (at_position at_result) (first_fault 0 AsResult s.result_type)) (or_else (first_in_arguments 0 s.arguments) (first_in_fixed s.fixed s.arguments)) (none_but_number s h)))
+    own_none AsResult s.result_type (none_mapped (at_position at_result) (found_fault for_calls AsResult s.result_type) (none_first (option_map (at_position at_result) (found_fault for_calls AsResult s.result_type)) (or_else (first_in_arguments for_calls 0 s.arguments) (first_in_fixed s.fixed s.arguments)) (none_but_number s h)))
 
-all_arguments : (i : ℕ) (ts : List Tree) → first_in_arguments i ts ≡ None → list_all is_right_argument ts ≡ true
+all_arguments : (i : ℕ) (ts : List Tree) → first_in_arguments for_calls i ts ≡ None → list_all is_right_argument ts ≡ true
 all_arguments i [] h = refl
 all_arguments i (t ∷ ts) h =
-    let first = option_map (at_position (at_argument i)) (first_fault 0 AsArgument t) in
-    both (is_right_argument t) _ (none-is_none (first_fault 0 AsArgument t) (none_mapped (at_position (at_argument i)) (first_fault 0 AsArgument t) (none_first first (first_in_arguments (i + 1) ts) h))) (all_arguments (i + 1) ts (none_second first (first_in_arguments (i + 1) ts) h))
+    let first = option_map (at_position (at_argument i)) (found_fault for_calls AsArgument t) in
+    both (is_right_argument t) _ (own_none AsArgument t (none_mapped (at_position (at_argument i)) (found_fault for_calls AsArgument t) (none_first first (first_in_arguments for_calls (i + 1) ts) h))) (all_arguments (i + 1) ts (none_second first (first_in_arguments for_calls (i + 1) ts) h))
 
 -- the argument types of a right signature
 pub argument_types_are_right : (s : Signature) → signature_is_right s ≡ true → list_all is_right_argument s.arguments ≡ true
 argument_types_are_right s h =
-    let first = option_map (at_position at_result) (first_fault 0 AsResult s.result_type) in
-    let rest = or_else (first_in_arguments 0 s.arguments) (first_in_fixed s.fixed s.arguments) in
-    all_arguments 0 s.arguments (none_first (first_in_arguments 0 s.arguments) (first_in_fixed s.fixed s.arguments) (none_second first rest (none_but_number s h)))
+    let first = option_map (at_position at_result) (found_fault for_calls AsResult s.result_type) in
+    let rest = or_else (first_in_arguments for_calls 0 s.arguments) (first_in_fixed s.fixed s.arguments) in
+    all_arguments 0 s.arguments (none_first (first_in_arguments for_calls 0 s.arguments) (first_in_fixed s.fixed s.arguments) (none_second first rest (none_but_number s h)))
 
 -- each signature of a list of right ones
 pub signature_at-right : (ss : List Signature) (i : ℕ) → list_all signature_is_right ss ≡ true → i < length ss → signature_is_right (signature_at ss i) ≡ true

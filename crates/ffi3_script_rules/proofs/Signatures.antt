@@ -2,7 +2,7 @@
 use Rattle.std.proofs.Common.{◌≡◌, ◌⊎◌, inl, inr, ℕ, List, Option, Some, None, refl, sym, subst}
 use Rattle.std.specs.Prelude.{⊤}
 use Rattle.serde_json.specs.Data.{Data}
-use Rattle.ffi3_type_rules.specs.Signature.{Signature, SignatureFault, SignatureHasNoFault}
+use Rattle.ffi3_type_rules.specs.Signature.{Signature, SignatureFault, SignatureHasNoFault, for_calls}
 use Rattle.ffi3_type_rules.specs.FirstFault.{first_signature_fault}
 use Rattle.ffi3_type_rules.proofs.FirstSignatureFaults.{SignatureAnswers, signature_answers, one_first_signature_fault}
 use Rattle.ffi3_cdecl_rules.specs.Reading.{Outcome, reads, bad_token, unexpected, bad_number, bad_signature, IsReading, has_bad_token, has_unexpected, has_bad_number, is_read, has_bad_signature}
@@ -26,11 +26,11 @@ refused_by more (fault q w) p r h =
 
 -- ---- an object
 
-object_right : (path : JsonPath) (r s : Signature) (f : Option SignatureFault) → SignatureAnswers r f → unless_faulty path r f ≡ read s → SignatureHasNoFault r × (r ≡ s)
+object_right : (path : JsonPath) (r s : Signature) (f : Option SignatureFault) → SignatureAnswers for_calls r f → unless_faulty path r f ≡ read s → SignatureHasNoFault r × (r ≡ s)
 object_right path r s None right h = (right, same_read r s h)
 object_right path r s (Some f) first h = absurd (cc)
 
-own_fault : (path : JsonPath) (s : Signature) (p : JsonPath) (r : Reason) (f : Option SignatureFault) → SignatureAnswers s f → unless_faulty path s f ≡ fault p r → TellsFirstFault s path p r
+own_fault : (path : JsonPath) (s : Signature) (p : JsonPath) (r : Reason) (f : Option SignatureFault) → SignatureAnswers for_calls s f → unless_faulty path s f ≡ fault p r → TellsFirstFault s path p r
 own_fault path s p r None right h = absurd (cc)
 own_fault path s p r (Some f) first h =
     let same : (place_of_fault path s f ≡ p) × (reason_of_fault f ≡ r) = same_fault h in
@@ -67,7 +67,7 @@ module _ (version : ℕ) (d : Data) (path : JsonPath) where
   object_is_read : (s : Signature) → declaration_in version d ≡ None → object_signature version d path ≡ read s → IsSignature version d path s
   object_is_read s none h =
       let was = first_was_read (λ r. unless_faulty path r (first_signature_fault r)) (read_shapes version d path) s h in
-      let right = object_right path was.0 s (first_signature_fault was.0) (signature_answers was.0) was.2 in
+      let right = object_right path was.0 s (first_signature_fault was.0) (signature_answers for_calls was.0) was.2 in
       subst (IsSignature version d path) right.1 (from_object none was.1 right.0)
 
   declared_is_read : (s : Signature) (text : List ℕ) → declaration_in version d ≡ Some text → (o : Outcome) → IsReading text o → declared_signature path o ≡ read s → IsSignature version d path s
@@ -91,7 +91,7 @@ module _ (version : ℕ) (d : Data) (path : JsonPath) where
   object_is_refused p r none h =
       elim (refused_by (λ s. unless_faulty path s (first_signature_fault s)) (read_shapes version d path) p r h) [
         | inl shapes ↦ by_shapes none shapes
-        | inr was ↦ by_first_fault none was.1 (own_fault path was.0 p r (first_signature_fault was.0) (signature_answers was.0) was.2)
+        | inr was ↦ by_first_fault none was.1 (own_fault path was.0 p r (first_signature_fault was.0) (signature_answers for_calls was.0) was.2)
       ]
 
   declared_is_refused : (p : JsonPath) (r : Reason) (text : List ℕ) → declaration_in version d ≡ Some text → declared_signature path (declaration.read text) ≡ fault p r → IsNoSignature version d path p r

@@ -20,7 +20,7 @@ use Rattle.ffi3_type_rules.proofs.Widened.{length-bytes_of_number}
 use Rattle.ffi3_type_rules.specs.FirstFault.{Found, first_fault}
 use Rattle.ffi3_script_rules.specs.Language.{Read, read, fault, and_then, read_map, JsonPath, under, at_item, read_type, out_of_range, wrong_type, wrong_count}
 use Rattle.ffi3_script_rules.specs.Script.{Expression, constant, composed, argument, outcome, user_data, element, typed_as, cast, Expressions, no_expressions, expression, Typed}
-use Rattle.ffi3_script_rules.specs.Values.{Given, Scope, read_integer, in_range, read_number, integer_written, read_written, is_wide_type, is_floating_type, bytes_or_fault, read_floating, read_text, typed, against, typed_argument, argument_of, has_name, typed_result, result_number, result_of, user_of, typed_element, element_of, element_in, field_of, right_type, read_right_type, is_list_type, TypedForm, arg_form, res_form, user_form, field_form, of_form, Form, typed_form, add_form, sub_form, cast_form, no_form, form_named, is_integer_type, if_integer, cast_of, composed_of, Pair, sum_of, difference_of, typed_by, value_by, own_by, read_value, read_values, read_object, read_two, read_typed, read_typed_object, read_field, read_of}
+use Rattle.ffi3_script_rules.specs.Values.{Given, Scope, read_integer, in_range, read_number, integer_written, read_written, is_wide, is_wide_type, is_floating_type, bytes_or_fault, read_floating, read_text, typed, against, typed_argument, argument_of, has_name, typed_result, result_number, result_of, user_of, typed_element, element_of, element_in, field_of, right_type, read_right_type, is_list_type, TypedForm, arg_form, res_form, user_form, field_form, of_form, Form, typed_form, add_form, sub_form, cast_form, no_form, form_named, is_integer_type, if_integer, cast_of, composed_of, Pair, sum_of, difference_of, typed_by, value_by, own_by, read_value, read_values, read_object, read_two, read_typed, read_typed_object, read_field, read_of}
 use Rattle.ffi3_script_rules.specs.Typed.{Kinds, is_at, own_type, is_scalar_of, is_integer_of, is_number_of, trees_in, has_type, have_types, same_scalar, is_right, is_right_argument, is_laid_out, types_of, kinds_of, scope_is_right}
 use Rattle.ffi3_script_rules.proofs.Tests.{and_left, and_right, both, types_are_same, type_is_itself}
 use Rattle.ffi3_script_rules.proofs.RightTypes.{none-is_none, argument_is_laid_out, result_is_laid_out, element_is_laid_out}
@@ -65,8 +65,26 @@ floating_type (left_out k) h = cc
 floating_type (structure ts) h = cc
 floating_type (types.array ts n) h = cc
 
-wide_type : (t : Tree) → is_wide_type t ≡ true → t ≡ scalar (scalar_of t)
-wide_type (scalar s) h = refl
+-- an integer of 128 bits is a number
+wide_number : (s : Scalar) → is_wide s ≡ true → is_number s ≡ true
+wide_number types.u8 h = cc
+wide_number types.s8 h = cc
+wide_number types.u16 h = cc
+wide_number types.s16 h = cc
+wide_number types.u32 h = cc
+wide_number types.s32 h = cc
+wide_number types.u64 h = cc
+wide_number types.s64 h = cc
+wide_number types.u128 h = refl
+wide_number types.s128 h = refl
+wide_number types.float h = cc
+wide_number types.double h = cc
+wide_number types.pointer h = cc
+wide_number types.x87 h = cc
+wide_number types.binary128 h = cc
+
+wide_type : (t : Tree) → is_wide_type t ≡ true → (t ≡ scalar (scalar_of t)) × (is_number (scalar_of t) ≡ true)
+wide_type (scalar s) h = (refl, wide_number s h)
 wide_type void h = cc
 wide_type (left_out k) h = cc
 wide_type (structure ts) h = cc
@@ -104,23 +122,23 @@ module _ (kinds : Kinds) where
   constant_has t s bytes same n =
       subst (λ u. is_scalar_of (length bytes) u ≡ true) (sym same) (eq-eqb (length bytes) (scalar_size s) n)
 
-  integer_has : (t : Tree) (s : Scalar) (z : Option ℤ) (path : JsonPath) (e : Expression) → t ≡ scalar s → read_integer s z path ≡ read e → has_type kinds t e ≡ true
+  integer_has : (t : Tree) (s : Scalar) (z : Option ℤ) (path : JsonPath) (e : Expression) → (t ≡ scalar s) × (is_number s ≡ true) → read_integer s z path ≡ read e → has_type kinds t e ≡ true
   integer_has t s None path e same h = cc
   integer_has t s (Some z) path e same h =
       let is = same_read (constant (bytes_of_number s z)) e (test_held (in_range s z) (read (constant (bytes_of_number s z))) path out_of_range e h).1 in
-      subst (λ f. has_type kinds t f ≡ true) is (constant_has t s (bytes_of_number s z) same (length-bytes_of_number s z))
+      subst (λ f. has_type kinds t f ≡ true) is (constant_has t s (bytes_of_number s z) same.0 (length-bytes_of_number s z same.1))
 
   pub number_has : (t : Tree) (n : Num) (path : JsonPath) (e : Expression) → read_number t n path ≡ read e → has_type kinds t e ≡ true
   number_has t n path e h =
       let held = test_held (is_number_type t) (read_integer (scalar_of t) (as_integer n) path) path wrong_type e h in
-      integer_has t (scalar_of t) (as_integer n) path e (number_type t held.0).0 held.1
+      integer_has t (scalar_of t) (as_integer n) path e (number_type t held.0) held.1
 
   text_bytes_have : (t : Tree) (text : List ℕ) (path : JsonPath) (e : Expression) (r : Result (List ℕ) FromHexError) → t ≡ scalar (scalar_of t) → decode_sized text (scalar_size (scalar_of t)) ≡ r → bytes_or_fault path r ≡ read e → has_type kinds t e ≡ true
   text_bytes_have t text path e (Ok bytes) same is h =
       subst (λ f. has_type kinds t f ≡ true) (same_read (constant bytes) e h) (constant_has t (scalar_of t) bytes same (decoded text (scalar_size (scalar_of t)) bytes is))
   text_bytes_have t text path e (Err x) same is h = cc
 
-  written_has : (t : Tree) (z : Option ℤ) (path : JsonPath) (e : Expression) → t ≡ scalar (scalar_of t) → read_written (scalar_of t) z path ≡ read e → has_type kinds t e ≡ true
+  written_has : (t : Tree) (z : Option ℤ) (path : JsonPath) (e : Expression) → (t ≡ scalar (scalar_of t)) × (is_number (scalar_of t) ≡ true) → read_written (scalar_of t) z path ≡ read e → has_type kinds t e ≡ true
   written_has t None path e same h = cc
   written_has t (Some z) path e same h =
       integer_has t (scalar_of t) (Some z) path e same h

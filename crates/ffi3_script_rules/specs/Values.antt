@@ -113,6 +113,8 @@ is_wide types.s128 = true
 is_wide types.float = false
 is_wide types.double = false
 is_wide types.pointer = false
+is_wide types.x87 = false
+is_wide types.binary128 = false
 
 abbrev pub is_wide_type : Tree → Bool
 is_wide_type types.void = false

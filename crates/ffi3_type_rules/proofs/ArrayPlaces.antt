@@ -10,7 +10,7 @@ use Rattle.ffi3_type_rules.specs.declared.Role.{Role}
 use Rattle.ffi3_type_rules.specs.declared.Role.TheVariants.{AsElement}
 use Rattle.ffi3_type_rules.specs.Tree.{Tree, array, trees_of, tree_at, elements_of, first_of, list_of-trees_of, u8}
 use Rattle.ffi3_type_rules.specs.Layout.{Layout, Leaf, layouts, element, size_of, align_of, leaves_of, leaf_at, offset_of, repeated, moved}
-use Rattle.ffi3_type_rules.specs.Fault.{Fault, bad_typedef, too_large, too_deep, misshapen, is_misshapen, takes_array, HasNoFault, IsFault, IsFirstFault, IsLaidOut, out_of_place, left_out_kind, nested_deep, over_limit}
+use Rattle.ffi3_type_rules.specs.Fault.{Fault, bad_typedef, too_large, too_deep, misshapen, is_misshapen, takes, HasNoFault, IsFault, IsFirstFault, IsLaidOut, out_of_place, left_out_kind, nested_deep, over_limit}
 use Rattle.ffi3_type_rules.proofs.Layouts.{element-layouts}
 use Rattle.ffi3_type_rules.proofs.Leaves.{repeated-step}
 use Rattle.ffi3_type_rules.proofs.Faults.{part_is_right, right_anywhere, elements_right, first_bad, first_deep, first_in_part, right_by_parts, first_large}
@@ -161,7 +161,7 @@ module _ {outer : ℕ} {role : Role} (ts : List Tree) (n : ℕ) where
   array_too_deep deep = first_deep (array (trees_of ts) n) refl deep
 
   module _ (shallow : outer < DEEPEST_NESTING) where
-    pub array_out_of_place : takes_array role ≡ false → IsFirstFault outer role (array (trees_of ts) n) [] bad_typedef
+    pub array_out_of_place : takes role (array (trees_of ts) n) ≡ false → IsFirstFault outer role (array (trees_of ts) n) [] bad_typedef
     array_out_of_place bad = first_bad (array (trees_of ts) n) shallow (out_of_place refl bad)
 
     pub array_of_many : length ts ≢ 1 → IsFirstFault outer role (array (trees_of ts) n) [] bad_typedef
@@ -171,7 +171,7 @@ module _ {outer : ℕ} {role : Role} (ts : List Tree) (n : ℕ) where
     array_of_none none =
         subst (λ k. IsFirstFault outer role (array (trees_of ts) k) [] bad_typedef) (sym none) (first_bad (array (trees_of ts) 0) shallow (misshapen refl (none_counted ts)))
 
-    module _ (placed : takes_array role ≡ true) (one : length ts ≡ 1) (some : 0 < n) where
+    module _ (placed : takes role (array (trees_of ts) n) ≡ true) (one : length ts ≡ 1) (some : 0 < n) where
       pub array_first_inside : (i : ℕ) (path : List ℕ) (f : Fault) → i < length ts → ((j : ℕ) → j < i → HasNoFault (outer + 1) AsElement (tree_at ts j)) → IsFirstFault (outer + 1) AsElement (tree_at ts i) path f → IsFirstFault outer role (array (trees_of ts) n) (i ∷ path) f
       array_first_inside i path f below right first =
           let same = sym (list_of-trees_of ts) in

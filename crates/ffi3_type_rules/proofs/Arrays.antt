@@ -5,7 +5,7 @@ use Rattle.std.specs.Prelude.{slice_index_or}
 use Rattle.std.proofs.Math.Nat.{dvd-add}
 use Rattle.std.proofs.lemmas.Nat.Gcd.{dvd_refl, dvd-zero, mod-eq-zero_of_dvd}
 use Rattle.ffi3_type_rules.specs.Tree.{Tree, void, scalar, left_out, structure, array, Trees, no_trees, tree, trees_of, struct_of, array_of, first_of}
-use Rattle.ffi3_type_rules.specs.Layout.{Layout, Leaf, layout, layouts, nothing, element, end_before, start_of, align_before, leaves_before, moved, repeated, array_layout, struct_layout, least_multiple, scalar_size, size_of, align_of, leaves_of}
+use Rattle.ffi3_type_rules.specs.Layout.{Layout, Leaf, layout, layouts, nothing, element, end_before, start_of, align_before, leaves_before, moved, repeated, array_layout, struct_layout, least_multiple, scalar_room, size_of, align_of, leaves_of}
 use Rattle.ffi3_type_rules.specs.LayoutLaws.{ArrayIsStruct, ArrayIsItsElements}
 use Rattle.ffi3_type_rules.proofs.Layouts.{align_positive, align_before-positive}
 use Rattle.ffi3_type_rules.proofs.LeastMultiples.{least_multiple-same, least_multiple-divides, times_divides}
@@ -26,7 +26,7 @@ one_of_equal (suc n) (suc i) a d h = one_of_equal n i a d (omega arith)
 mutual
   pub size_whole : (t : Tree) → align_of t ∣ size_of t
   size_whole void = dvd-zero 1
-  size_whole (scalar s) = dvd_refl (scalar_size s)
+  size_whole (scalar s) = dvd_refl (scalar_room s)
   size_whole (left_out k) = dvd-zero 1
   size_whole (structure ts) =
       let es = layouts ts in

@@ -7,7 +7,7 @@ use Rattle.ffi3_type_rules.specs.declared.Role.{Role}
 use Rattle.ffi3_type_rules.specs.declared.Role.TheVariants.{AsResult, AsArgument, AsElement, Anywhere}
 use Rattle.ffi3_type_rules.specs.Tree.{Tree, void, scalar, left_out, structure, array, struct_of, trees_of, list_of, tree_at, parts_of, list_of-trees_of, Scalar, LeftOutKind}
 use Rattle.ffi3_type_rules.specs.Layout.{size_of}
-use Rattle.ffi3_type_rules.proofs.Layouts.{scalar_size-bounds}
+use Rattle.ffi3_type_rules.proofs.Layouts.{scalar_room-bounds}
 use Rattle.ffi3_type_rules.specs.Fault.{Fault, bad_typedef, left_out_type, too_large, too_deep, node_at, takes, takes_void, role_at, has_parts, is_misshapen, IsFault, out_of_place, left_out_kind, nested_deep, misshapen, over_limit, rank, IsBefore, HasNoFault, IsFirstFault, IsLaidOut}
 
 -- an element is at its number
@@ -240,7 +240,7 @@ module _ {outer : ℕ} {role : Role} where
 -- what no fault says of the size
 pub right_is_small : (outer : ℕ) (role : Role) (t : Tree) → HasNoFault outer role t → size_of t ≤ LARGEST_TYPE
 right_is_small outer role void h = omega arith
-right_is_small outer role (scalar s) h = omega (arith, scalar_size-bounds s)
+right_is_small outer role (scalar s) h = omega (arith, scalar_room-bounds s)
 right_is_small outer role (left_out k) h = omega arith
 right_is_small outer role (structure ts) h =
     elim (cases_lt LARGEST_TYPE (size_of (structure ts))) [
@@ -268,7 +268,7 @@ fault_with_less more less h outer t path f (nested_deep is parts deep) = nested_
 fault_with_less more less h outer t path f (misshapen is bad) = misshapen is bad
 fault_with_less more less h outer t path f (over_limit is parts large) = over_limit is parts large
 
-right_with_more : (more less : Role) → TakesMore more less → (outer : ℕ) (t : Tree) → HasNoFault outer less t → HasNoFault outer more t
+pub right_with_more : (more less : Role) → TakesMore more less → (outer : ℕ) (t : Tree) → HasNoFault outer less t → HasNoFault outer more t
 right_with_more more less h outer t right path f fault =
     right path f (fault_with_less more less h outer t path f fault)
 

@@ -9,6 +9,7 @@ use Rattle.ffi3_type_rules.specs.Fault.{bad_typedef, left_out_type, left_out_kin
 use Rattle.ffi3_type_rules.specs.Value.{ValueTree, value_in, values_in, first_value_in, repeated_values, part, fits, all_fit}
 use Rattle.ffi3_type_rules.proofs.Faults.{part_is_right}
 use Rattle.ffi3_type_rules.proofs.Parts.{length_part}
+use Rattle.ffi3_type_rules.proofs.Significant.{length-significant}
 use Rattle.ffi3_type_rules.proofs.Tests.{both}
 use Rattle.ffi3_type_rules.proofs.Values.{element_within}
 
@@ -50,7 +51,7 @@ mutual
   -- the value of as many bytes as the type has
   pub value_fits : (t : Tree) (bytes : List ℕ) → IsLaidOut t → length bytes ≡ size_of t → fits t (value_in t bytes) ≡ true
   value_fits void bytes right n = refl
-  value_fits (scalar s) bytes right n = same_count _ _ n
+  value_fits (scalar s) bytes right n = same_count _ _ (length-significant s bytes n)
   value_fits (left_out k) bytes right n = absurd (right [] (left_out_type (left_out k)) (left_out_kind refl))
   value_fits (structure ts) bytes right n =
       values_fit ts (layouts ts) 0 bytes (part_is_right Anywhere (structure ts) right) (room_within ts bytes n)

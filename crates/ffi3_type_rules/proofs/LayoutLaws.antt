@@ -5,10 +5,10 @@ use Rattle.std.specs.Prelude.{◌⊎◌, Some, None, slice_get, slice_index_or, 
 use Rattle.std.proofs.Math.Nat.{dvd-add}
 use Rattle.std.proofs.lemmas.Nat.Gcd.{dvd_refl, dvd-zero, dvd_trans, dvd_of_mod-eq-zero, mod-eq-zero_of_dvd}
 use Rattle.std.proofs.lemmas.Bool.{cases_lt}
-use Rattle.ffi3_type_rules.specs.Tree.{Tree, void, scalar, left_out, structure, Trees, no_trees, tree, tree_at, list_of, Scalar, u8, s8, u16, s16, u32, s32, u64, s64, u128, s128, float, double, pointer, array, first_of, elements_of}
-use Rattle.ffi3_type_rules.specs.Layout.{Layout, Leaf, layout, layouts, nothing, element, end_before, start_of, align_before, leaves_before, moved, least_multiple, struct_layout, scalar_size, scalar_layout, leaves_of, leaf_at, size_of, align_of, repeated, array_layout, offset_of}
+use Rattle.ffi3_type_rules.specs.Tree.{Tree, void, scalar, left_out, structure, Trees, no_trees, tree, tree_at, list_of, Scalar, u8, s8, u16, s16, u32, s32, u64, s64, u128, s128, float, double, pointer, x87, binary128, array, first_of, elements_of}
+use Rattle.ffi3_type_rules.specs.Layout.{Layout, Leaf, layout, layouts, nothing, element, end_before, start_of, align_before, leaves_before, moved, least_multiple, struct_layout, scalar_size, scalar_room, scalar_layout, leaves_of, leaf_at, size_of, align_of, repeated, array_layout, offset_of}
 use Rattle.ffi3_type_rules.specs.LayoutLaws.{leaf_end, offset_on, StandsOnPath, HasLeafAt, IsWellLaidOut, element_on}
-use Rattle.ffi3_type_rules.proofs.Layouts.{least_multiple-above}
+use Rattle.ffi3_type_rules.proofs.Layouts.{least_multiple-above, scalar_size-room}
 use Rattle.ffi3_type_rules.proofs.LeastMultiples.{least_multiple-divides, times_divides}
 use Rattle.ffi3_type_rules.proofs.Arrays.{length_of_equal, one_of_equal}
 use Rattle.ffi3_type_rules.proofs.StructLaws.{element_placed, greatest_alignment, least_size}
@@ -146,7 +146,7 @@ max_right a b (p, e) (q, f) =
     let whole : max a b ≡ bytes (greater p q) = (max_power a b (p, e) (q, f)).1 in
     dvd_of_mod-eq-zero b (ap (λ n. n % b) whole ∙ ap (λ n. bytes (greater p q) % n) f ∙ right_divides p q)
 
-scalar_power : (s : Scalar) → IsPower (scalar_size s)
+scalar_power : (s : Scalar) → IsPower (scalar_room s)
 scalar_power u8 = (p1, refl)
 scalar_power s8 = (p1, refl)
 scalar_power u16 = (p2, refl)
@@ -160,6 +160,8 @@ scalar_power s128 = (p16, refl)
 scalar_power float = (p4, refl)
 scalar_power double = (p8, refl)
 scalar_power pointer = (p8, refl)
+scalar_power x87 = (p16, refl)
+scalar_power binary128 = (p16, refl)
 
 -- leaves from one place up to another
 abbrev Rising : ℕ → List Leaf → ℕ → Type 0
@@ -170,7 +172,7 @@ Rising from (l ∷ ls) to = (from ≤ l.at) × Rising (leaf_end l) ls to
 abbrev AlignedIn : ℕ → List Leaf → Type 0
 AlignedIn align [] = Unit {0}
 AlignedIn align (l ∷ ls) =
-    (scalar_size l.kind ∣ l.at) × (scalar_size l.kind ∣ align) × AlignedIn align ls
+    (scalar_room l.kind ∣ l.at) × (scalar_room l.kind ∣ align) × AlignedIn align ls
 
 rising-further : (from : ℕ) (ls : List Leaf) (to further : ℕ) → to ≤ further → Rising from ls to → Rising from ls further
 rising-further from [] to further h r = omega arith
@@ -198,7 +200,7 @@ aligned-append align (x ∷ xs) ys a b = (a.0, a.1, aligned-append align xs ys a
 aligned-moved : (inner outer by : ℕ) (ls : List Leaf) → inner ∣ by → inner ∣ outer → AlignedIn inner ls → AlignedIn outer (map (moved by) ls)
 aligned-moved inner outer by [] d e a = tt
 aligned-moved inner outer by (l ∷ ls) d e a =
-    let k = scalar_size l.kind in
+    let k = scalar_room l.kind in
     (dvd-add k (dvd_trans k a.1 d) a.0, dvd_trans k a.1 e, aligned-moved inner outer by ls d e a.2)
 
 record IsWell (l : Layout) : Type 0 where
@@ -274,7 +276,7 @@ nothing_well = record { power = (p1, refl); whole = dvd-zero 1; rising = omega a
 
 scalar_well : (s : Scalar) → IsWell (scalar_layout s)
 scalar_well s =
-    record { power = scalar_power s; whole = dvd_refl (scalar_size s); rising = (omega arith, omega arith); aligned = (dvd-zero (scalar_size s), dvd_refl (scalar_size s), tt) }
+    record { power = scalar_power s; whole = dvd_refl (scalar_room s); rising = (omega arith, omega (arith, scalar_size-room s)); aligned = (dvd-zero (scalar_room s), dvd_refl (scalar_room s), tt) }
 
 mutual
   tree_well : (t : Tree) → IsWell (layout t)
@@ -307,7 +309,7 @@ rising-order from (l ∷ ls) to i zero d h k r = absurd (omega arith)
 rising-order from (l ∷ ls) to zero (suc j) d h k r = (rising-inside (leaf_end l) ls to j d (omega arith) r.1).0
 rising-order from (l ∷ ls) to (suc i) (suc j) d h k r = rising-order (leaf_end l) ls to i j d (omega arith) (omega arith) r.1
 
-aligned-at : (align : ℕ) (ls : List Leaf) (i : ℕ) (d : Leaf) → i < length ls → AlignedIn align ls → scalar_size (slice_index_or ls i d).kind ∣ (slice_index_or ls i d).at
+aligned-at : (align : ℕ) (ls : List Leaf) (i : ℕ) (d : Leaf) → i < length ls → AlignedIn align ls → scalar_room (slice_index_or ls i d).kind ∣ (slice_index_or ls i d).at
 aligned-at align [] i d h a = absurd (omega arith)
 aligned-at align (l ∷ ls) zero d h a = a.0
 aligned-at align (l ∷ ls) (suc i) d h a = aligned-at align ls i d (omega arith) a.2
@@ -470,7 +472,7 @@ well_laid_out t =
       least = λ h. least_size t h;
       inside = λ i h. (rising-inside 0 ls (size_of t) i d h well.rising).1;
       in_order = λ i j h k. rising-order 0 ls (size_of t) i j d h k well.rising;
-      aligned = λ i h. mod-eq-zero_of_dvd (scalar_size (leaf_at t i).kind) (aligned-at (align_of t) ls i d h well.aligned);
+      aligned = λ i h. mod-eq-zero_of_dvd (scalar_room (leaf_at t i).kind) (aligned-at (align_of t) ls i d h well.aligned);
       summed = λ i h. stands-at t ls i d h (tree_stands t);
       complete = λ path s h. leaf_there t path s h;
       whole = mod-eq-zero_of_dvd (align_of t) well.whole;

@@ -5,7 +5,7 @@ use Rattle.std.proofs.lemmas.Bool.{cases_lt}
 use Rattle.std.proofs.lemmas.List.{get_or_default}
 use Rattle.ffi3_type_rules.specs.declared.limits.TheConstants.{LARGEST_TYPE}
 use Rattle.ffi3_type_rules.specs.Tree.{Tree, void, scalar, left_out, structure, Trees, no_trees, tree, trees_of, list_of, struct_of, tree_at, Scalar, u8, nodes, all_nodes, array}
-use Rattle.ffi3_type_rules.specs.Layout.{Layout, layout, layouts, element, least_multiple, end_before, start_of, align_before, size_of, align_of, scalar_size}
+use Rattle.ffi3_type_rules.specs.Layout.{Layout, layout, layouts, element, least_multiple, end_before, start_of, align_before, size_of, align_of, scalar_size, scalar_room}
 
 pub layouts_is_map : (ts : Trees) → layouts ts ≡ map layout (list_of ts)
 layouts_is_map no_trees = refl
@@ -74,10 +74,19 @@ pub scalar_size-bounds : (s : Scalar) → (1 ≤ scalar_size s) × (scalar_size 
 scalar_size-bounds u8 = (omega arith, omega arith)
 scalar_size-bounds _ = (omega arith, omega arith)
 
+pub scalar_room-bounds : (s : Scalar) → (1 ≤ scalar_room s) × (scalar_room s ≤ 16)
+scalar_room-bounds u8 = (omega arith, omega arith)
+scalar_room-bounds _ = (omega arith, omega arith)
+
+-- a scalar's bytes lie in those that it takes
+pub scalar_size-room : (s : Scalar) → scalar_size s ≤ scalar_room s
+scalar_size-room u8 = omega arith
+scalar_size-room _ = omega arith
+
 mutual
   pub align_positive : (t : Tree) → 1 ≤ align_of t
   align_positive void = omega arith
-  align_positive (scalar s) = (scalar_size-bounds s).0
+  align_positive (scalar s) = (scalar_room-bounds s).0
   align_positive (left_out k) = omega arith
   align_positive (structure ts) = align_before-positive (layouts ts) (length (layouts ts))
   align_positive (array ts n) = first_positive ts
@@ -89,7 +98,7 @@ mutual
 mutual
   pub align_bounded : (t : Tree) → align_of t ≤ 16
   align_bounded void = omega arith
-  align_bounded (scalar s) = (scalar_size-bounds s).1
+  align_bounded (scalar s) = (scalar_room-bounds s).1
   align_bounded (left_out k) = omega arith
   align_bounded (structure ts) =
       align_before-bounded (layouts ts) (length (layouts ts)) (aligns_bounded ts)

@@ -5,7 +5,7 @@ use Rattle.std.proofs.lemmas.Bool.{cases_lt}
 use Rattle.std.proofs.lemmas.List.{get_or_append_left, get_or-append_right}
 use Rattle.ffi3_type_rules.specs.Tree.{Tree, void, scalar, left_out, structure, array, Trees, no_trees, tree, trees_of, struct_of, tree_at, u8}
 use Rattle.ffi3_type_rules.specs.Layout.{Layout, layouts, element, end_before, start_of, size_of, leaves_of, leaves_before, repeated, moved, Leaf, leaf_at, align_before}
-use Rattle.ffi3_type_rules.proofs.Layouts.{least_multiple-above, scalar_size-bounds, length-layouts, layout_here}
+use Rattle.ffi3_type_rules.proofs.Layouts.{least_multiple-above, scalar_room-bounds, length-layouts, layout_here}
 
 length-moved : (by : ℕ) (xs : List Leaf) → length (map (moved by) xs) ≡ length xs
 length-moved by [] = refl
@@ -34,7 +34,7 @@ repeated_within l h (suc n) =
 mutual
   pub leaves_le-size : (t : Tree) → length (leaves_of t) ≤ size_of t
   leaves_le-size void = omega arith
-  leaves_le-size (scalar s) = (scalar_size-bounds s).0
+  leaves_le-size (scalar s) = (scalar_room-bounds s).0
   leaves_le-size (left_out k) = omega arith
   leaves_le-size (structure ts) =
       let es = layouts ts in

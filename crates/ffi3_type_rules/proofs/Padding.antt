@@ -3,13 +3,14 @@ use Rattle.std.proofs.Common.{◌≡◌, ℕ, zero, suc, ◌+◌, ◌-◌, ◌*�
 use Rattle.std.specs.Prelude.{slice_index, slice_index_or}
 use Rattle.std.proofs.lemmas.Bool.{cases_lt}
 use Rattle.std.proofs.lemmas.Nat.{mul-le}
-use Rattle.std.proofs.lemmas.List.{length-map}
+use Rattle.std.proofs.lemmas.List.{length-map, get_or-take}
 use Rattle.std.proofs.lemmas.List.Elements.{All-nil, All-cons, All-append, All-map, All-weaker}
-use Rattle.ffi3_type_rules.specs.Tree.{Tree, void, scalar, left_out, structure, array, Trees, no_trees, tree, list_of}
-use Rattle.ffi3_type_rules.specs.Layout.{Layout, Leaf, layout, layouts, element, size_of, start_of, end_before, leaves_of, leaves_before, repeated, moved, scalar_size, align_before}
-use Rattle.ffi3_type_rules.specs.Value.{ValueTree, ValueTrees, leaf_value, struct_value, value, value_in, values_in, first_value_in, repeated_values, part, DifferInPaddingAlone}
-use Rattle.ffi3_type_rules.proofs.Layouts.{layouts_is_map, end_before-le, least_multiple-above}
+use Rattle.ffi3_type_rules.specs.Tree.{Scalar, Tree, void, scalar, left_out, structure, array, Trees, no_trees, tree, list_of}
+use Rattle.ffi3_type_rules.specs.Layout.{Layout, Leaf, layout, layouts, element, size_of, start_of, end_before, leaves_of, leaves_before, repeated, moved, scalar_size, scalar_room, align_before}
+use Rattle.ffi3_type_rules.specs.Value.{ValueTree, ValueTrees, leaf_value, struct_value, value, value_in, values_in, first_value_in, repeated_values, part, DifferInPaddingAlone, significant}
+use Rattle.ffi3_type_rules.proofs.Layouts.{layouts_is_map, end_before-le, least_multiple-above, scalar_size-room}
 use Rattle.ffi3_type_rules.proofs.Parts.{index_part, length_part}
+use Rattle.ffi3_type_rules.proofs.Significant.{significant_first}
 
 -- the leaf ends within n bytes
 abbrev EndsWithin : ℕ → Leaf → Type 0
@@ -37,7 +38,7 @@ mutual
   pub leaves_end_within : (t : Tree) → All (EndsWithin (size_of t)) (leaves_of t)
   leaves_end_within void = All-nil (EndsWithin 0)
   leaves_end_within (scalar s) =
-      All-cons (EndsWithin (scalar_size s)) (record { at = 0; kind = s }) [] (omega arith) (All-nil (EndsWithin (scalar_size s)))
+      All-cons (EndsWithin (scalar_room s)) (record { at = 0; kind = s }) [] (omega (arith, scalar_size-room s)) (All-nil (EndsWithin (scalar_room s)))
   leaves_end_within (left_out k) = All-nil (EndsWithin 0)
   leaves_end_within (structure ts) =
       let es = layouts ts in
@@ -68,9 +69,10 @@ same_in_whole a b start size leaf ends same i from to =
     let here = same (i - start) (omega arith) (omega arith) in
     ap (slice_index a) (sym back) ∙ sym (index_part a start size (i - start) (omega arith)) ∙ here ∙ index_part b start size (i - start) (omega arith) ∙ ap (slice_index b) back
 
--- equal bytes are the same everywhere
-same_everywhere : (a b : List ℕ) (leaves : List Leaf) → a ≡ b → All (SameAt a b) leaves
-same_everywhere a b leaves e k d below i from to = ap (λ xs. slice_index xs i) e
+-- what has the same value of a scalar has the same bytes at its leaf
+same_in_scalar : (s : Scalar) (a b : List ℕ) → length a ≡ scalar_room s → length b ≡ scalar_room s → significant s a ≡ significant s b → All (SameAt a b) (leaves_of (scalar s))
+same_in_scalar s a b n m e =
+    All-cons (SameAt a b) (record { at = 0; kind = s }) [] (λ i from to. sym (get_or-take (scalar_size s) a i 0 (omega arith)) ∙ ap (λ xs. slice_index xs i) (sym (significant_first s a n) ∙ e ∙ significant_first s b m) ∙ get_or-take (scalar_size s) b i 0 (omega arith)) (All-nil (SameAt a b))
 
 leaf_bytes : (a b : List ℕ) → leaf_value a ≡ leaf_value b → a ≡ b
 leaf_bytes a b e = cc
@@ -122,7 +124,7 @@ mutual
   pub same_in_leaves : (t : Tree) (a b : List ℕ) → length a ≡ size_of t → length b ≡ size_of t → value_in t a ≡ value_in t b → All (SameAt a b) (leaves_of t)
   same_in_leaves void a b n m e = All-nil (SameAt a b)
   same_in_leaves (scalar s) a b n m e =
-      same_everywhere a b (leaves_of (scalar s)) (leaf_bytes a b e)
+      same_in_scalar s a b n m (leaf_bytes (significant s a) (significant s b) e)
   same_in_leaves (left_out k) a b n m e = All-nil (SameAt a b)
   same_in_leaves (structure ts) a b n m e =
       let es = layouts ts in

@@ -7,7 +7,7 @@ use Rattle.ffi3_type_rules.specs.declared.Role.TheVariants.{AsResult, AsArgument
 use Rattle.ffi3_type_rules.specs.Tree.{Tree, void, scalar, left_out, structure, array, Trees, no_trees, tree, list_of, tree_at, parts_of}
 use Rattle.ffi3_type_rules.specs.Layout.{size_of}
 use Rattle.ffi3_type_rules.specs.Fault.{Fault, HasNoFault, IsFirstFault, IsResultType, IsArgumentType, IsLaidOut, takes, takes_void, has_parts, is_misshapen, out_of_place, misshapen}
-use Rattle.ffi3_type_rules.specs.Signature.{Signature, SignatureHasNoFault, too_many, bad_type, at_result, at_argument, over_most, in_result, in_argument}
+use Rattle.ffi3_type_rules.specs.Signature.{Signature, SignatureHasNoFault, too_many, bad_type, at_result, at_argument, over_most, in_result, in_argument, of_type}
 use Rattle.ffi3_type_rules.proofs.Faults.{scalar_faults, void_faults, first_deep, first_bad, first_void, first_left_out, first_in_part, right_by_parts, first_large, right_anywhere}
 
 -- some fault is the first
@@ -78,7 +78,7 @@ mutual
   elements_right_or_first outer (tree t ts) = in_front outer t (list_of ts) (right_or_first outer AsElement t) (elements_right_or_first outer ts)
 
 -- a type that has no first fault has none
-right_without_first : (role : Role) (t : Tree) → ((path : List ℕ) (f : Fault) → ¬ IsFirstFault 0 role t path f) → HasNoFault 0 role t
+pub right_without_first : (role : Role) (t : Tree) → ((path : List ℕ) (f : Fault) → ¬ IsFirstFault 0 role t path f) → HasNoFault 0 role t
 right_without_first role t none =
     elim (right_or_first 0 role t) [ inl right ↦ right | inr first ↦ absurd (none first.0 first.1 first.2) ]
 
@@ -92,11 +92,11 @@ module _ (s : Signature) (right : SignatureHasNoFault s) where
 
   pub result_is_right : IsResultType s.result_type
   result_is_right =
-      right_without_first AsResult s.result_type (λ path f first. right (bad_type at_result path f) (in_result first))
+      right_without_first AsResult s.result_type (λ path f first. right (bad_type at_result path f) (in_result (of_type first)))
 
   pub argument_is_right : (i : ℕ) → i < length s.arguments → IsArgumentType (tree_at s.arguments i)
   argument_is_right i below =
-      right_without_first AsArgument (tree_at s.arguments i) (λ path f first. right (bad_type (at_argument i) path f) (in_argument below first))
+      right_without_first AsArgument (tree_at s.arguments i) (λ path f first. right (bad_type (at_argument i) path f) (in_argument below (of_type first)))
 
   -- so each has a layout, and at most as many bytes as the largest struct
   pub argument_is_laid_out : (i : ℕ) → i < length s.arguments → IsLaidOut (tree_at s.arguments i)

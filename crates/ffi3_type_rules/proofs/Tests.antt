@@ -2,7 +2,7 @@
 use Rattle.std.proofs.Common.{◌≡◌, ℕ, Bool, true, false, List, [], ◌∷◌, refl, ap, ◌∙◌, sym}
 use Rattle.std.specs.Prelude.{◌&&◌, ◌==◌, if◌then◌else◌, slice_index_or}
 use Rattle.std.proofs.lemmas.Bool.{eqb-true, eq-eqb}
-use Rattle.ffi3_type_rules.specs.Tree.{Scalar, u8, s8, u16, s16, u32, s32, u64, s64, u128, s128, float, double, pointer, scalar_number, LeftOutKind, long_double, complex, vector, Tree, void, scalar, left_out, structure, array, Trees, no_trees, tree}
+use Rattle.ffi3_type_rules.specs.Tree.{Scalar, u8, s8, u16, s16, u32, s32, u64, s64, u128, s128, float, double, pointer, x87, binary128, scalar_number, LeftOutKind, long_double, complex, vector, Tree, void, scalar, left_out, structure, array, Trees, no_trees, tree}
 use Rattle.ffi3_type_rules.specs.Same.{same_tree, same_trees, same_list}
 
 -- ---- conjunctions
@@ -33,7 +33,8 @@ if_false false x y h = refl
 
 abbrev scalar_numbered : ℕ → Scalar
 scalar_numbered n =
-    slice_index_or (u8 ∷ s8 ∷ u16 ∷ s16 ∷ u32 ∷ s32 ∷ u64 ∷ s64 ∷ u128 ∷ s128 ∷ float ∷ double ∷ pointer ∷ []) n u8
+    slice_index_or (u8 ∷ s8 ∷ u16 ∷ s16 ∷ u32 ∷ s32 ∷ u64 ∷ s64 ∷ u128 ∷ s128 ∷ float ∷ double ∷ pointer ∷ u8 ∷ u8 ∷ u8 ∷ x87
+    ∷ binary128 ∷ []) n u8
 
 numbered_back : (s : Scalar) → scalar_numbered (scalar_number s) ≡ s
 numbered_back u8 = refl
@@ -49,6 +50,8 @@ numbered_back s128 = refl
 numbered_back float = refl
 numbered_back double = refl
 numbered_back pointer = refl
+numbered_back x87 = refl
+numbered_back binary128 = refl
 
 -- two scalars of one number are one
 pub scalars_of_number : (r s : Scalar) → (scalar_number r == scalar_number s) ≡ true → r ≡ s

@@ -1,6 +1,6 @@
 -- The bytes of an integer that is extended by its sign are the bytes that it was read from.
 use Rattle.std.specs.Prelude.{◌/◌, ◌%◌, ◌^◌, ℤ, negsuc}
-use Rattle.std.proofs.Common.{◌≡◌, ℕ, zero, suc, ◌<◌, ◌≤◌, ◌-◌, inl, inr, List, [], ◌∷◌, length, get_or, take, refl, ap, sym, ◌∙◌, arith}
+use Rattle.std.proofs.Common.{◌≡◌, ℕ, zero, suc, ◌<◌, ◌≤◌, ◌-◌, inl, inr, List, [], ◌∷◌, length, get_or, take, refl, ap, sym, ◌∙◌, arith, true}
 use Rattle.std.proofs.lemmas.Int.{to_z_pos}
 use Rattle.std.proofs.lemmas.Bool.{cases_lt}
 use Rattle.std.proofs.lemmas.Nat.{le_bytes_2, le_bytes_4, le_bytes_8}
@@ -10,9 +10,9 @@ use Rattle.std.specs.List.{All}
 use Rattle.std.proofs.lemmas.List.Elements.{All-from_get_or}
 use mir.Val.{hbits, bits}
 use Rattle.std.proofs.lemmas.Bool.Decides.{nat_tests}
-use Rattle.ffi3_type_rules.specs.Tree.{Scalar, u8, s8, u16, s16, u32, s32, u64, s64, u128, s128, float, double, pointer}
+use Rattle.ffi3_type_rules.specs.Tree.{Scalar, u8, s8, u16, s16, u32, s32, u64, s64, u128, s128, float, double, pointer, x87, binary128}
 use Rattle.ffi3_type_rules.specs.Layout.{scalar_size}
-use Rattle.ffi3_type_rules.specs.Integer.{width_of, bit_count, modulo, bytes_of_number, widened, widened_from_32}
+use Rattle.ffi3_type_rules.specs.Integer.{width_of, bit_count, modulo, bytes_of_number, widened, widened_from_32, is_number}
 
 -- the lower bytes of two numbers that are congruent
 pub low_bytes_8 : (m n : ℕ) → m % 2 ^ 8 ≡ n → take 1 (to_le_bytes w64 m) ≡ to_le_bytes w8 n
@@ -163,6 +163,8 @@ module _ (bs : List ℕ) (small : (k : ℕ) → get_or bs k 0 < 256) where
   extended float h = whole_32
   extended double h = whole_64
   extended pointer h = whole_64
+  extended x87 h = absurd (omega arith)
+  extended binary128 h = absurd (omega arith)
 
   unsigned_8_from_32 : (widened_from_32 u8 bs % 2 ^ 8 ≡ from_le_bytes w8 bs) × (widened_from_32 u8 bs < 2 ^ 64)
   unsigned_8_from_32 =
@@ -191,6 +193,8 @@ module _ (bs : List ℕ) (small : (k : ℕ) → get_or bs k 0 < 256) where
   extended_from_32 float h = unsigned_from_32 (from_le_bytes w32 bs) (from_bytes_below_32 bs small)
   extended_from_32 double h = absurd (omega arith)
   extended_from_32 pointer h = absurd (omega arith)
+  extended_from_32 x87 h = absurd (omega arith)
+  extended_from_32 binary128 h = absurd (omega arith)
 
   -- the lower bytes of what is congruent to the number
   pub low_bytes : (s : Scalar) (m : ℕ) → scalar_size s ≤ 8 → (m % 2 ^ bit_count (width_of s) ≡ from_le_bytes (width_of s) bs) × (m < 2 ^ 64) → length bs ≡ scalar_size s → take (scalar_size s) (to_le_bytes w64 m) ≡ bs
@@ -207,6 +211,8 @@ module _ (bs : List ℕ) (small : (k : ℕ) → get_or bs k 0 < 256) where
   low_bytes float m h e l = low_bytes_of_32 m e.0 l
   low_bytes double m h e l = low_bytes_of_64 m e.1 e.0 l
   low_bytes pointer m h e l = low_bytes_of_64 m e.1 e.0 l
+  low_bytes x87 m h e l = absurd (omega arith)
+  low_bytes binary128 m h e l = absurd (omega arith)
 
   pub widened-below : (s : Scalar) → scalar_size s ≤ 8 → widened s bs < 2 ^ 64
   widened-below s few = (extended s few).1
@@ -255,17 +261,19 @@ pub All-bytes_of_number : (s : Scalar) (z : ℤ) → All (λ b. b < 256) (bytes_
 All-bytes_of_number s z =
     All-to_le_bytes (width_of s) (modulo (bit_count (width_of s)) z)
 
-pub length-bytes_of_number : (s : Scalar) (z : ℤ) → length (bytes_of_number s z) ≡ scalar_size s
-length-bytes_of_number u8 z = refl
-length-bytes_of_number s8 z = refl
-length-bytes_of_number u16 z = refl
-length-bytes_of_number s16 z = refl
-length-bytes_of_number u32 z = refl
-length-bytes_of_number s32 z = refl
-length-bytes_of_number u64 z = refl
-length-bytes_of_number s64 z = refl
-length-bytes_of_number u128 z = refl
-length-bytes_of_number s128 z = refl
-length-bytes_of_number float z = refl
-length-bytes_of_number double z = refl
-length-bytes_of_number pointer z = refl
+pub length-bytes_of_number : (s : Scalar) (z : ℤ) → is_number s ≡ true → length (bytes_of_number s z) ≡ scalar_size s
+length-bytes_of_number u8 z h = refl
+length-bytes_of_number s8 z h = refl
+length-bytes_of_number u16 z h = refl
+length-bytes_of_number s16 z h = refl
+length-bytes_of_number u32 z h = refl
+length-bytes_of_number s32 z h = refl
+length-bytes_of_number u64 z h = refl
+length-bytes_of_number s64 z h = refl
+length-bytes_of_number u128 z h = refl
+length-bytes_of_number s128 z h = refl
+length-bytes_of_number float z h = cc
+length-bytes_of_number double z h = cc
+length-bytes_of_number pointer z h = refl
+length-bytes_of_number x87 z h = cc
+length-bytes_of_number binary128 z h = cc

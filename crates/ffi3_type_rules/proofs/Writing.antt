@@ -1,16 +1,18 @@
 -- The bytes of a struct's values, written one after another.
 use Rattle.std.proofs.Common.{◌≡◌, ℕ, suc, ◌+◌, ◌-◌, ◌<◌, ◌≤◌, inl, inr, List, ◌++◌, length, take, drop, refl, ap, sym, ◌∙◌, subst, arith, true, length-append, length-take, length-drop}
 use Rattle.std.specs.Prelude.{slice_index, slice_index_or}
-use Rattle.std.proofs.lemmas.Bool.{cases_lt}
-use Rattle.std.proofs.lemmas.List.{get_or_default, ext_get_or}
-use Rattle.ffi3_type_rules.specs.Tree.{Tree, void, scalar, left_out, structure, array, no_trees, tree, tree_at, trees_of, struct_of, u8}
-use Rattle.ffi3_type_rules.specs.Layout.{Leaf, layouts, element, size_of, start_of, end_before, leaves_of, leaves_before, leaf_at, moved, scalar_size}
-use Rattle.ffi3_type_rules.specs.Value.{ValueTree, leaf_value, struct_value, fits, values_of, value_in, part, IsPadding, IsWritten}
-use Rattle.ffi3_type_rules.proofs.Layouts.{length-layouts, end_before-le, element-layouts, least_multiple-above}
+use Rattle.std.proofs.lemmas.Bool.{cases_lt, eqb-true}
+use Rattle.std.proofs.Math.Seq.{take-append_seam}
+use Rattle.std.proofs.lemmas.List.{get_or_default, ext_get_or, get_or-append_right, get_or-drop}
+use Rattle.ffi3_type_rules.specs.Tree.{Scalar, Tree, void, scalar, left_out, structure, array, no_trees, tree, tree_at, trees_of, struct_of, u8}
+use Rattle.ffi3_type_rules.specs.Layout.{Leaf, layouts, element, size_of, start_of, end_before, leaves_of, leaves_before, leaf_at, moved, scalar_size, scalar_room}
+use Rattle.ffi3_type_rules.specs.Value.{ValueTree, leaf_value, struct_value, fits, values_of, value_in, part, IsPadding, IsWritten, is_leaf_of}
+use Rattle.ffi3_type_rules.proofs.Layouts.{length-layouts, end_before-le, element-layouts, least_multiple-above, scalar_size-room}
 use Rattle.ffi3_type_rules.proofs.Leaves.{leaf_of_struct, leaves_before-step, leaves_before-le}
 use Rattle.ffi3_type_rules.proofs.Values.{value_at, element_value, element_within, struct_by_elements}
 use Rattle.ffi3_type_rules.proofs.ElementPlaces.{Lies}
 use Rattle.ffi3_type_rules.proofs.Parts.{index_part, length_part, same_part, below_part, inside_part, above_part}
+use Rattle.ffi3_type_rules.proofs.Significant.{significant_first}
 
 -- padding of a struct within an element is padding of the element
 pub padding_inside : (ts : List Tree) (i j : ℕ) → i < length ts → IsPadding (struct_of ts) (start_of (layouts (trees_of ts)) i + j) → IsPadding (tree_at ts i) j
@@ -102,14 +104,30 @@ turn_written ts vs old now mid i start size k t v below sized kept here same n i
     let part_own = subst (λ j. IsWritten (tree_at ts i) (value_at vs i) (take j (drop start now)) mid) same value_own in
     one_more_written ts vs old now new mid i start size below sized kept count here.start_is here.size_is (ap (λ j. take start now ++ (mid ++ drop j (drop start now))) same) (n ∙ same) before part_own
 
--- a scalar has no padding
-pub leaf_written : (t : Tree) (bytes old new : List ℕ) → fits t (leaf_value bytes) ≡ true → length old ≡ size_of t → new ≡ bytes → IsWritten t (leaf_value bytes) old new
+-- a scalar's padding stands behind its bytes
+scalar_written : (s : Scalar) (bytes old new : List ℕ) → length bytes ≡ scalar_size s → length old ≡ scalar_room s → new ≡ bytes ++ drop (length bytes) old → IsWritten (scalar s) (leaf_value bytes) old new
+scalar_written s bytes old new count n e =
+    record {
+      reads_back = ap leaf_value (significant_first s new whole ∙ ap (take (scalar_size s)) e ∙ ap (λ k. take k (bytes ++ drop (length bytes) old)) (sym count) ∙ take-append_seam bytes (drop (length bytes) old));
+      padding_stays = λ i below pad. let from : 0 + scalar_size s ≤ i = pad 0 (record { at = 0; kind = s }) (omega arith) (omega arith) in
+          let behind : scalar_size s ≤ i = omega arith in
+          let back : length bytes + (i - length bytes) ≡ i = omega (arith, count, behind) in
+          ap (λ xs. slice_index xs i) e ∙ get_or-append_right bytes (drop (length bytes) old) (length bytes) i 0 refl (omega (arith, count, behind)) ∙ get_or-drop (length bytes) old (i - length bytes) 0 ∙ ap (slice_index old) back;
+    }
+  where
+    whole : length new ≡ scalar_room s
+    whole =
+        ap length e
+        ∙ length-append bytes (drop (length bytes) old)
+        ∙ omega (arith, length-drop (length bytes) old, count, n, scalar_size-room s)
+
+same_length : (n : ℕ) (bytes : List ℕ) → is_leaf_of n (leaf_value bytes) ≡ true → length bytes ≡ n
+same_length n bytes h = eqb-true (length bytes) n h
+
+pub leaf_written : (t : Tree) (bytes old new : List ℕ) → fits t (leaf_value bytes) ≡ true → length old ≡ size_of t → new ≡ bytes ++ drop (length bytes) old → IsWritten t (leaf_value bytes) old new
 leaf_written void bytes old new fit n e = cc
 leaf_written (scalar s) bytes old new fit n e =
-    record {
-      reads_back = ap leaf_value e;
-      padding_stays = λ i below pad. absurd (omega (arith, pad 0 (record { at = 0; kind = s }) (omega arith) (omega arith)));
-    }
+    scalar_written s bytes old new (same_length (scalar_size s) bytes fit) n e
 leaf_written (left_out k) bytes old new fit n e = cc
 leaf_written (structure ts) bytes old new fit n e = cc
 leaf_written (array no_trees k) bytes old new fit n e = cc

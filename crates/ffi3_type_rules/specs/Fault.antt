@@ -1,11 +1,11 @@
 -- What is wrong with a type, and which fault is the first. (libffi manual, "Structures": FFI_BAD_TYPEDEF; "Arrays, Unions, and Enumerations": an array is a part of a struct or of an array, and no argument or result; the limits, the left-out kinds, and what an array has to be made of are this library's)
 use Rattle.std.specs.Prelude.{◌≡◌, ℕ, zero, suc, ◌+◌, ◌<◌, ◌⊎◌, Bool, true, false, List, [], ◌∷◌, length, Option, Some}
-use Rattle.std.specs.Prelude.{slice_get, option_and_then}
+use Rattle.std.specs.Prelude.{slice_get, option_and_then, ◌||◌, ◌&&◌}
 use Rattle.ffi3_type_rules.specs.declared.limits.TheConstants.{LARGEST_TYPE, DEEPEST_NESTING}
 use Rattle.ffi3_type_rules.specs.declared.Role.{Role}
-use Rattle.ffi3_type_rules.specs.declared.Role.TheVariants.{AsResult, AsArgument, AsElement, Anywhere}
+use Rattle.ffi3_type_rules.specs.declared.Role.TheVariants.{AsResult, AsArgument, AsElement, Anywhere, PlacedResult, PlacedArgument}
 use Rattle.ffi3_type_rules.specs.Tree.{Tree, void, scalar, left_out, structure, array, LeftOutKind, no_trees, tree}
-use Rattle.ffi3_type_rules.specs.Tree.{parts_of}
+use Rattle.ffi3_type_rules.specs.Tree.{parts_of, is_complex}
 use Rattle.ffi3_type_rules.specs.Layout.{size_of}
 
 pub data Fault : Type 0 where
@@ -29,6 +29,8 @@ takes_void AsResult = true
 takes_void AsArgument = false
 takes_void AsElement = false
 takes_void Anywhere = true
+takes_void PlacedResult = true
+takes_void PlacedArgument = false
 
 -- an array is an element, and no argument or result
 abbrev pub takes_array : Role → Bool
@@ -36,6 +38,17 @@ takes_array AsResult = false
 takes_array AsArgument = false
 takes_array AsElement = true
 takes_array Anywhere = true
+takes_array PlacedResult = false
+takes_array PlacedArgument = false
+
+-- a complex long double of x87's format, which is written as an array, is no part of a call on the machine
+abbrev pub takes_complex : Role → Bool
+takes_complex AsResult = false
+takes_complex AsArgument = false
+takes_complex AsElement = true
+takes_complex Anywhere = true
+takes_complex PlacedResult = true
+takes_complex PlacedArgument = true
 
 -- such a type may stand there, whatever is inside it
 abbrev pub takes : Role → Tree → Bool
@@ -43,7 +56,7 @@ takes role void = takes_void role
 takes role (scalar s) = true
 takes role (left_out k) = true
 takes role (structure ts) = true
-takes role (array ts n) = takes_array role
+takes role (array ts n) = takes_array role || (takes_complex role && is_complex ts n)
 
 -- the role of the node at a path
 abbrev pub role_at : Role → List ℕ → Role

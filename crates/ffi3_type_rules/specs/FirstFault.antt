@@ -3,13 +3,14 @@ use Rattle.std.specs.Prelude.{ℕ, ◌+◌, ◌==◌, ◌&&◌, ◌||◌, not, L
 use Rattle.std.specs.Prelude.{option_map, if◌then◌else◌, nat_lt}
 use Rattle.ffi3_type_rules.specs.declared.limits.TheConstants.{DEEPEST_NESTING, LARGEST_TYPE, MOST_ARGUMENTS}
 use Rattle.ffi3_type_rules.specs.declared.Role.{Role}
-use Rattle.ffi3_type_rules.specs.declared.Role.TheVariants.{AsResult, AsArgument, AsElement}
-use Rattle.ffi3_type_rules.specs.Tree.{Tree, void, scalar, left_out, structure, array, Trees, no_trees, tree}
-use Rattle.ffi3_type_rules.specs.Layout.{size_of}
+use Rattle.ffi3_type_rules.specs.declared.Role.TheVariants.{AsElement}
+use Rattle.ffi3_type_rules.specs.Tree.{Tree, void, scalar, left_out, structure, array, Trees, no_trees, tree, long_double}
+use Rattle.ffi3_type_rules.specs.Layout.{size_of, has_long_double}
 use Rattle.ffi3_type_rules.specs.Fault.{Fault, bad_typedef, left_out_type, too_large, too_deep, takes, takes_void}
 use Rattle.ffi3_type_rules.specs.Fault.{is_misshapen}
 use Rattle.ffi3_type_rules.specs.Signature.{Signature, SignatureFault, too_many, bad_type, bad_fixed, bad_argument_type}
-use Rattle.ffi3_type_rules.specs.Signature.{Position, at_result, at_argument, is_promoted}
+use Rattle.ffi3_type_rules.specs.Signature.{Position, at_result, at_argument, is_promoted, Purpose, for_calls, is_for_calls}
+use Rattle.ffi3_type_rules.specs.Signature.{result_role, argument_role}
 
 -- a fault, and the element numbers that lead to its node
 abbrev pub Found : Type 0
@@ -60,11 +61,18 @@ abbrev mutual
 abbrev pub at_position : Position → Found → SignatureFault
 at_position position f = bad_type position f.0 f.1
 
+-- of a type that stands in a signature
+abbrev pub found_fault : Purpose → Role → Tree → Option Found
+found_fault purpose role t =
+    or_else (first_fault 0 role t)
+    (if is_for_calls purpose && has_long_double t then Some ([], left_out_type (left_out long_double)) else None)
+
 -- of the arguments from number i on
-abbrev pub first_in_arguments : ℕ → List Tree → Option SignatureFault
-first_in_arguments i [] = None
-first_in_arguments i (t ∷ ts) =
-    or_else (option_map (at_position (at_argument i)) (first_fault 0 AsArgument t)) (first_in_arguments (i + 1) ts)
+abbrev pub first_in_arguments : Purpose → ℕ → List Tree → Option SignatureFault
+first_in_arguments purpose i [] = None
+first_in_arguments purpose i (t ∷ ts) =
+    or_else (option_map (at_position (at_argument i)) (found_fault purpose (argument_role purpose) t))
+    (first_in_arguments purpose (i + 1) ts)
 
 -- of the variadic arguments, the first of them number i
 abbrev pub first_promoted : ℕ → List Tree → Option SignatureFault
@@ -79,10 +87,13 @@ first_in_fixed (Some n) arguments =
     then Some (bad_fixed n (length arguments))
     else first_promoted n (drop n arguments)
 
-abbrev pub first_signature_fault : Signature → Option SignatureFault
-first_signature_fault s =
+abbrev pub first_fault_for : Purpose → Signature → Option SignatureFault
+first_fault_for purpose s =
     if nat_lt MOST_ARGUMENTS (length s.arguments)
     then Some (too_many (length s.arguments))
     else or_else
-    (option_map (at_position at_result) (first_fault 0 AsResult s.result_type))
-    (or_else (first_in_arguments 0 s.arguments) (first_in_fixed s.fixed s.arguments))
+    (option_map (at_position at_result) (found_fault purpose (result_role purpose) s.result_type))
+    (or_else (first_in_arguments purpose 0 s.arguments) (first_in_fixed s.fixed s.arguments))
+
+abbrev pub first_signature_fault : Signature → Option SignatureFault
+first_signature_fault s = first_fault_for for_calls s

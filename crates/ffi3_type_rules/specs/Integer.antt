@@ -2,6 +2,7 @@
 use Rattle.std.specs.Prelude.{ℕ, suc, ◌-◌, ◌%◌, ◌^◌, Bool, true, false, if◌then◌else◌, ℤ, pos, negsuc, ◌+ℤ◌, List}
 use Rattle.std.specs.Int.{Width, w8, w16, w32, w64, w128, to_le_bytes, from_le_bytes, cast_signed, cast_unsigned}
 use Rattle.ffi3_type_rules.specs.Tree.{Scalar, u8, s8, u16, s16, u32, s32, u64, s64, u128, s128, float, double, pointer}
+use Rattle.ffi3_type_rules.specs.Tree.{x87, binary128}
 use Rattle.ffi3_type_rules.specs.Tree.{Tree, void, scalar, left_out, structure, array}
 
 -- the ten integer types
@@ -19,6 +20,8 @@ is_integer s128 = true
 is_integer float = false
 is_integer double = false
 is_integer pointer = false
+is_integer x87 = false
+is_integer binary128 = false
 
 abbrev pub is_integer_type : Tree → Bool
 is_integer_type void = false
@@ -42,6 +45,8 @@ is_number s128 = true
 is_number float = false
 is_number double = false
 is_number pointer = true
+is_number x87 = false
+is_number binary128 = false
 
 abbrev pub is_number_type : Tree → Bool
 is_number_type void = false
@@ -72,6 +77,8 @@ is_signed s128 = true
 is_signed float = false
 is_signed double = false
 is_signed pointer = false
+is_signed x87 = false
+is_signed binary128 = false
 
 abbrev pub width_of : Scalar → Width
 width_of u8 = w8
@@ -87,6 +94,8 @@ width_of s128 = w128
 width_of float = w32
 width_of double = w64
 width_of pointer = w64
+width_of x87 = w128
+width_of binary128 = w128
 
 abbrev pub bit_count : Width → ℕ
 bit_count w8 = 8
@@ -138,6 +147,8 @@ is_floating s128 = false
 is_floating float = true
 is_floating double = true
 is_floating pointer = false
+is_floating x87 = false
+is_floating binary128 = false
 
 abbrev pub is_floating_type : Tree → Bool
 is_floating_type void = false

@@ -1,8 +1,9 @@
 -- Size, alignment and leaves of a type. (libffi manual, "Size and Alignment"; arrays: C, "Types")
 use Rattle.std.specs.Prelude.{◌≡◌, ℕ, zero, suc, ◌+◌, ◌*◌, ◌≤◌, ◌%◌, max, List, [], ◌∷◌, ◌++◌, map, length}
-use Rattle.std.specs.Prelude.{slice_index_or}
+use Rattle.std.specs.Prelude.{slice_index_or, Bool, true, false, ◌||◌}
 use Rattle.std.specs.Int.{next_multiple_of}
 use Rattle.ffi3_type_rules.specs.Tree.{Scalar, u8, s8, u16, s16, u32, s32, u64, s64, u128, s128, float, double, pointer}
+use Rattle.ffi3_type_rules.specs.Tree.{x87, binary128}
 use Rattle.ffi3_type_rules.specs.Tree.{Tree, void, scalar, left_out, structure, Trees, no_trees, tree, array}
 
 -- m is the least multiple of a that is not below n
@@ -25,6 +26,7 @@ pub record Layout : Type 0 where
   pub align : ℕ
   pub leaves : List Leaf
 
+-- the bytes of a scalar's value
 abbrev pub scalar_size : Scalar → ℕ
 scalar_size u8 = 1
 scalar_size s8 = 1
@@ -39,6 +41,26 @@ scalar_size s128 = 16
 scalar_size float = 4
 scalar_size double = 8
 scalar_size pointer = 8
+scalar_size x87 = 10
+scalar_size binary128 = 16
+
+-- The bytes that a scalar takes, which are its alignment too: the six above the ten of x87's format are padding. (psABI AMD64 3.1.2: "Although a long double requires 16 bytes of storage, only the first 10 bytes are significant")
+abbrev pub scalar_room : Scalar → ℕ
+scalar_room u8 = 1
+scalar_room s8 = 1
+scalar_room u16 = 2
+scalar_room s16 = 2
+scalar_room u32 = 4
+scalar_room s32 = 4
+scalar_room u64 = 8
+scalar_room s64 = 8
+scalar_room u128 = 16
+scalar_room s128 = 16
+scalar_room float = 4
+scalar_room double = 8
+scalar_room pointer = 8
+scalar_room x87 = 16
+scalar_room binary128 = 16
 
 -- no bytes
 abbrev pub nothing : Layout
@@ -46,7 +68,7 @@ nothing = record { size = 0; align = 1; leaves = [] }
 
 abbrev pub scalar_layout : Scalar → Layout
 scalar_layout s =
-    record { size = scalar_size s; align = scalar_size s; leaves = record { at = 0; kind = s } ∷ [] }
+    record { size = scalar_room s; align = scalar_room s; leaves = record { at = 0; kind = s } ∷ [] }
 
 -- element i
 abbrev pub element : List Layout → ℕ → Layout
@@ -122,6 +144,38 @@ offset_of (scalar s) i = 0
 offset_of (left_out k) i = 0
 offset_of (structure ts) i = start_of (layouts ts) i
 offset_of (array ts n) i = i * (element (layouts ts) 0).size
+
+-- the two formats of long double that take 16 bytes
+abbrev pub is_long_double : Scalar → Bool
+is_long_double u8 = false
+is_long_double s8 = false
+is_long_double u16 = false
+is_long_double s16 = false
+is_long_double u32 = false
+is_long_double s32 = false
+is_long_double u64 = false
+is_long_double s64 = false
+is_long_double u128 = false
+is_long_double s128 = false
+is_long_double float = false
+is_long_double double = false
+is_long_double pointer = false
+is_long_double x87 = true
+is_long_double binary128 = true
+
+-- the type is one, or has one in it
+abbrev mutual
+  pub has_long_double : Tree → Bool
+  has_long_double void = false
+  has_long_double (scalar s) = is_long_double s
+  has_long_double (left_out k) = false
+  has_long_double (structure ts) = have_long_double ts
+  has_long_double (array ts n) = have_long_double ts
+
+  -- one of the types is one, or has one in it
+  pub have_long_double : Trees → Bool
+  have_long_double no_trees = false
+  have_long_double (tree t ts) = has_long_double t || have_long_double ts
 
 -- leaf i of a type
 abbrev pub leaf_at : Tree → ℕ → Leaf

@@ -2,7 +2,7 @@
 use Rattle.std.specs.Prelude.{◌≡◌, ℕ, zero, suc, ◌+◌, ◌%◌, ◌<◌, ◌≤◌, List, [], ◌∷◌, ◌++◌, length, replicate, Option}
 use Rattle.std.specs.Prelude.{Some, slice_get, option_and_then}
 use Rattle.ffi3_type_rules.specs.Tree.{Tree, scalar, Scalar, tree_at, elements_of, struct_of, array_of}
-use Rattle.ffi3_type_rules.specs.Layout.{Leaf, IsLeastMultiple, scalar_size, layout, size_of, align_of, leaves_of}
+use Rattle.ffi3_type_rules.specs.Layout.{Leaf, IsLeastMultiple, scalar_size, scalar_room, layout, size_of, align_of, leaves_of}
 use Rattle.ffi3_type_rules.specs.Layout.{leaf_at, offset_of}
 
 -- where a leaf ends
@@ -57,8 +57,8 @@ pub record IsWellLaidOut (t : Tree) : Type 0 where
   pub inside : (i : ℕ) → i < length (leaves_of t) → leaf_end (leaf_at t i) ≤ size_of t
   -- they rise from the left and do not overlap
   pub in_order : (i j : ℕ) → i < j → j < length (leaves_of t) → leaf_end (leaf_at t i) ≤ (leaf_at t j).at
-  -- each is aligned to its size
-  pub aligned : (i : ℕ) → i < length (leaves_of t) → (leaf_at t i).at % scalar_size (leaf_at t i).kind ≡ 0
+  -- each is aligned to the bytes that it takes
+  pub aligned : (i : ℕ) → i < length (leaves_of t) → (leaf_at t i).at % scalar_room (leaf_at t i).kind ≡ 0
   -- its offset is the sum of those on its path
   pub summed : (i : ℕ) → i < length (leaves_of t) → StandsOnPath t (leaf_at t i)
   -- each scalar of the type is a leaf, where its path says

@@ -3,6 +3,7 @@ use Rattle.std.specs.Prelude.{ℕ, List, [], ◌∷◌, ◌++◌, take, drop, sl
 use Rattle.std.specs.Fmt.{decimal}
 use Rattle.std.specs.List.{join_with_byte}
 use Rattle.ffi3_type_rules.specs.Tree.{Scalar, u8, s8, u16, s16, u32, s32, u64, s64, u128, s128, float, double, pointer}
+use Rattle.ffi3_type_rules.specs.Tree.{x87, binary128}
 use Rattle.ffi3_type_rules.specs.Tree.{Tree, void, scalar, left_out, structure, Trees, no_trees, tree, trees_of, array}
 use Rattle.ffi3_type_rules.specs.Signature.{Signature}
 
@@ -20,6 +21,8 @@ scalar_name s128 = codes "sint128"
 scalar_name float = codes "float"
 scalar_name double = codes "double"
 scalar_name pointer = codes "pointer"
+scalar_name x87 = codes "x87"
+scalar_name binary128 = codes "binary128"
 
 -- a name, or a struct's elements between commas, or an array's element and its count; what is left out has no text
 abbrev mutual

@@ -6,6 +6,8 @@ use Rattle.std.specs.Coded.{Coded, code_by, coded_list}
 use denote.Struct.Codes.{itself}
 use base.Stored.{Gv, gnil, gnum, gcons}
 use Rattle.ffi3_type_rules.specs.Tree.{Tree, void, scalar, left_out, structure, array, Trees, no_trees, tree, trees_of}
+use Rattle.ffi3_type_rules.specs.Tree.{Scalar, u8, s8, u16, s16, u32, s32, u64, s64, u128, s128, float, double, pointer}
+use Rattle.ffi3_type_rules.specs.Tree.{x87, binary128}
 use Rattle.ffi3_type_rules.specs.Layout.{Layout, layouts, element, scalar_size, size_of, start_of, leaves_of}
 
 mutual
@@ -59,11 +61,29 @@ repeated_values read size i zero bytes = no_values
 repeated_values read size i (suc n) bytes =
     value (read (part bytes (i * size) size)) (repeated_values read size (i + 1) n bytes)
 
+-- the bytes of a scalar's value among those that it takes: of x87's format the first ten
+abbrev pub significant : Scalar → List ℕ → List ℕ
+significant u8 bytes = bytes
+significant s8 bytes = bytes
+significant u16 bytes = bytes
+significant s16 bytes = bytes
+significant u32 bytes = bytes
+significant s32 bytes = bytes
+significant u64 bytes = bytes
+significant s64 bytes = bytes
+significant u128 bytes = bytes
+significant s128 bytes = bytes
+significant float bytes = bytes
+significant double bytes = bytes
+significant pointer bytes = bytes
+significant x87 bytes = take 10 bytes
+significant binary128 bytes = bytes
+
 -- the value that the bytes of a type have: that of a struct or an array is the list of its elements' values, and padding has no part in it
 abbrev mutual
   pub value_in : Tree → List ℕ → ValueTree
   value_in void bytes = void_value
-  value_in (scalar s) bytes = leaf_value bytes
+  value_in (scalar s) bytes = leaf_value (significant s bytes)
   value_in (left_out k) bytes = void_value
   value_in (structure ts) bytes = struct_value (values_in ts (layouts ts) 0 bytes)
   value_in (array ts n) bytes =

@@ -4,6 +4,7 @@ use Rattle.std.specs.Fmt.{digit_glyph, digits, signed_decimal}
 use Rattle.std.specs.Int.{w64, from_le_bytes}
 use Rattle.std.specs.List.{join_with_byte}
 use Rattle.ffi3_type_rules.specs.Tree.{Scalar, u8, s8, u16, s16, u32, s32, u64, s64, u128, s128, float, double, pointer}
+use Rattle.ffi3_type_rules.specs.Tree.{x87, binary128}
 use Rattle.ffi3_type_rules.specs.Tree.{Tree, void, scalar, left_out, structure, Trees, no_trees, tree, array}
 use Rattle.ffi3_type_rules.specs.Integer.{number_of}
 use Rattle.ffi3_type_rules.specs.Value.{ValueTree, ValueTrees, no_values, value, bytes_of, elements_of}
@@ -28,6 +29,8 @@ scalar_text u128 bytes = signed_decimal (number_of u128 bytes)
 scalar_text s128 bytes = signed_decimal (number_of s128 bytes)
 scalar_text float bytes = hexadecimal bytes
 scalar_text double bytes = hexadecimal bytes
+scalar_text x87 bytes = hexadecimal bytes
+scalar_text binary128 bytes = hexadecimal bytes
 scalar_text pointer bytes = codes "0x" ++ digits 16 false (from_le_bytes w64 bytes)
 
 -- the texts of an array's n elements, each by the same function

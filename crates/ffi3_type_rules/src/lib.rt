@@ -4,7 +4,7 @@
 ghost use Rattle.std.specs.Prelude.{◌≡◌, ◌+◌, ◌<◌, ◌^◌};
 ghost use Rattle.ffi3_type_rules.specs.Layout.{IsLeastMultiple, least_multiple};
 ghost use Rattle.ffi3_type_rules.specs.Isa.{isa_of};
-ghost use Rattle.ffi3_type_rules.specs.Fault.{takes_void, takes_array};
+ghost use Rattle.ffi3_type_rules.specs.Fault.{takes_void, takes_array, takes_complex};
 
 pub mod limits;
 
@@ -20,13 +20,16 @@ pub fn round_up(n: u64, align: u64) -> u64
 }
 
 /// What a type is used as: a result, an argument, or an element of a struct or an array; or any of these, where its
-/// layout, its values or its text alone are asked for.
+/// layout, its values or its text alone are asked for. A result or an argument is one of a call on the machine, or of one
+/// that is placed alone.
 #[derive(Clone, Copy, Debug, PartialEq, Eq)]
 pub enum Role {
     AsResult,
     AsArgument,
     AsElement,
     Anywhere,
+    PlacedResult,
+    PlacedArgument,
 }
 
 impl Role {
@@ -35,8 +38,8 @@ impl Role {
         ensures { result ≡ takes_void self }
     {
         match self {
-            Role::AsResult | Role::Anywhere => true,
-            Role::AsArgument | Role::AsElement => false,
+            Role::AsResult | Role::Anywhere | Role::PlacedResult => true,
+            Role::AsArgument | Role::AsElement | Role::PlacedArgument => false,
         }
     }
 
@@ -47,6 +50,18 @@ impl Role {
         match self {
             Role::AsElement | Role::Anywhere => true,
             Role::AsResult | Role::AsArgument => false,
+            Role::PlacedResult | Role::PlacedArgument => false,
+        }
+    }
+
+    /// Whether a complex long double of 32 bytes may stand there by itself.
+    pub fn takes_complex(self) -> bool
+        ensures { result ≡ takes_complex self }
+    {
+        match self {
+            Role::AsResult | Role::AsArgument => false,
+            Role::AsElement | Role::Anywhere => true,
+            Role::PlacedResult | Role::PlacedArgument => true,
         }
     }
 }

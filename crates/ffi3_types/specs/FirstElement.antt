@@ -4,6 +4,7 @@ use Rattle.ffi3_type_rules.specs.declared.Role.{Role}
 use Rattle.ffi3_type_rules.specs.declared.Role.TheVariants.{AsResult, AsArgument, AsElement}
 use Rattle.ffi3_type_rules.specs.Tree.{Tree, tree_at}
 use Rattle.ffi3_type_rules.specs.Fault.{Fault, HasNoFault, IsFirstFault}
+use Rattle.ffi3_type_rules.specs.Signature.{Purpose, for_calls, for_places, result_role, argument_role}
 
 -- none of the first n types has a fault
 abbrev pub NoElementHasFault : ℕ → List Tree → ℕ → Type 0
@@ -22,3 +23,12 @@ pub record IsFirstInElements (outer : ℕ) (ts : List Tree) (path : List ℕ) (f
 abbrev pub role_of : Bool → Role
 role_of true = AsResult
 role_of false = AsArgument
+
+-- for calls on the machine, or for places alone
+abbrev pub purpose_of : Bool → Purpose
+purpose_of true = for_calls
+purpose_of false = for_places
+
+abbrev pub role_for : Bool → Bool → Role
+role_for calls true = result_role (purpose_of calls)
+role_for calls false = argument_role (purpose_of calls)

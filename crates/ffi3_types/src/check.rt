@@ -1,13 +1,14 @@
 // The first fault of a type.
-ghost use Rattle.std.specs.Prelude.{◌≡◌, ◌+◌, ◌<◌, ◌≤◌, length, OnOk, IfOk, IfErr};
+ghost use Rattle.std.specs.Prelude.{◌≡◌, ◌+◌, ◌<◌, ◌≤◌, length, true, false, OnOk, IfOk, IfErr};
 ghost use Rattle.ffi3_type_rules.specs.declared.limits.TheConstants.{DEEPEST_NESTING};
 ghost use Rattle.ffi3_type_rules.specs.Tree.{struct_of, array, trees_of};
-ghost use Rattle.ffi3_type_rules.specs.Layout.{size_of, align_of};
-ghost use Rattle.ffi3_type_rules.specs.Fault.{HasNoFault, IsFirstFault};
+ghost use Rattle.ffi3_type_rules.specs.Layout.{size_of, align_of, has_long_double};
+ghost use Rattle.ffi3_type_rules.specs.Fault.{HasNoFault, IsFirstFault, takes};
+ghost use Rattle.ffi3_type_rules.specs.Signature.{IsFoundFault};
 ghost use Rattle.ffi3_types.specs.ScalarSize.{scalar_size_of};
 ghost use Rattle.ffi3_types.specs.TreeOf.{tree_of};
 ghost use Rattle.ffi3_types.specs.FaultOf.{path_of, fault_of};
-ghost use Rattle.ffi3_types.specs.FirstElement.{NoElementHasFault, IsFirstInElements, role_of};
+ghost use Rattle.ffi3_types.specs.FirstElement.{NoElementHasFault, IsFirstInElements, role_of, role_for, purpose_of};
 
 use crate::layout::Extent;
 use crate::{FfiType, Fields, Path, TypeFault};
@@ -25,6 +26,42 @@ pub fn check_type(ty: &FfiType, as_result: bool) -> Result<(), TypeFault>
     match check_node(ty, 0, role(as_result)) {
         Ok(_) => Ok(()),
         Err(fault) => Err(fault),
+    }
+}
+
+/// The first fault of the type of a result or an argument, for calls on the machine or for places alone: its own or, for
+/// `calls`, that it has a long double of 16 bytes.
+pub(crate) fn check_in(ty: &FfiType, as_result: bool, calls: bool) -> Result<(), TypeFault>
+    ensures right { OnOk result (HasNoFault 0 (role_for calls as_result) (tree_of ty.now)) }
+    ensures plain { OnOk result (calls ≡ true → has_long_double (tree_of ty.now) ≡ false) }
+    ensures err { IfErr result
+        (λ e. IsFoundFault (purpose_of calls) (role_for calls as_result) (tree_of ty.now) (path_of e) (fault_of e)) }
+{
+    if let Err(fault) = check_node(ty, 0, role_in(as_result, calls)) {
+        return Err(fault);
+    }
+    if !calls {
+        return Ok(());
+    }
+    if ty.has_long_double() {
+        return Err(TypeFault::LeftOut {
+            path: Path::new(),
+            kind: FfiType::LongDouble,
+        });
+    }
+    Ok(())
+}
+
+fn role_in(as_result: bool, calls: bool) -> Role
+    ensures { result ≡ role_for calls as_result }
+{
+    if calls {
+        return role(as_result);
+    }
+    if as_result {
+        Role::PlacedResult
+    } else {
+        Role::PlacedArgument
     }
 }
 
@@ -102,7 +139,9 @@ fn check_other(ty: &FfiType, outer: u32, role: Role) -> Result<Extent, TypeFault
         | FfiType::S128
         | FfiType::Float
         | FfiType::Double
-        | FfiType::Pointer => unreachable!(),
+        | FfiType::Pointer
+        | FfiType::X87
+        | FfiType::Binary128 => unreachable!(),
     }
 }
 
@@ -150,7 +189,7 @@ fn check_array(fields: &Fields, count: u32, outer: u32, role: Role) -> Result<Ex
     if outer as u64 >= DEEPEST_NESTING {
         return Err(TypeFault::TooDeep { path: Path::new() });
     }
-    if !role.takes_array() {
+    if !fields.may_stand(count, role) {
         return Err(TypeFault::BadTypedef { path: Path::new() });
     }
     if fields.len() != 1 {
@@ -210,4 +249,19 @@ fn check_elements(fields: &Fields, outer: u32) -> Result<Extent, TypeFault>
         size: round_up(end, align),
         align,
     })
+}
+
+impl Fields {
+    /// Whether the array of `count` elements of the first type may stand there.
+    fn may_stand(&self, count: u32, role: Role) -> bool
+        ensures { result ≡ takes role (array (trees_of self.now) count) }
+    {
+        if role.takes_array() {
+            return true;
+        }
+        if !role.takes_complex() {
+            return false;
+        }
+        self.is_complex(count)
+    }
 }

@@ -5,12 +5,13 @@ ghost use Rattle.ffi3_type_rules.specs.Tree.{tree_at, scalar};
 ghost use Rattle.ffi3_type_rules.specs.Layout.{size_of, align_of, leaves_of, leaf_at};
 ghost use Rattle.ffi3_type_rules.specs.Fault.{HasNoFault, IsFirstFault, IsLaidOut};
 ghost use Rattle.ffi3_type_rules.specs.Signature.{SignatureHasNoFault, IsFirstSignatureFault};
+ghost use Rattle.ffi3_type_rules.specs.Signature.{SignatureIsPlaced, for_places, IsFirstFaultFor};
 ghost use Rattle.ffi3_types.specs.TreeOf.{tree_of};
 ghost use Rattle.ffi3_types.specs.FaultOf.{path_of, fault_of};
 ghost use Rattle.ffi3_types.specs.FirstElement.{role_of};
 ghost use Rattle.ffi3_types.specs.SignatureFaultOf.{signature_fault_of};
 
-use crate::{FfiType, Leaf, Sig, SigFault, TypeFault, check_sig, check_type};
+use crate::{FfiType, Leaf, Sig, SigFault, TypeFault, check_placed, check_sig, check_type};
 use std::marker::Model;
 
 /// A type that has a layout: one without fault as an argument's or a result's, or as an element's. Contracts see its tree.
@@ -144,6 +145,91 @@ impl<'a> CheckedSig<'a> {
     pub fn as_sig(&self) -> &'a Sig
         ensures value { result.now ≡ self.now }
         ensures right { SignatureHasNoFault result.now }
+    {
+        self.sig
+    }
+
+    /// The same signature: what can be called can be placed.
+    pub fn placed(&self) -> PlacedSig<'a>
+        ensures { result ≡ self.now }
+    {
+        PlacedSig::of(self.sig)
+    }
+
+    /// The result's type.
+    pub fn ret(&self) -> CheckedType<'a>
+        ensures { result ≡ self.now.result_type }
+    {
+        CheckedType::of(self.sig.ret())
+    }
+
+    /// How many arguments there are.
+    pub fn count(&self) -> u32
+        ensures value { result ≡ length self.now.arguments }
+        ensures few { result ≤ MOST_ARGUMENTS }
+    {
+        self.sig.count()
+    }
+
+    /// The type of argument `i`.
+    pub fn arg(&self, i: u32) -> CheckedType<'a>
+        requires { i < length self.now.arguments }
+        ensures { result ≡ tree_at self.now.arguments i }
+    {
+        CheckedType::of(self.sig.arg(i))
+    }
+
+    /// How many arguments are fixed, or None where the function is not variadic.
+    pub fn fixed(&self) -> Option<u32>
+        ensures { result ≡ self.now.fixed }
+    {
+        self.sig.fixed()
+    }
+}
+
+/// A signature that can be placed: it has no fault but that long doubles of 16 bytes are in it. Contracts see the signature.
+#[derive(Drop)]
+pub struct PlacedSig<'a> {
+    sig: &'a Sig,
+}
+
+impl<'a> Model for PlacedSig<'a> {
+    ghost use Rattle.ffi3_type_rules.specs.Signature.{Signature, signature_code, SignatureIsPlaced};
+
+    ghost Value = { Signature };
+
+    ghost coded = { signature_code };
+
+    ghost view = { λ p. p.sig.now };
+
+    ghost invariant = { λ p. SignatureIsPlaced p.sig.now };
+}
+
+impl<'a> PlacedSig<'a> {
+    /// The signature, if it can be placed; otherwise its first fault.
+    pub fn check(sig: &'a Sig) -> Result<PlacedSig<'a>, SigFault>
+        ensures ok { IfOk result (λ p. p ≡ sig.now) }
+        ensures right { OnOk result (SignatureIsPlaced sig.now) }
+        ensures err { IfErr result (λ e. IsFirstFaultFor for_places sig.now (signature_fault_of e)) }
+    {
+        if let Err(fault) = check_placed(sig) {
+            return Err(fault);
+        }
+        Ok(PlacedSig { sig })
+    }
+
+    /// A signature of which that is known.
+    pub fn of(sig: &'a Sig) -> PlacedSig<'a>
+        requires { SignatureIsPlaced sig.now }
+        ensures { result ≡ sig.now }
+    {
+        PlacedSig { sig }
+    }
+
+    /// The signature itself.
+    pub fn as_sig(&self) -> &'a Sig
+        ensures value { result.now ≡ self.now }
+        ensures right { SignatureIsPlaced result.now }
     {
         self.sig
     }

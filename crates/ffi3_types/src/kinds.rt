@@ -17,6 +17,7 @@ impl FfiType {
             FfiType::Float | FfiType::Double | FfiType::Pointer => false,
             FfiType::Void | FfiType::Struct(_) | FfiType::Array(_, _) => false,
             FfiType::LongDouble | FfiType::Complex | FfiType::Vector => false,
+            FfiType::X87 | FfiType::Binary128 => false,
         }
     }
 
@@ -34,6 +35,7 @@ impl FfiType {
             | FfiType::Struct(_)
             | FfiType::Array(_, _) => false,
             FfiType::LongDouble | FfiType::Complex | FfiType::Vector => false,
+            FfiType::X87 | FfiType::Binary128 => false,
         }
     }
 
@@ -48,6 +50,7 @@ impl FfiType {
             FfiType::U128 | FfiType::S128 | FfiType::Pointer => false,
             FfiType::Void | FfiType::Struct(_) | FfiType::Array(_, _) => false,
             FfiType::LongDouble | FfiType::Complex | FfiType::Vector => false,
+            FfiType::X87 | FfiType::Binary128 => false,
         }
     }
 }

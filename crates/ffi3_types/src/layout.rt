@@ -3,7 +3,7 @@ ghost use Rattle.std.specs.Prelude.{◌≡◌, ◌+◌, ◌<◌, ◌≤◌, All,
 ghost use Rattle.ffi3_type_rules.specs.Tree.{struct_of, array, tree_at, trees_of, elements_of};
 ghost use Rattle.ffi3_type_rules.specs.Layout.{size_of, align_of, offset_of, layouts, end_before, align_before};
 ghost use Rattle.ffi3_type_rules.specs.Fault.{IsLaidOut};
-ghost use Rattle.ffi3_types.specs.ScalarSize.{scalar_size_of};
+ghost use Rattle.ffi3_types.specs.ScalarSize.{scalar_size_of, value_size_of};
 ghost use Rattle.ffi3_types.specs.TreeOf.{tree_of};
 
 use crate::{FfiType, Fields};
@@ -47,7 +47,17 @@ impl FfiType {
         }
     }
 
-    /// The size of a scalar, which is its alignment too; 0 of any other type.
+    /// The bytes of a scalar's value: of x87's format ten, of any other as many as it takes; 0 of any other type.
+    pub fn value_size(&self) -> u64
+        ensures { result ≡ value_size_of (tree_of self.now) }
+    {
+        match self {
+            FfiType::X87 => 10,
+            _ => self.scalar_size(),
+        }
+    }
+
+    /// The bytes that a scalar takes, which are its alignment too; 0 of any other type.
     pub(crate) fn scalar_size(&self) -> u64
         ensures { result ≡ scalar_size_of (tree_of self.now) }
     {
@@ -56,7 +66,7 @@ impl FfiType {
             FfiType::U16 | FfiType::S16 => 2,
             FfiType::U32 | FfiType::S32 | FfiType::Float => 4,
             FfiType::U64 | FfiType::S64 | FfiType::Double | FfiType::Pointer => 8,
-            FfiType::U128 | FfiType::S128 => 16,
+            FfiType::U128 | FfiType::S128 | FfiType::X87 | FfiType::Binary128 => 16,
             FfiType::Void | FfiType::Struct(_) | FfiType::Array(_, _) => 0,
             FfiType::LongDouble | FfiType::Complex | FfiType::Vector => 0,
         }
@@ -79,7 +89,7 @@ impl FfiType {
             FfiType::U64 | FfiType::S64 | FfiType::Double | FfiType::Pointer => {
                 Extent { size: 8, align: 8 }
             }
-            FfiType::U128 | FfiType::S128 => Extent {
+            FfiType::U128 | FfiType::S128 | FfiType::X87 | FfiType::Binary128 => Extent {
                 size: 16,
                 align: 16,
             },

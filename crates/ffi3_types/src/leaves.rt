@@ -131,6 +131,8 @@ impl FfiType {
             FfiType::Float => FfiType::Float,
             FfiType::Double => FfiType::Double,
             FfiType::Pointer => FfiType::Pointer,
+            FfiType::X87 => FfiType::X87,
+            FfiType::Binary128 => FfiType::Binary128,
             FfiType::Struct(fields) => {
                 return fields.push_leaves(from, leaves);
             }
@@ -165,7 +167,9 @@ impl FfiType {
             | FfiType::S128
             | FfiType::Float
             | FfiType::Double
-            | FfiType::Pointer => 1,
+            | FfiType::Pointer
+            | FfiType::X87
+            | FfiType::Binary128 => 1,
         }
     }
 
@@ -194,6 +198,8 @@ impl FfiType {
             FfiType::Float => FfiType::Float,
             FfiType::Double => FfiType::Double,
             FfiType::Pointer => FfiType::Pointer,
+            FfiType::X87 => FfiType::X87,
+            FfiType::Binary128 => FfiType::Binary128,
             FfiType::Struct(fields) => {
                 return fields.find_leaf(i);
             }

@@ -15,6 +15,7 @@ mod kinds;
 mod laws;
 mod layout;
 mod leaves;
+mod long_doubles;
 mod members;
 mod names;
 mod path;
@@ -25,7 +26,7 @@ mod text;
 
 pub use bytes::Bytes;
 pub use check::check_type;
-pub use checked::{CheckedSig, CheckedType};
+pub use checked::{CheckedSig, CheckedType, PlacedSig};
 pub use fault::TypeFault;
 pub use ffi3_type_rules::Target;
 pub use laws::layout_laws;
@@ -34,7 +35,7 @@ pub use leaves::{Leaf, Leaves};
 pub use members::Members;
 pub use path::Path;
 pub use same::{same_fields, same_type};
-pub use sig::{At, Sig, SigFault, check_sig, same_sig};
+pub use sig::{At, Sig, SigFault, check_placed, check_sig, same_sig};
 pub use sigs::Sigs;
 /// A want of memory: the one answer that no clause ties to a cause.
 pub use std::alloc::AllocError as NoMemory;
@@ -73,6 +74,10 @@ pub enum FfiType {
     LongDouble,
     Complex,
     Vector,
+    /// A long double of x87's extended format, in 16 bytes. It can be placed; no call on the modelled machine has one.
+    X87,
+    /// A long double of 128 bits (IEEE 754's binary128): the same.
+    Binary128,
 }
 
 /// The elements of a struct, an array's element type, or the arguments of a signature.

@@ -2,10 +2,13 @@
 ghost use Rattle.std.specs.Prelude.{◌≡◌, ◌<◌, ◌↔◌, length, IsTrue, IfOk, OnOk, IfErr, Some};
 ghost use Rattle.ffi3_type_rules.specs.Tree.{tree_at};
 ghost use Rattle.ffi3_type_rules.specs.Signature.{SignatureHasNoFault, IsFirstSignatureFault, is_promoted};
+ghost use Rattle.ffi3_type_rules.specs.Signature.{SignatureIsPlaced, for_places, HasNoFaultFor, IsFirstFaultFor};
+ghost use Rattle.ffi3_types.specs.FirstElement.{purpose_of};
 ghost use Rattle.ffi3_types.specs.TreeOf.{tree_of};
 ghost use Rattle.ffi3_types.specs.SignatureFaultOf.{signature_fault_of};
 
-use crate::{FfiType, Fields, NoMemory, TypeFault, check_type, same_fields, same_type};
+use crate::check::check_in;
+use crate::{FfiType, Fields, NoMemory, TypeFault, same_fields, same_type};
 use ffi3_type_rules::limits::MOST_ARGUMENTS;
 use std::alloc::Global;
 use std::marker::Model;
@@ -139,6 +142,7 @@ impl FfiType {
             FfiType::Double | FfiType::Pointer | FfiType::Void => false,
             FfiType::Struct(_) | FfiType::Array(_, _) => false,
             FfiType::LongDouble | FfiType::Complex | FfiType::Vector => false,
+            FfiType::X87 | FfiType::Binary128 => false,
         }
     }
 }
@@ -150,15 +154,31 @@ pub fn check_sig(sig: &Sig) -> Result<(), SigFault>
     ensures ok { OnOk result (SignatureHasNoFault sig.now) }
     ensures err { IfErr result (λ e. IsFirstSignatureFault sig.now (signature_fault_of e)) }
 {
+    check_for(sig, true)
+}
+
+/// Whether the signature can be placed, or its first fault: as `check_sig`, but that long doubles of 16 bytes may be in it.
+pub fn check_placed(sig: &Sig) -> Result<(), SigFault>
+    ensures ok { OnOk result (SignatureIsPlaced sig.now) }
+    ensures err { IfErr result (λ e. IsFirstFaultFor for_places sig.now (signature_fault_of e)) }
+{
+    check_for(sig, false)
+}
+
+/// The first fault, for calls on the machine or for places alone.
+fn check_for(sig: &Sig, calls: bool) -> Result<(), SigFault>
+    ensures ok { OnOk result (HasNoFaultFor (purpose_of calls) sig.now) }
+    ensures err { IfErr result (λ e. IsFirstFaultFor (purpose_of calls) sig.now (signature_fault_of e)) }
+{
     let n = sig.count();
     if n as u64 > MOST_ARGUMENTS {
         return Err(SigFault::TooMany { n });
     }
-    if let Err(fault) = check_type(sig.ret(), true) {
+    if let Err(fault) = check_in(sig.ret(), true, calls) {
         return Err(SigFault::BadType { at: At::Ret, fault });
     }
     for i in 0..n {
-        if let Err(fault) = check_type(sig.arg(i), false) {
+        if let Err(fault) = check_in(sig.arg(i), false, calls) {
             return Err(SigFault::BadType {
                 at: At::Arg(i),
                 fault,

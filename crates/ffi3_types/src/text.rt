@@ -73,6 +73,8 @@ impl FfiType {
             FfiType::Float => "float",
             FfiType::Double => "double",
             FfiType::Pointer => "pointer",
+            FfiType::X87 => "x87",
+            FfiType::Binary128 => "binary128",
             FfiType::LongDouble | FfiType::Complex | FfiType::Vector => "",
             FfiType::Struct(fields) => {
                 text.extend("struct{".as_bytes())?;

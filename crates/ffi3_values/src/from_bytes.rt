@@ -24,6 +24,7 @@ pub fn value_from_bytes(alloc: Global, ty: &FfiType, bytes: &[u8]) -> Result<Val
     match ty {
         FfiType::Void => Ok(Value::Void),
         FfiType::LongDouble | FfiType::Complex | FfiType::Vector => unreachable!(),
+        FfiType::X87 => Ok(Value::Leaf(Bytes::from_slice(alloc, &bytes[..10])?)),
         FfiType::Struct(fields) => {
             let members = Members::of_struct(fields);
             Ok(Value::List(values_from_bytes(alloc, &members, bytes)?))
@@ -44,7 +45,8 @@ pub fn value_from_bytes(alloc: Global, ty: &FfiType, bytes: &[u8]) -> Result<Val
         | FfiType::S128
         | FfiType::Float
         | FfiType::Double
-        | FfiType::Pointer => Ok(Value::Leaf(Bytes::from_slice(alloc, bytes)?)),
+        | FfiType::Pointer
+        | FfiType::Binary128 => Ok(Value::Leaf(Bytes::from_slice(alloc, bytes)?)),
     }
 }
 

@@ -74,6 +74,7 @@ pub fn number(ty: &FfiType, value: &Value) -> i128
         FfiType::Void | FfiType::Float | FfiType::Double => unreachable!(),
         FfiType::Struct(_) | FfiType::Array(_, _) => unreachable!(),
         FfiType::LongDouble | FfiType::Complex | FfiType::Vector => unreachable!(),
+        FfiType::X87 | FfiType::Binary128 => unreachable!(),
     }
 }
 
@@ -119,6 +120,7 @@ pub fn widen(ty: &FfiType, value: &Value) -> u64
         FfiType::Void | FfiType::Float | FfiType::Double => unreachable!(),
         FfiType::Struct(_) | FfiType::Array(_, _) => unreachable!(),
         FfiType::LongDouble | FfiType::Complex | FfiType::Vector => unreachable!(),
+        FfiType::X87 | FfiType::Binary128 => unreachable!(),
     }
 }
 
@@ -167,6 +169,7 @@ pub fn of_bits(alloc: Global, ty: &FfiType, n: u128) -> Result<Value, NoMemory>
         FfiType::Void | FfiType::Float | FfiType::Double => unreachable!(),
         FfiType::Struct(_) | FfiType::Array(_, _) => unreachable!(),
         FfiType::LongDouble | FfiType::Complex | FfiType::Vector => unreachable!(),
+        FfiType::X87 | FfiType::Binary128 => unreachable!(),
     }))
 }
 

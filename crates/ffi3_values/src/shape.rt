@@ -30,7 +30,8 @@ pub fn fits(value: &Value, ty: &FfiType) -> bool
         FfiType::U16 | FfiType::S16 => is_leaf_of(value, 2),
         FfiType::U32 | FfiType::S32 | FfiType::Float => is_leaf_of(value, 4),
         FfiType::U64 | FfiType::S64 | FfiType::Double | FfiType::Pointer => is_leaf_of(value, 8),
-        FfiType::U128 | FfiType::S128 => is_leaf_of(value, 16),
+        FfiType::U128 | FfiType::S128 | FfiType::Binary128 => is_leaf_of(value, 16),
+        FfiType::X87 => is_leaf_of(value, 10),
         FfiType::Struct(fields) => match value {
             Value::List(values) => all_fit(values, &Members::of_struct(fields)),
             _ => false,

@@ -31,7 +31,9 @@ fn write_text(alloc: Global, ty: &FfiType, value: &Value, text: &mut Bytes) -> R
     match value {
         Value::Void => text.extend("void".as_bytes()),
         Value::Leaf(bytes) => match ty {
-            FfiType::Float | FfiType::Double => write_hexadecimal(alloc, bytes.as_slice(), text),
+            FfiType::Float | FfiType::Double | FfiType::X87 | FfiType::Binary128 => {
+                write_hexadecimal(alloc, bytes.as_slice(), text)
+            }
             FfiType::Pointer => {
                 text.extend("0x".as_bytes())?;
                 let address = widen(ty, value);

@@ -21,7 +21,10 @@ pub fn write_bytes(ty: &FfiType, value: &Value, out: &mut [u8])
 {
     match value {
         Value::Void => {}
-        Value::Leaf(bytes) => out.copy_from_slice(bytes.as_slice()),
+        Value::Leaf(bytes) => {
+            let count = bytes.len();
+            out[..count].copy_from_slice(bytes.as_slice());
+        }
         Value::List(values) => {
             match ty {
                 FfiType::Struct(fields) => {

@@ -14,7 +14,7 @@ use ffi3_place::ends::{buffer_end, copy_end, planned};
 use ffi3_place::parts::{one_piece, two_pieces, widening};
 use ffi3_place::{Abi, Loc, Piece, Pieces, Place, Places, Plan, Res, SaveWord};
 use ffi3_type_rules::round_up;
-use ffi3_types::{CheckedSig, CheckedType, FfiType, NoMemory, Sig, Target};
+use ffi3_types::{CheckedType, FfiType, NoMemory, PlacedSig, Sig, Target};
 pub use laws::placement_laws;
 use std::alloc::Global;
 
@@ -142,19 +142,14 @@ struct Placed {
 }
 
 /// Whether a signature has variable arguments.
-fn is_variadic(sig: &CheckedSig<'_>) -> bool
+fn is_variadic(sig: &PlacedSig<'_>) -> bool
     ensures { result ≡ is_some sig.now.fixed }
 {
     sig.fixed().is_some()
 }
 
 /// The places of all arguments, in the positions from `first` on, if the copies stand from `start` on.
-fn place_all(
-    alloc: Global,
-    sig: &CheckedSig<'_>,
-    first: u64,
-    start: u64,
-) -> Result<Placed, NoMemory>
+fn place_all(alloc: Global, sig: &PlacedSig<'_>, first: u64, start: u64) -> Result<Placed, NoMemory>
     requires few { first ≤ 1 }
     requires low { start ≤ 16 * MOST_ARGUMENTS }
     ensures places { IfOk result (λ p. p.places ≡ places_from win64.copy_start start sig.now.arguments (spots_from (is_some sig.now.fixed) first sig.now.arguments)) }
@@ -268,7 +263,7 @@ const ARGUMENT_REGISTERS: [Loc; 8] = [
 pub struct Win64;
 
 /// Where everything stands in a call.
-fn plan_of(alloc: Global, sig: &CheckedSig<'_>) -> Result<Plan, NoMemory>
+fn plan_of(alloc: Global, sig: &PlacedSig<'_>) -> Result<Plan, NoMemory>
     ensures { IfOk result (λ p. p ≡ plan_of win64 sig.now) }
 {
     let is_hidden = is_copied(&sig.ret());
@@ -330,7 +325,7 @@ impl Abi for Win64 {
     }
 
     fn plan(alloc: Global, sig: &Sig) -> Result<Plan, NoMemory> {
-        plan_of(alloc, &CheckedSig::of(sig))
+        plan_of(alloc, &PlacedSig::of(sig))
     }
 
     ghost use Rattle.std.specs.Prelude.{refl};
@@ -356,7 +351,7 @@ impl Abi for Win64 {
 
     ghost by_stubs = { without_stubs };
 
-    ghost result_by_stubs = { result_without_stubs };
+    ghost result_by_stubs = { λ s _ is. result_without_stubs s is };
 
     ghost sound = { every_law };
 

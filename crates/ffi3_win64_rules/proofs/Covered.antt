@@ -45,7 +45,7 @@ whole_are_pieces t h [] are = tt
 whole_are_pieces t h (l ∷ ls) are =
     (record { short = h; within = omega arith; fits = omega (arith, h, are.0); extended = whole_extended t l are.0 }, whole_are_pieces t h ls are.1)
 
-position_is_whole : (p : ℕ) → IsWhole (position_place p)
+pub position_is_whole : (p : ℕ) → IsWhole (position_place p)
 position_is_whole p = by_test (ltb p 4)
   where
     by_test : (b : Bool) → IsWhole (cond b (G (general_argument p)) (S (8 * p) 8))

@@ -1,6 +1,6 @@
 -- Worked rows, computed.
 use Rattle.std.specs.Prelude.{◌≡◌, [], ◌∷◌, refl, replicate}
-use Rattle.ffi3_type_rules.specs.Tree.{void, scalar, struct_of, array_of, u8, s8, u32, s32, s128, float, double, pointer}
+use Rattle.ffi3_type_rules.specs.Tree.{void, scalar, struct_of, array_of, u8, s8, u32, s32, s128, float, double, pointer, x87}
 use Rattle.ffi3_type_rules.specs.Layout.{least_multiple}
 use Rattle.ffi3_place_rules.specs.declared.Loc.TheVariants.{G, F, S}
 use Rattle.ffi3_place_rules.specs.declared.SaveWord.TheVariants.{Register, Hidden as HiddenWord}
@@ -143,3 +143,15 @@ arrays = refl
 pub numbers_of_64 : (need_of win64 (sig_of void (replicate 64 integer)) ≡ 1184) × (frame_of win64 (sig_of void (replicate 64 integer)) ≡ 512) × (block_bytes (sig_of void (replicate 64 integer)) ≡ 512)
 unfolding least_multiple
 numbers_of_64 = (refl, refl, refl)
+
+-- x87(x87,double), GCC's long double: a copy, and a hidden result
+pub long_double : plan_of win64 (sig_of (scalar x87) (scalar x87 ∷ scalar double ∷ [])) ≡ record {
+  places = ByRef (G 2) 32 ∷ alone (F 2) ∷ [];
+  res = Hidden (G 1) 48;
+  need = 256;
+  frame = 64;
+  block = 32;
+  vectors = 0;
+}
+unfolding least_multiple
+long_double = refl

@@ -18,6 +18,7 @@ use Rattle.ffi3_place_rules.proofs.Forbidden.{none_of}
 use Rattle.ffi3_place_rules.proofs.Frame.{up_to, frame_chain}
 use Rattle.ffi3_place_rules.proofs.Aligned.{frame_is_aligned, need_is_aligned}
 use Rattle.ffi3_place_rules.proofs.Determines.{determined}
+use Rattle.ffi3_place_rules.proofs.OnMachine.{sound_on_machine}
 use Rattle.ffi3_win64_rules.specs.Win64.{win64, is_copied, general_argument, position_place, floating_places, whole, whole_in, argument_pieces, spot_at, spots_from, first_position, result_place, result_spot_of, stack_of, placing_of}
 use Rattle.ffi3_win64_rules.proofs.Covered.{whole_has_all, arguments_have_all}
 use Rattle.ffi3_win64_rules.proofs.Filled.{arguments_filled, result_filled}
@@ -168,7 +169,7 @@ result_is_filled s =
 
 -- every law of the places
 pub sound : (s : Signature) → IsSound win64 s
-sound s = record {
+sound s = sound_on_machine win64 s (record {
   apart = plan_apart s;
   in_frame = plan_in_frame s;
   on_stack = plan_lies_in s;
@@ -185,7 +186,7 @@ sound s = record {
   result_filled = result_is_filled s;
   frame_aligned = frame_is_aligned win64 s;
   need_aligned = need_is_aligned win64 s refl;
-}
+})
 
 pub determines : (s : Signature) → IsDetermined win64 s
 determines s = determined win64 s (sound s).has_all (sound s).result_has_all

@@ -26,7 +26,7 @@ use Rattle.ffi3_place_rules.specs.Doublewords.{widening}
 abbrev pub is_whole_size : ℕ → Bool
 is_whole_size n = n == 0 || n == 1 || n == 2 || n == 4 || n == 8
 
--- An argument that doesn't fit in 8 bytes, or isn't 1, 2, 4 or 8 bytes, is passed by reference: a pointer to memory that the caller allocates. So are 16-byte arguments, among them a 128-bit integer. ("Calling convention defaults"; "Parameter passing", on structs of other sizes. Microsoft's document names no such integer: that it goes by its size is this library's rule.)
+-- An argument that doesn't fit in 8 bytes, or isn't 1, 2, 4 or 8 bytes, is passed by reference: a pointer to memory that the caller allocates. So are 16-byte arguments, among them a 128-bit integer, and the long double of x87's format that GCC has for Windows. ("Calling convention defaults"; "Parameter passing", on structs of other sizes. Microsoft's document names neither: that they go by their size is this library's rule, and GCC's.)
 abbrev pub is_copied : Tree → Bool
 is_copied t = not (is_whole_size (size_of t))
 

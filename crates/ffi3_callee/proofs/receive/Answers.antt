@@ -1,5 +1,6 @@
 use Rattle.std.proofs.Common.{◌≡◌, ◌+◌, ◌-◌, length, ap, subst, sym, ◌∙◌, arith}
 use Rattle.ffi3_type_rules.specs.Isa.{isa_of}
+use Rattle.ffi3_type_rules.proofs.Placed.{faultless_is_plain}
 use Rattle.ffi3_place_rules.specs.Holds.{OwnsArguments}
 use Rattle.ffi3_place_rules.specs.Standard.{block_bytes, frame_of, plan_of}
 use Rattle.ffi3_machine.specs.State.{scribbled, scribbled_floating, scribbled_general}
@@ -21,7 +22,7 @@ passed_address-address-requires g c =
     let m = c.args.machine.now in
     let sound = g.met.A.Abi.sound s in
     let base : c.at-base.result ≡ m.sp + std.link = omega (arith, c.at-base.ensures, c.LINK.ensures, g.met.A.Abi.link_is, c.sp-entry.ensures.value) in
-    hidden_lies std s m c.at-base.result c.hidden_place-hidden.result sound base (c.hidden_place-hidden.ensures ∙ ap hidden_of c.result_place.ensures) c.requires.frame
+    hidden_lies std s m c.at-base.result c.hidden_place-hidden.result sound c.sig-sig.ensures.faultless base (c.hidden_place-hidden.ensures ∙ ap hidden_of c.result_place.ensures) c.requires.frame
 
 pub enter-requires-clause-room : goal.enter-requires-clause-room
 enter-requires-clause-room g c = omega (arith, c.requires.room)
@@ -36,7 +37,7 @@ enter-requires-clause-hidden g c =
     let m = c.args.machine.now in
     let sound = g.met.A.Abi.sound s in
     let base : c.at-base.result ≡ m.sp + std.link = omega (arith, c.at-base.ensures, c.LINK.ensures, g.met.A.Abi.link_is, c.sp-entry.ensures.value) in
-    hidden_lies std s m c.at-base.result c.hidden_place-hidden.result sound base (c.hidden_place-hidden.ensures ∙ ap hidden_of c.result_place.ensures) c.requires.frame
+    hidden_lies std s m c.at-base.result c.hidden_place-hidden.result sound c.sig-sig.ensures.faultless base (c.hidden_place-hidden.ensures ∙ ap hidden_of c.result_place.ensures) c.requires.frame
 
 pub enter-requires-clause-hidden_saved : goal.enter-requires-clause-hidden_saved
 enter-requires-clause-hidden_saved g c = λ e.
@@ -44,7 +45,7 @@ enter-requires-clause-hidden_saved g c = λ e.
     let s = c.args.cif.now in
     let m = c.args.machine.now in
     let same : std.target ≡ m.target = g.met.A.Abi.target_is ∙ sym c.requires.target in
-    let law = result_law_of std s m.target (g.met.A.Abi.result_by_stubs s) same e in
+    let law = result_law_of std s m.target (g.met.A.Abi.result_by_stubs s (faultless_is_plain s c.sig-sig.ensures.faultless)) same e in
     hidden_to_list std s c.hidden_place-hidden.result (c.hidden_place-hidden.ensures ∙ ap hidden_of c.result_place.ensures) law.hidden
 
 pub copy_arguments-requires-clause-found : goal.copy_arguments-requires-clause-found
@@ -71,7 +72,7 @@ returns-clause-received g c =
     let block_is : c.sp-entry.result - c.SAVE.result - c.block.result + block_bytes s + std.save ≡ m.sp = omega (arith, there.block_is, there.area_is, c.requires.room) in
     let b = c.enter.new.machine in
     let entered = subst (λ h. IsEntered std h block m b) there.hidden_is c.enter.ensures.entered in
-    received std s block c.len-number.result m b c.copy_arguments.new.machine c.scribble.new.self c.requires.room c.requires.frame g.met.A.Abi.agrees.area c.sp-entry.ensures.machine.stack block_is entered sound c.copy_arguments.ensures.only c.scribble.ensures
+    received std s block c.len-number.result m b c.copy_arguments.new.machine c.scribble.new.self c.requires.room c.requires.frame g.met.A.Abi.agrees.area c.sp-entry.ensures.machine.stack block_is entered sound c.sig-sig.ensures.faultless c.copy_arguments.ensures.only c.scribble.ensures
     (λ vs own. c.copy_arguments.ensures.values vs (subst (λ q. OwnsArguments (image_from q (frame_of std s) (passing b)) 0 s.arguments (plan_of std s).places vs) (sym (c.at-base.ensures ∙ there.base_is)) own))
 
 pub returns-clause-incoming : goal.returns-clause-incoming
@@ -84,7 +85,7 @@ returns-clause-incoming g c =
     let b = c.enter.new.machine in
     let block_is : c.sp-entry.result - c.SAVE.result - c.block.result + block_bytes s + std.save ≡ m.sp = omega (arith, there.block_is, there.area_is, c.requires.room) in
     let entered = subst (λ h. IsEntered std h (c.sp-entry.result - c.SAVE.result - c.block.result) m b) there.hidden_is c.enter.ensures.entered in
-    let between = address_between std s (c.sp-entry.result - c.SAVE.result - c.block.result) 0 m b b b c.requires.room c.requires.frame g.met.A.Abi.agrees.area c.sp-entry.ensures.machine.stack block_is entered c.requires.some.0 sound c.requires.some.1 in
+    let between = address_between std s (c.sp-entry.result - c.SAVE.result - c.block.result) 0 m b b b c.requires.room c.requires.frame g.met.A.Abi.agrees.area c.sp-entry.ensures.machine.stack block_is entered c.requires.some.0 sound c.sig-sig.ensures.faultless c.requires.some.1 in
     record {
       low = omega (arith, there.block_is, there.area_is, c.requires.room);
       entry = omega (arith, there.block_is, there.area_is, c.requires.room, c.sp-entry.ensures.value);

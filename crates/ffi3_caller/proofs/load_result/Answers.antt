@@ -1,7 +1,9 @@
 use Rattle.std.proofs.Common.{◌+◌, length, ap, sym, ◌∙◌, subst, arith}
 use Rattle.ffi3_type_rules.specs.Isa.{isa_of}
 use Rattle.ffi3_type_rules.specs.Value.{value_in}
+use Rattle.ffi3_type_rules.proofs.Placed.{faultless_is_plain}
 use Rattle.ffi3_place_rules.specs.Standard.{plan_of, frame_of}
+use Rattle.ffi3_place_rules.proofs.OnMachine.{as_before}
 use Rattle.ffi3_machine.specs.State.{stack_at}
 use Rattle.ffi3_caller.specs.Called.{at_frame, frame_start}
 use Rattle.ffi3_caller.proofs.Framing.{loaded_moved}
@@ -12,13 +14,14 @@ use Rattle.ffi3_caller.proofs.load_result.Goals as goal
 
 pub load_pieces-requires-clause-registers : goal.load_pieces-requires-clause-registers
 load_pieces-requires-clause-registers g c =
-    let sound = g.met.A.Abi.sound c.args.cif.now in
+    let s = c.args.cif.now in
+    let sound = as_before g.A.Abi.standard s (g.met.A.Abi.sound s) (faultless_is_plain s c.sig-sig.ensures.faultless) in
     in_registers (isa_of g.A.Abi.standard.target) (plan_of g.A.Abi.standard c.args.cif.now).res c.in-Direct.pieces (sym c.result_place.ensures ∙ c.in-Direct.is) sound.result_in_registers
 
 pub load_pieces-requires-clause-within : goal.load_pieces-requires-clause-within
 load_pieces-requires-clause-within g c =
     let s = c.args.cif.now in
-    let sound = g.met.A.Abi.sound s in
+    let sound = as_before g.A.Abi.standard s (g.met.A.Abi.sound s) (faultless_is_plain s c.sig-sig.ensures.faultless) in
     subst (λ n. AreWithin n c.in-Direct.pieces) (sym c.requires.sized) (are_within s.result_type (plan_of g.A.Abi.standard s).res c.in-Direct.pieces (sym c.result_place.ensures ∙ c.in-Direct.is) sound.result_has_all)
 
 pub lend_stack-requires-clause-high : goal.lend_stack-requires-clause-high
@@ -28,7 +31,7 @@ lend_stack-requires-clause-high g c =
 pub returns-in-Direct-clause-value : goal.returns-in-Direct-clause-value
 returns-in-Direct-clause-value g c = λ v own.
     let s = c.args.cif.now in
-    let sound = g.met.A.Abi.sound s in
+    let sound = as_before g.A.Abi.standard s (g.met.A.Abi.sound s) (faultless_is_plain s c.sig-sig.ensures.faultless) in
     let frame = frame_of g.A.Abi.standard s in
     let out_is = c.load_pieces.ensures.loaded ∙ sym (loaded_moved (frame_start frame c.args.machine.now) (passing c.args.machine.now) c.in-Direct.pieces c.args.out.now) in
     ap (value_in s.result_type) out_is ∙ direct_value (at_frame (frame_of g.A.Abi.standard s) c.args.machine.now) (frame_of g.A.Abi.standard s) g.A.Abi.standard s c.in-Direct.pieces c.args.out.now v sound (sym c.result_place.ensures ∙ c.in-Direct.is) c.requires.sized (ap length (sym out_is) ∙ c.load_pieces.ensures.sized) own

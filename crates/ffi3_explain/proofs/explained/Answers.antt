@@ -1,4 +1,6 @@
 use Rattle.std.proofs.Common.{arith, ◌≡◌, ap, sym, subst, ◌∙◌}
+use Rattle.ffi3_type_rules.proofs.Placed.{faultless_is_plain}
+use Rattle.ffi3_place_rules.proofs.OnMachine.{as_before}
 use Rattle.ffi3_explain_rules.specs.Explain.{checks_of_count, checks_of_hidden, first_broken}
 use Rattle.ffi3_explain.specs.ImageOf.{image_of}
 use Rattle.ffi3_explain.specs.Places.{HiddenIsThere}
@@ -16,7 +18,7 @@ pub hidden_check-requires : goal.hidden_check-requires
 hidden_check-requires g c =
     let std = g.A.Abi.standard in
     let s = c.args.cif.now in
-    let sound = g.met.A.Abi.sound s in
+    let sound = as_before std s (g.met.A.Abi.sound s) (faultless_is_plain s c.sig-sig.ensures.faultless) in
     let link : c.LINK-base.result ≡ g.A.Abi.standard.link = c.LINK-base.ensures ∙ sym g.met.A.Abi.link_is in
     let ready = result_ready std s sound (image_of c.args.image.now) c.LINK-base.result (omega (arith, link, c.requires.stack)) (omega (arith, link, c.requires.high)) in
     subst (HiddenIsThere (image_of c.args.image.now) c.LINK-base.result) (sym c.result_place.ensures) ready

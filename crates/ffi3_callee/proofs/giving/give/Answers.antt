@@ -2,8 +2,10 @@ use Rattle.std.specs.List.{AllByRecursion}
 use Rattle.std.proofs.Common.{◌≡◌, ◌+◌, ◌≤◌, ap, subst, sym, ◌∙◌, arith}
 use Rattle.ffi3_type_rules.specs.Layout.{size_of}
 use Rattle.ffi3_type_rules.specs.Value.{value_in}
+use Rattle.ffi3_type_rules.proofs.Placed.{faultless_is_plain}
 use Rattle.ffi3_values.specs.ValueOf.{value_of}
 use Rattle.ffi3_place_rules.specs.Standard.{plan_of}
+use Rattle.ffi3_place_rules.proofs.OnMachine.{as_before}
 use Rattle.ffi3_machine.specs.State.{stack_at}
 use Rattle.ffi3_type_rules.specs.declared.limits.TheConstants.{STACK_TOP}
 use Rattle.ffi3_pieces.specs.Passing.{passing}
@@ -25,7 +27,7 @@ give_buffer-requires-clause-high g c =
 pub store_pieces-requires-clause-registers : goal.store_pieces-requires-clause-registers
 store_pieces-requires-clause-registers g c =
     let s = c.args.cif.now in
-    direct_places g.A.Abi.standard s c.in-Direct.pieces (g.met.A.Abi.sound s) (sym c.result_place.ensures ∙ c.in-Direct.is)
+    direct_places g.A.Abi.standard s c.in-Direct.pieces (as_before g.A.Abi.standard s (g.met.A.Abi.sound s) (faultless_is_plain s c.checked_sig-sig.ensures.faultless)) (sym c.result_place.ensures ∙ c.in-Direct.is)
 
 pub returns-in-Nothing-clause-holds : goal.returns-in-Nothing-clause-holds
 returns-in-Nothing-clause-holds g c =
@@ -37,8 +39,8 @@ returns-in-Direct-clause-holds g c =
     let s = c.args.cif.now in
     let type_is = c.ret-ty.ensures ∙ ap (λ r. r.result_type) c.checked_sig-sig.ensures.value in
     let is = sym c.result_place.ensures ∙ c.in-Direct.is in
-    let within = direct_within std s c.args.base c.in-Direct.pieces (passing c.args.machine.now) (passing c.store_pieces.new.machine) (g.met.A.Abi.sound s) is c.store_pieces.ensures.within in
-    direct_held std s c.args.base (passing c.store_pieces.new.machine) (value_of c.args.value.now) c.in-Direct.pieces (g.met.A.Abi.sound s) c.address-at.ensures.low c.requires.high (within.size ∙ c.sp-m.ensures.machine.stack) (sym c.result_place.ensures ∙ c.in-Direct.is) c.requires.fits
+    let within = direct_within std s c.args.base c.in-Direct.pieces (passing c.args.machine.now) (passing c.store_pieces.new.machine) (as_before g.A.Abi.standard s (g.met.A.Abi.sound s) (faultless_is_plain s c.checked_sig-sig.ensures.faultless)) is c.store_pieces.ensures.within in
+    direct_held std s c.args.base (passing c.store_pieces.new.machine) (value_of c.args.value.now) c.in-Direct.pieces (as_before g.A.Abi.standard s (g.met.A.Abi.sound s) (faultless_is_plain s c.checked_sig-sig.ensures.faultless)) c.address-at.ensures.low c.requires.high (within.size ∙ c.sp-m.ensures.machine.stack) (sym c.result_place.ensures ∙ c.in-Direct.is) c.requires.fits
     (subst (λ t. PiecesStand c.args.base (passing c.store_pieces.new.machine) t (value_of c.args.value.now) c.in-Direct.pieces) type_is c.store_pieces.ensures.stand)
 
 pub returns-in-Nothing-clause-unused : goal.returns-in-Nothing-clause-unused
@@ -78,7 +80,7 @@ returns-in-Hidden-clause-holds g c =
 pub returns-in-Direct-clause-writes : goal.returns-in-Direct-clause-writes
 returns-in-Direct-clause-writes g c =
     let s = c.args.cif.now in
-    direct_writes g.A.Abi.standard s c.args.base s.result_type c.in-Direct.pieces (passing c.args.machine.now) (passing c.store_pieces.new.machine) (g.met.A.Abi.sound s) (sym c.result_place.ensures ∙ c.in-Direct.is) c.store_pieces.ensures.within
+    direct_writes g.A.Abi.standard s c.args.base s.result_type c.in-Direct.pieces (passing c.args.machine.now) (passing c.store_pieces.new.machine) (as_before g.A.Abi.standard s (g.met.A.Abi.sound s) (faultless_is_plain s c.checked_sig-sig.ensures.faultless)) (sym c.result_place.ensures ∙ c.in-Direct.is) c.store_pieces.ensures.within
 
 pub returns-in-Hidden-clause-writes : goal.returns-in-Hidden-clause-writes
 returns-in-Hidden-clause-writes g c =

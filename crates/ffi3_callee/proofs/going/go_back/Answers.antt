@@ -1,4 +1,5 @@
 use Rattle.std.proofs.Common.{◌≡◌, sym, ◌∙◌}
+use Rattle.ffi3_type_rules.proofs.Placed.{faultless_is_plain}
 use Rattle.ffi3_callee.proofs.WayBack.{gone_keeps, gone_kept, gone_reserved, laws_of, result_law_of}
 use Rattle.ffi3_callee.proofs.going.go_back.Goals as goal
 
@@ -17,4 +18,4 @@ returns-clause-keeps g c = λ base v held.
     let m = c.args.machine.now in
     let sound = g.met.A.Abi.sound s in
     let same : std.target ≡ m.target = g.met.A.Abi.target_is ∙ sym c.requires.target in
-    gone_keeps std g.met.A.Abi.agrees c.args.incoming.entry m c.go.new.machine c.go.ensures.back s sound (λ e. laws_of std m.target g.met.A.Abi.by_stubs same e) (λ e. result_law_of std s m.target (g.met.A.Abi.result_by_stubs s) same e) base v held
+    gone_keeps std g.met.A.Abi.agrees c.args.incoming.entry m c.go.new.machine c.go.ensures.back s sound c.sig-sig.ensures.faultless (λ e. laws_of std m.target g.met.A.Abi.by_stubs same e) (λ e. result_law_of std s m.target (g.met.A.Abi.result_by_stubs s (faultless_is_plain s c.sig-sig.ensures.faultless)) same e) base v held

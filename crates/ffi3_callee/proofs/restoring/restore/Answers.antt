@@ -1,7 +1,9 @@
 use Rattle.std.proofs.Common.{◌≡◌, ◌-◌, ap, subst, sym, ◌∙◌, arith}
 use Rattle.ffi3_type_rules.specs.declared.limits.TheConstants.{STACK_TOP}
+use Rattle.ffi3_type_rules.proofs.Placed.{faultless_is_plain}
 use Rattle.ffi3_place_rules.specs.declared.SaveWord.TheVariants.{Register}
 use Rattle.ffi3_place_rules.specs.Agrees.{saved_registers}
+use Rattle.ffi3_place_rules.proofs.OnMachine.{as_before}
 use Rattle.ffi3_pieces.specs.Stored.{word_in}
 use Rattle.ffi3_machine.specs.State.{with_sp}
 use Rattle.ffi3_callee.specs.Saved.{AreGivenBack, AreSaved, with_given_back}
@@ -57,7 +59,7 @@ returns-clause-keeps g c = λ base v held.
     let agrees = g.met.A.Abi.agrees in
     let stay = registers_any_sp sp (saved_registers std.save_area) a c.restore_words.new.machine c.set_sp.new.self c.set_sp.ensures (registers_stay STACK_TOP (saved_registers std.save_area) a c.restore_words.new.machine c.restore_words.ensures.stays) in
     let within = within_any_sp STACK_TOP STACK_TOP sp a c.restore_words.new.machine c.set_sp.new.self c.set_sp.ensures c.restore_words.ensures.within in
-    result_kept base (saved_registers std.save_area) a c.set_sp.new.self stay within std s a.target v sound (result_apart std s agrees sound) (returned_settable std a.target g.A.Abi.TARGET agrees g.met.A.Abi.target_is c.requires.target) (returned_apart std agrees) held
+    result_kept base (saved_registers std.save_area) a c.set_sp.new.self stay within std s a.target v (as_before std s sound (faultless_is_plain s c.sig-sig.ensures.faultless)) (result_apart std s agrees sound) (returned_settable std a.target g.A.Abi.TARGET agrees g.met.A.Abi.target_is c.requires.target) (returned_apart std agrees) held
 
 pub returns-clause-kept : goal.returns-clause-kept
 returns-clause-kept g c = λ base len room hidden entry sp_is saved reserved.

@@ -1,4 +1,6 @@
 use Rattle.std.proofs.Common.{◌≡◌, subst, ap, sym, ◌∙◌, arith}
+use Rattle.ffi3_type_rules.proofs.Placed.{faultless_is_plain}
+use Rattle.ffi3_place_rules.proofs.OnMachine.{as_before}
 use Rattle.ffi3_pieces.specs.Passing.{by_exchange}
 use Rattle.ffi3_caller.specs.Called.{HasComeBack, come_back_if}
 use Rattle.ffi3_caller.proofs.Pushing.{back_preserves, back_reserves, laws_of, result_back, result_law_of}
@@ -34,7 +36,8 @@ returns-clause-owns g c = λ v own.
     let std = g.A.Abi.standard in
     let s = c.args.cif.now in
     let m = c.args.machine.now in
-    let sound = g.met.A.Abi.sound s in
+    let plain = (faultless_is_plain s c.sig-sig.ensures.faultless) in
+    let sound = as_before std s (g.met.A.Abi.sound s) plain in
     let same : std.target ≡ m.target = g.met.A.Abi.target_is ∙ sym c.requires.target in
     let back = subst (λ n. HasComeBack n m c.come_over.new.machine) c.frame.ensures c.come_over.ensures.back in
-    result_back std s m c.come_over.new.machine v sound same (λ e. result_law_of std s m.target (g.met.A.Abi.result_by_stubs s) same e) back own
+    result_back std s m c.come_over.new.machine v sound same (λ e. result_law_of std s m.target (g.met.A.Abi.result_by_stubs s plain) same e) back own

@@ -43,7 +43,7 @@ store_hidden-requires-clause-lie g c =
     let std = g.A.Abi.standard in
     let s = c.args.cif.now in
     let sound = g.met.A.Abi.sound s in
-    subst (λ r. AllByRecursion (IsPlace (STACK_TOP - c.at-base.result)) (hidden_locs r)) (sym c.result_place.ensures) (hidden_lies std s sound (STACK_TOP - c.at-base.result) (omega (arith, c.begin_frame.ensures.sp, c.requires.top, c.frame.ensures, c.at-base.ensures, c.sp.ensures.value)))
+    subst (λ r. AllByRecursion (IsPlace (STACK_TOP - c.at-base.result)) (hidden_locs r)) (sym c.result_place.ensures) (hidden_lies std s sound c.sig-sig.ensures.faultless (STACK_TOP - c.at-base.result) (omega (arith, c.begin_frame.ensures.sp, c.requires.top, c.frame.ensures, c.at-base.ensures, c.sp.ensures.value)))
 
 pub store_hidden-requires-clause-writable : goal.store_hidden-requires-clause-writable
 store_hidden-requires-clause-writable g c =
@@ -67,7 +67,7 @@ put_count-requires-clause-writable g c =
     let std = g.A.Abi.standard in
     let s = c.args.cif.now in
     let sound = g.met.A.Abi.sound s in
-    let lie = subst (λ r. AllByRecursion (IsPlace (frame_of std s)) (hidden_locs r)) (sym c.result_place.ensures) (hidden_lies std s sound (frame_of std s) (omega arith)) in
+    let lie = subst (λ r. AllByRecursion (IsPlace (frame_of std s)) (hidden_locs r)) (sym c.result_place.ensures) (hidden_lies std s sound c.sig-sig.ensures.faultless (frame_of std s) (omega arith)) in
     let same = (c.store_hidden.ensures.within (frame_of std s) lie).target ∙ c.store_places.ensures.within.target ∙ c.begin_frame.ensures.within.target ∙ c.requires.target in
     subst (λ k. AllByRecursion (IsWritable c.store_hidden.new.machine.target) (to_list k)) (sym c.vector_count-count.ensures) (count_is_written std g.met.A.Abi.agrees c.store_hidden.new.machine.target _ g.met.A.Abi.target_is same)
 

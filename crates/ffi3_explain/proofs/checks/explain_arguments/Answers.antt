@@ -1,7 +1,9 @@
 use Rattle.std.proofs.Common.{rules, arith, ◌<◌, length, ap, ◌∙◌}
 use Rattle.ffi3_type_rules.specs.Tree.{tree_at}
+use Rattle.ffi3_type_rules.proofs.Placed.{faultless_is_plain}
 use Rattle.ffi3_values.specs.ValueOf.{value_of}
 use Rattle.ffi3_place_rules.specs.Standard.{plan_of}
+use Rattle.ffi3_place_rules.proofs.OnMachine.{as_before}
 use Rattle.ffi3_explain.specs.ImageOf.{image_of}
 use Rattle.ffi3_explain.proofs.Ready.{arguments_ready}
 use Rattle.ffi3_explain.proofs.Turns.{all_left, ready_here, tells_first, explain_further}
@@ -11,7 +13,7 @@ pub loop-i-init : goal.loop-i-init
 loop-i-init g c =
     let std = g.A.Abi.standard in
     let s = c.args.cif.now in
-    let sound = g.met.A.Abi.sound s in
+    let sound = as_before std s (g.met.A.Abi.sound s) (faultless_is_plain s c.checked_sig-sig.ensures.faultless) in
     all_left (image_of c.args.image.now) c.args.base s.arguments (plan_of std s).places c.new-values.result c.new-values.ensures (arguments_ready std s sound (image_of c.args.image.now) c.args.base c.requires.stack c.requires.high c.checked_sig-sig.ensures.faultless)
 
 pub explain_argument-requires-clause-there : goal.explain_argument-requires-clause-there

@@ -18,3 +18,6 @@ returns-clause-written c =
 
 pub returns-clause-right : goal.returns-clause-right
 returns-clause-right c = scalar_of_right AsResult c.scalar.result c.scalar.ensures.scalar
+
+pub returns-clause-plain : goal.returns-clause-plain
+returns-clause-plain c = c.scalar.ensures.plain

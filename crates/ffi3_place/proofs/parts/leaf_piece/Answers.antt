@@ -1,14 +1,10 @@
 use Rattle.std.proofs.Common.{◌<◌, length, sym, subst, arith}
 use Rattle.ffi3_type_rules.specs.declared.Role.TheVariants.{Anywhere}
 use Rattle.ffi3_type_rules.specs.Layout.{leaves_of}
-use Rattle.ffi3_type_rules.specs.Fault.{IsLaidOut}
-use Rattle.ffi3_type_rules.proofs.Faults.{scalar_faults, right_is_small}
+use Rattle.ffi3_type_rules.proofs.Faults.{right_is_small}
 use Rattle.ffi3_types.specs.TreeOf.{tree_of}
 use Rattle.ffi3_place_rules.proofs.Elements.{leaf_ends}
 use Rattle.ffi3_place.proofs.parts.leaf_piece.Goals as goal
-
-pub size-size-requires : goal.size-size-requires
-size-size-requires c = subst (IsLaidOut) (sym c.leaf-leaf.ensures.kind) (scalar_faults _)
 
 pub overflow_cast-result : goal.overflow_cast-result
 overflow_cast-result c =

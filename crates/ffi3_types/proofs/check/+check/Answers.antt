@@ -6,10 +6,10 @@ use Rattle.ffi3_type_rules.specs.declared.limits.TheConstants.{LARGEST_TYPE}
 use Rattle.ffi3_type_rules.specs.declared.Role.TheVariants.{AsElement}
 use Rattle.ffi3_type_rules.specs.Tree.{Tree, array, trees_of, tree_at, long_double, complex, vector}
 use Rattle.ffi3_type_rules.specs.Layout.{size_of, align_of, layouts, element, end_before}
-use Rattle.ffi3_type_rules.specs.Fault.{HasNoFault, IsFirstFault, takes_array, too_large}
+use Rattle.ffi3_type_rules.specs.Fault.{HasNoFault, IsFirstFault, takes, too_large}
 use Rattle.ffi3_type_rules.proofs.Faults.{first_too_deep, first_empty, first_void, first_left_out, first_inside, struct_is_right, first_too_large, void_faults, scalar_faults}
 use Rattle.ffi3_type_rules.proofs.Faults.{right_is_small}
-use Rattle.ffi3_type_rules.proofs.Layouts.{scalar_size-bounds, align_positive, align_bounded, aligns_bounded, align_before-positive, align_before-bounded, element-layouts, least_multiple-below, end_before-turn, align_before-turn, size_at_end, align_at_end}
+use Rattle.ffi3_type_rules.proofs.Layouts.{scalar_room-bounds, align_positive, align_bounded, aligns_bounded, align_before-positive, align_before-bounded, element-layouts, least_multiple-below, end_before-turn, align_before-turn, size_at_end, align_at_end}
 use Rattle.ffi3_type_rules.proofs.ArrayPlaces.{array_size_is, array_align_is, array_too_deep, array_out_of_place, array_of_many, array_of_none, array_first_inside, array_is_right, array_too_large}
 use Rattle.ffi3_types.specs.ScalarSize.{scalar_size_of}
 use Rattle.ffi3_types.specs.TreeOf.{tree_of}
@@ -66,7 +66,7 @@ check_node-check_other-requires t c =
 pub check_other-unreachable-requires : goal.check_other-unreachable-requires
 check_other-unreachable-requires t c =
     let is = one_scalar c.args.ty.now c.in-U8.is in
-    omega (arith, ap scalar_size_of is.1, (scalar_size-bounds is.0).0, c.requires.no_scalar)
+    omega (arith, ap scalar_size_of is.1, (scalar_room-bounds is.0).0, c.requires.no_scalar)
 
 pub check_other-returns-then-takes_void-clause-ok : goal.check_other-returns-then-takes_void-clause-ok
 check_other-returns-then-takes_void-clause-ok t c =
@@ -95,9 +95,9 @@ pub check_array-returns-then-outer-ge-DEEPEST_NESTING-clause-err : goal.check_ar
 check_array-returns-then-outer-ge-DEEPEST_NESTING-clause-err t c =
     rw c.new.ensures (array_too_deep c.args.fields.now c.args.count (omega arith))
 
-pub check_array-returns-then-not-takes_array-clause-err : goal.check_array-returns-then-not-takes_array-clause-err
-check_array-returns-then-not-takes_array-clause-err t c =
-    rw c.new-then-not-takes_array.ensures (array_out_of_place c.args.fields.now c.args.count c.if-outer-ge-DEEPEST_NESTING.false (sym c.takes_array.ensures ∙ c.if-not-takes_array.true))
+pub check_array-returns-then-not-may_stand-clause-err : goal.check_array-returns-then-not-may_stand-clause-err
+check_array-returns-then-not-may_stand-clause-err t c =
+    rw c.new-then-not-may_stand.ensures (array_out_of_place c.args.fields.now c.args.count c.if-outer-ge-DEEPEST_NESTING.false (sym c.may_stand.ensures ∙ c.if-not-may_stand.true))
 
 pub check_array-returns-then-len-ne1-clause-err : goal.check_array-returns-then-len-ne1-clause-err
 check_array-returns-then-len-ne1-clause-err t c =
@@ -111,7 +111,7 @@ check_array-returns-then-count-eq0-clause-err t c =
 pub check_array-returns-in-Err-clause-err : goal.check_array-returns-in-Err-clause-err
 check_array-returns-in-Err-clause-err t c =
     let ts = c.args.fields.now in
-    let placed : takes_array c.args.role ≡ true = sym c.takes_array.ensures ∙ c.if-not-takes_array.false in
+    let placed : takes c.args.role (array (trees_of c.args.fields.now) c.args.count) ≡ true = sym c.may_stand.ensures ∙ c.if-not-may_stand.false in
     let one : length ts ≡ 1 = omega (arith, c.len.ensures.count, c.if-len-ne1.false) in
     let first = rw c.get.ensures.element at c.in-Err.ensures.err in
     rw (c.inside.ensures.path, c.inside.ensures.fault) (array_first_inside ts c.args.count c.if-outer-ge-DEEPEST_NESTING.false placed one (omega arith) 0 _ _ (omega (arith, one)) (λ j below. absurd (omega arith)) first)
@@ -137,7 +137,7 @@ only_element outer ts t one is right i below =
 pub check_array-returns-then-size-gt-LARGEST_TYPE-clause-err : goal.check_array-returns-then-size-gt-LARGEST_TYPE-clause-err
 check_array-returns-then-size-gt-LARGEST_TYPE-clause-err t c =
     let ts = c.args.fields.now in
-    let placed : takes_array c.args.role ≡ true = sym c.takes_array.ensures ∙ c.if-not-takes_array.false in
+    let placed : takes c.args.role (array (trees_of c.args.fields.now) c.args.count) ≡ true = sym c.may_stand.ensures ∙ c.if-not-may_stand.false in
     let one : length ts ≡ 1 = omega (arith, c.len.ensures.count, c.if-len-ne1.false) in
     let whole = sym (whole_size ts c.args.count c.in-Ok.item.size (tree_of c.get.result.now) c.get.ensures.element c.in-Ok.ensures.size) in
     let right = only_element (c.args.outer + 1) ts (tree_of c.get.result.now) one c.get.ensures.element c.in-Ok.ensures.ok in
@@ -146,7 +146,7 @@ check_array-returns-then-size-gt-LARGEST_TYPE-clause-err t c =
 pub check_array-returns-else-size-gt-LARGEST_TYPE-clause-ok : goal.check_array-returns-else-size-gt-LARGEST_TYPE-clause-ok
 check_array-returns-else-size-gt-LARGEST_TYPE-clause-ok t c =
     let ts = c.args.fields.now in
-    let placed : takes_array c.args.role ≡ true = sym c.takes_array.ensures ∙ c.if-not-takes_array.false in
+    let placed : takes c.args.role (array (trees_of c.args.fields.now) c.args.count) ≡ true = sym c.may_stand.ensures ∙ c.if-not-may_stand.false in
     let one : length ts ≡ 1 = omega (arith, c.len.ensures.count, c.if-len-ne1.false) in
     let whole = sym (whole_size ts c.args.count c.in-Ok.item.size (tree_of c.get.result.now) c.get.ensures.element c.in-Ok.ensures.size) in
     let right = only_element (c.args.outer + 1) ts (tree_of c.get.result.now) one c.get.ensures.element c.in-Ok.ensures.ok in

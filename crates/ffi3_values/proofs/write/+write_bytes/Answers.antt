@@ -1,4 +1,4 @@
-use Rattle.std.proofs.Common.{◌≡◌, ◌+◌, ◌-◌, ap, sym, ◌∙◌, subst, arith, true, length-take, length-drop}
+use Rattle.std.proofs.Common.{◌≡◌, ◌+◌, ◌-◌, ◌++◌, drop, ap, sym, ◌∙◌, subst, arith, true, length-take, length-drop}
 use Rattle.ffi3_type_rules.specs.Value.{struct_value, values_of, IsWritten}
 use Rattle.ffi3_type_rules.proofs.Members.{array_some, made_nodes, made_right, made_size, made_fit, made_written}
 use Rattle.ffi3_type_rules.specs.Value.{fits}
@@ -14,7 +14,9 @@ use Rattle.ffi3_values.proofs.write.+write_bytes.Goals as goal
 pub write_bytes-returns-in-Leaf : goal.write_bytes-returns-in-Leaf
 write_bytes-returns-in-Leaf t c =
     let is = c.in-Leaf.is in
-    rw is (leaf_written (tree_of c.args.ty.now) c.in-Leaf.bytes c.args.out.now _ (ap (λ v. fits (tree_of c.args.ty.now) (value_of v)) (sym is) ∙ c.requires.fits) c.requires.sized (c.copy_from_slice.ensures.after ∙ c.as_slice.ensures))
+    let copied = ap (λ xs. xs ++ drop c.len-count.result c.args.out.now) (c.copy_from_slice.ensures.after ∙ c.as_slice.ensures) in
+    let kept = ap (λ n. c.in-Leaf.bytes ++ drop n c.args.out.now) c.len-count.ensures in
+    rw is (leaf_written (tree_of c.args.ty.now) c.in-Leaf.bytes c.args.out.now _ (ap (λ v. fits (tree_of c.args.ty.now) (value_of v)) (sym is) ∙ c.requires.fits) c.requires.sized (copied ∙ kept))
 
 pub write_values-align-requires : goal.write_values-align-requires
 write_values-align-requires t c =
