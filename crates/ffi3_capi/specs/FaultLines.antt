@@ -45,7 +45,7 @@ pub data AreFaultLines (target : ℕ) (text : List ℕ) : List ℕ → Type 0 wh
       → IsReadingIn wide (char_sign target) text (bad_signature f)
       → AreFaultLines target text (fault_line f)
 
--- WHAT ffi3_fault_lines ANSWERS, and what it writes into the caller's array. Only where memory was refused are there no lines of a fault.
+-- WHAT ffi3_fault_lines ANSWERS, and what it writes into the caller's array. Memory alone is free: where it was refused, 0 is answered, and nothing is written.
 pub data TellsLines (target : ℕ) (text old : List ℕ) : ℕ → List ℕ → Type 0 where
   lines : (ls : List ℕ) → AreFaultLines target text ls
       → TellsLines target text old (length ls) (filled (with_end ls) old)

@@ -1,5 +1,5 @@
 -- What an array of the caller holds once items were written into it.
-use Rattle.std.specs.Prelude.{ℕ, ◌+◌, Bool, true, false, cond, List, [], ◌∷◌, ◌++◌, length, drop, nat_le}
+use Rattle.std.specs.Prelude.{ℕ, Bool, true, false, cond, List, [], ◌∷◌, ◌++◌, length, drop, nat_le}
 use Rattle.ffi3_capi.specs.declared.codes.TheConstants.{DONE, TOO_SMALL}
 
 -- all of the items have room

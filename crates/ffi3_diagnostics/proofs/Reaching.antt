@@ -1,12 +1,13 @@
 -- What is reached and told, one byte, one word and one kind at a time.
 use Rattle.std.proofs.Common.{◌≡◌, ℕ, zero, suc, ◌+◌, ◌-◌, ◌<◌, ◌≤◌, Bool, true, false, List, [], ◌∷◌, ◌++◌, length, get_or, drop, take, ap, sym, refl, subst, ◌∙◌, arith}
-use Rattle.std.specs.Prelude.{cond, not, ◌||◌, Option, None, is_some}
+use Rattle.std.specs.Prelude.{cond, not, leb, ◌||◌, Option, None, is_some}
 use Rattle.std.proofs.lemmas.List.{drop_more, drop_all}
+use Rattle.std.proofs.lemmas.Bool.{leb-true, leb-false}
 use Rattle.ffi3_cdecl_rules.specs.Tokens.{wide, Sign, Token, type_word, sign_word, const_word, short_word, int_word, long_word, int128_word, char_word, void_word, struct_word, union_word, enum_word, complex_word, attribute_word, other_keyword, name, number, open_round, close_round, open_curly, close_curly, open_square, close_square, comma, semicolon, star, dots, Found, blank, skipped, nothing_known, found, found_in}
 use Rattle.ffi3_cdecl_rules.specs.Machine.{State, is_dead, finish}
 use Rattle.ffi3_cdecl_rules.specs.OnePass.{keeping}
 use Rattle.ffi3_cdecl_rules.specs.Expected as rules
-use Rattle.ffi3_cdecl_rules.specs.Expected.{every_kind, a_word, the_end}
+use Rattle.ffi3_cdecl_rules.specs.Expected.{every_kind, a_word, the_end, MOST_TOLD}
 use Rattle.ffi3_cdecl_rules.specs.Grammar.{Declaration}
 use Rattle.ffi3_cdecl_rules.specs.Reading.{unexpected, IsReadingIn}
 use Rattle.ffi3_cdecl_rules.specs.Reasons as reasons
@@ -234,20 +235,24 @@ length_push : (told : List Expected) (k : Expected) → length (told ++ k ∷ []
 length_push [] k = refl
 length_push (t ∷ told) k = ap suc (length_push told k)
 
-pub still_few : (told new : List Expected) (k : Expected) (b : Bool) → length told < 4 → new ≡ cond b (told ++ k ∷ []) told → length new ≤ 4
-still_few told new k true few e =
-    subst (λ n. n ≤ 4) (sym (ap (λ ks. length ks) e ∙ length_push told k)) few
-still_few told new k false few e =
-    let n : length new ≡ length told = ap (λ ks. length ks) e in
-    omega (arith, few, n)
+pub still_few : (told new : List Expected) (k : Expected) (b enough : Bool) (n : ℕ) → n ≡ length told → enough ≡ leb MOST_TOLD n → enough ≡ false → new ≡ cond b (told ++ k ∷ []) told → length new ≤ 4
+still_few told new k true enough n m l f e =
+    let few = leb-false 4 n (sym l ∙ f) in
+    let more : length new ≡ suc (length told) = ap (λ ks. length ks) e ∙ length_push told k in
+    omega (arith, few, m, more)
+still_few told new k false enough n m l f e =
+    let few = leb-false 4 n (sym l ∙ f) in
+    let same : length new ≡ length told = ap (λ ks. length ks) e in
+    omega (arith, few, m, same)
 
 -- where four are told, and where there is no further kind
-pub enough_told : (s : State) (told : List Expected) (i : ℕ) → 4 ≤ length told → length told ≤ 4 → with_those s told i ≡ those_from s 0 → kinds_of told ≡ expected s
+pub enough_told : (s : State) (told : List Expected) (i n : ℕ) (enough : Bool) → n ≡ length told → enough ≡ leb MOST_TOLD n → enough ≡ true → length told ≤ 4 → with_those s told i ≡ those_from s 0 → kinds_of told ≡ expected s
 unfolding those_from
-enough_told s told i enough few e =
-    let four : length told ≡ 4 = omega (arith, enough, few) in
-    let n : length (kinds_of told) ≡ 4 = kinds_length told ∙ four in
-    sym (take_front (kinds_of told) (those s (drop i every_kind))) ∙ ap (λ m. take m (with_those s told i)) n ∙ ap (λ ks. take 4 ks) e
+enough_told s told i n enough m l t few e =
+    let most = leb-true 4 n (sym l ∙ t) in
+    let four : length told ≡ 4 = omega (arith, most, m, few) in
+    let long : length (kinds_of told) ≡ 4 = kinds_length told ∙ four in
+    sym (take_front (kinds_of told) (those s (drop i every_kind))) ∙ ap (λ j. take j (with_those s told i)) long ∙ ap (λ ks. take 4 ks) e
 
 pub all_told : (s : State) (told : List Expected) (i : ℕ) → 15 ≤ i → length told ≤ 4 → with_those s told i ≡ those_from s 0 → kinds_of told ≡ expected s
 unfolding those_from

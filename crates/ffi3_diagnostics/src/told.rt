@@ -1,8 +1,8 @@
 // What is told of a place where a text is no declaration, in the wide reading.
-ghost use Rattle.std.specs.Prelude.{◌≡◌, IfOk, OnOk, ◌<◌, ◌≤◌, get_or, length, cond, ◌++◌, ◌∷◌, []};
+ghost use Rattle.std.specs.Prelude.{◌≡◌, IfOk, OnOk, ◌<◌, ◌≤◌, get_or, length, nat_le, cond, ◌++◌, ◌∷◌, []};
 ghost use Rattle.ffi3_cdecl_rules.specs.Tokens.{wide, complex_word};
 ghost use Rattle.ffi3_cdecl_rules.specs.Reading.{IsReadingIn, unexpected};
-ghost use Rattle.ffi3_cdecl_rules.specs.Expected.{every_kind, a_word, the_end};
+ghost use Rattle.ffi3_cdecl_rules.specs.Expected.{every_kind, a_word, the_end, MOST_TOLD};
 ghost use Rattle.ffi3_cdecl_rules.specs.Reasons.{IsTold};
 ghost use Rattle.ffi3_cdecl_rules.specs.Telling.{lives, wants_a_type, could, expected, one_lives, specifier_words, reason_at, reason_by, reaching, reach, nothing_reached, tell};
 ghost use Rattle.ffi3_cdecl.specs.TokenOf.{token_of, sign_of};
@@ -242,6 +242,13 @@ fn kind_number(i: usize) -> Expected
     }
 }
 
+/// Whether so many kinds are told that no further one is.
+fn is_enough(n: usize) -> bool
+    ensures { result ≡ nat_le MOST_TOLD n }
+{
+    n >= 4
+}
+
 /// One kind more, if it could stand there.
 fn push_if(told: &mut Vec<Expected>, kind: Expected, can: bool) -> Result<(), NoMemory>
     ensures { OnOk result (told.new.items ≡ cond can (told.old.items ++ kind ∷ []) told.old.items) }
@@ -260,7 +267,7 @@ fn kinds(alloc: Global, c: Sign, bytes: &[u8], stop: usize) -> Result<Vec<Expect
 {
     let mut told = Vec::new(alloc);
     for i in 0..15usize {
-        if told.len() >= 4 {
+        if is_enough(told.len()) {
             return Ok(told);
         }
         let kind = kind_number(i);

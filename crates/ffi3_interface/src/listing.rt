@@ -1,5 +1,5 @@
 // The moves of an interface that a handle keeps.
-ghost use Rattle.std.specs.Prelude.{◌≡◌, ◌<◌, ◌^◌, SomeIff, List, None, OnSome, length, slice_get};
+ghost use Rattle.std.specs.Prelude.{◌≡◌, ◌<◌, ◌^◌, IfNone, IfSome, List, None, OnSome, length, slice_get};
 ghost use Rattle.ffi3_moves.specs.Told.{told_in};
 ghost use Rattle.ffi3_moves.specs.declared.told.ToldMove.{ToldMove};
 ghost use Rattle.ffi3_prepared.specs.Prepared.{signature_in, standard_in};
@@ -49,7 +49,8 @@ fn list_numbered(n: u32) -> Option<MoveList>
 /// A list by one standard, for the caller's array. Answers how many moves it has; where these have no room, nothing is
 /// written. None where they are 2^64 or more.
 fn tell_by<A: Abi>(cif: &Cif<A>, list: MoveList, array: &mut [ToldMove]) -> Option<usize>
-    ensures count { SomeIff result (length (moves_by A.standard cif.now list) < 2 ^ 64) (length (moves_by A.standard cif.now list)) }
+    ensures count { IfSome result (λ n. n ≡ length (moves_by A.standard cif.now list)) }
+    ensures many { IfNone result (length (moves_by A.standard cif.now list) < 2 ^ 64 → ⊥) }
     ensures told { OnSome result (array.new ≡ told_in (moves_by A.standard cif.now list) array.old) }
     ensures untold { result ≡ None → array.new ≡ array.old }
 {
@@ -64,7 +65,8 @@ fn tell_by<A: Abi>(cif: &Cif<A>, list: MoveList, array: &mut [ToldMove]) -> Opti
 
 /// A list by the interface's standard.
 fn tell_on(p: &Prepared, list: MoveList, array: &mut [ToldMove]) -> Option<usize>
-    ensures count { SomeIff result (length (moves_by (standard_in p.now) (signature_in p.now) list) < 2 ^ 64) (length (moves_by (standard_in p.now) (signature_in p.now) list)) }
+    ensures count { IfSome result (λ n. n ≡ length (moves_by (standard_in p.now) (signature_in p.now) list)) }
+    ensures many { IfNone result (length (moves_by (standard_in p.now) (signature_in p.now) list) < 2 ^ 64 → ⊥) }
     ensures told { OnSome result (array.new ≡ told_in (moves_by (standard_in p.now) (signature_in p.now) list) array.old) }
     ensures untold { result ≡ None → array.new ≡ array.old }
 {

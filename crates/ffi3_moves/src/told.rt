@@ -3,7 +3,7 @@ ghost use Rattle.std.specs.Prelude.{◌≡◌, ◌+◌, ◌<◌, ◌≤◌, ◌^
 ghost use Rattle.std.proofs.lemmas.List.Edits.{sets};
 ghost use Rattle.ffi3_type_rules.specs.Tree.{Tree};
 ghost use Rattle.ffi3_place_rules.specs.Standard.{plan_of};
-ghost use Rattle.ffi3_moves.specs.Moves.{argument_in, argument_out, arguments_in, arguments_out, collect_moves, count_in, give_moves, hidden_in, hidden_move, load_moves, moves_of, pieces_in, pieces_out, result_in, result_out, store_moves};
+ghost use Rattle.ffi3_moves.specs.Moves.{argument_in, argument_out, arguments_in, arguments_out, collect_moves, count_in, give_moves, hidden_move, load_moves, moves_of, pieces_in, pieces_out, result_in, result_out, store_moves};
 ghost use Rattle.ffi3_moves.specs.Told.{kind_number, told_in, told_move};
 
 use crate::kinds::{exchange_at, piece_in, piece_out};

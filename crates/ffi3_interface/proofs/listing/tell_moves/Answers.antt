@@ -13,8 +13,8 @@ returns-then-not-is_kept-clause-told c =
 
 pub returns-in-Some-tell_on-clause-told : goal.returns-in-Some-tell_on-clause-told
 returns-in-Some-tell_on-clause-told c =
-    moves_told c.value_mut-kept.result.now c.in-Some.which c.deref.result.now c.tell_on.new.array c.status_of.result c.in-Some-tell_on.found (length c.args.array.now) (search rules) (sym c.list_numbered.ensures ∙ c.in-Some.is) c.deref.ensures c.in-Some-tell_on.ensures.count.1 c.in-Some-tell_on.ensures.told refl c.status_of.ensures
+    moves_told c.value_mut-kept.result.now c.in-Some.which c.deref.result.now c.tell_on.new.array c.status_of.result c.in-Some-tell_on.found (length c.args.array.now) (search rules) (sym c.list_numbered.ensures ∙ c.in-Some.is) c.deref.ensures c.in-Some-tell_on.ensures.count c.in-Some-tell_on.ensures.told refl c.status_of.ensures
 
 pub returns-in-None-clause-told : goal.returns-in-None-clause-told
 returns-in-None-clause-told c =
-    untold_as c.value_mut-kept.result.now c.in-Some.which c.deref.result.now c.tell_on.new.array (search rules) (sym c.list_numbered.ensures ∙ c.in-Some.is) c.deref.ensures c.in-None.ensures.count (c.tell_on.ensures.untold (search rules))
+    untold_as c.value_mut-kept.result.now c.in-Some.which c.deref.result.now c.tell_on.new.array (search rules) (sym c.list_numbered.ensures ∙ c.in-Some.is) c.deref.ensures c.in-None.ensures.many (c.tell_on.ensures.untold (search rules))

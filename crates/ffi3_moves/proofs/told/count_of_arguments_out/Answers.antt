@@ -1,4 +1,4 @@
-use Rattle.std.proofs.Common.{◌≡◌, ◌<◌, ◌≤◌, ◌+◌, ◌^◌, length, ap, sym, subst, ◌∙◌, refl, arith, rules}
+use Rattle.std.proofs.Common.{◌<◌, ◌≤◌, ◌^◌, length, ap, sym, subst, refl, arith}
 use Rattle.ffi3_type_rules.specs.Tree.{tree_at}
 use Rattle.ffi3_place_rules.specs.Standard.{plan_of}
 use Rattle.ffi3_place_rules.proofs.Elements.{argument_read}

@@ -1,4 +1,4 @@
-use Rattle.std.proofs.Common.{◌≡◌, ◌+◌, ◌-◌, take, map, ap, ◌∙◌, arith}
+use Rattle.std.proofs.Common.{◌≡◌, ◌+◌, ◌-◌, take, map, ap, ◌∙◌, arith, rules}
 use Rattle.std.proofs.lemmas.List.Edits.{sets}
 use Rattle.ffi3_moves.specs.Moves.{pieces_out}
 use Rattle.ffi3_moves.specs.Told.{told_move}
@@ -12,4 +12,4 @@ loop-j-init c =
 
 pub loop-j-preserved : goal.loop-j-preserved
 loop-j-preserved c =
-    piece_told_out c.args.part c.args.to c.args.at c.loop-j.j c.len-count.result c.args.pieces.now c.get.result.now c.piece_out.result c.told_move.result c.loop-j.told _ c.len-count.ensures c.loop-j-test.true c.get.ensures c.piece_out.ensures c.told_move.ensures c.loop-j.invariant
+    piece_told_out c.args.part c.args.to c.args.at c.loop-j.j c.len-count.result c.args.pieces.now c.get.result.now c.piece_out.result c.told_move.result c.loop-j.told _ c.len-count.ensures c.loop-j-test.true (search rules) c.piece_out.ensures c.told_move.ensures c.loop-j.invariant
