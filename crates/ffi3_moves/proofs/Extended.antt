@@ -4,7 +4,7 @@ use Rattle.std.proofs.Common.{◌≡◌, ℕ, suc, ◌+◌, ◌*◌, ◌<◌, �
 use Rattle.std.proofs.lemmas.Int.{to_z_pos}
 use Rattle.std.proofs.lemmas.Bool.{cases_lt}
 use Rattle.std.specs.Int.{w8, w16, w32, w64, from_le_bytes, cast_signed, cast_unsigned}
-use Rattle.ffi3_type_rules.specs.Tree.{Scalar, u8, s8, u16, s16, u32, s32, u64, s64, u128, s128, float, double, pointer, scalar}
+use Rattle.ffi3_type_rules.specs.Tree.{Scalar, u8, s8, u16, s16, u32, s32, u64, s64, u128, s128, float, double, pointer, x87, binary128, scalar}
 use Rattle.ffi3_type_rules.specs.Layout.{scalar_size}
 use Rattle.ffi3_type_rules.specs.Integer.{modulo, widened, widened_from_32}
 use Rattle.ffi3_type_rules.proofs.Widened.{read_negative}
@@ -169,6 +169,8 @@ module _ (bytes : List ℕ) (small : (k : ℕ) → get_or bytes k 0 < 256) where
   widen_filled float narrow l = cc
   widen_filled double narrow l = cc
   widen_filled pointer narrow l = cc
+  widen_filled x87 narrow l = cc
+  widen_filled binary128 narrow l = cc
 
   below_8 : from_le_bytes w8 bytes < 2 ^ 8
   below_8 = omega (arith, small 0)
@@ -190,3 +192,5 @@ module _ (bytes : List ℕ) (small : (k : ℕ) → get_or bytes k 0 < 256) where
   riscv_filled float narrow l = cc
   riscv_filled double narrow l = cc
   riscv_filled pointer narrow l = cc
+  riscv_filled x87 narrow l = cc
+  riscv_filled binary128 narrow l = cc
