@@ -18,7 +18,7 @@ use Rattle.ffi3_place_rules.specs.Sound.{IsSound, IsWhole, LiesIn, StandsIn, IsP
 use Rattle.ffi3_place_rules.proofs.Further.{each_stands}
 use Rattle.ffi3_marshal.proofs.Lawful.{any_place, any_places, each_first, each_rest}
 use Rattle.ffi3_explain_rules.specs.Arguments.{stack_end, least_stack}
-use Rattle.ffi3_transfer.specs.Places.{IsPlace, HasPlace, CanBeRead, ArgumentIsThere, ArgumentsAreReady, HiddenIsThere}
+use Rattle.ffi3_transfer.specs.Places.{IsPlace, HasPlace, CanBeRead, ArgumentsAreReady, HiddenIsThere}
 
 -- registers that the machine has
 pub registers_lie : (isa : Isa) (ls : List Loc) → AllByRecursion (LiesIn isa 0) ls → AllByRecursion (IsPlace 0) ls

@@ -1,6 +1,6 @@
 -- A result that an image owns is what is loaded from it.
 use Rattle.std.specs.Prelude.{true}
-use Rattle.std.proofs.Common.{◌≡◌, ℕ, ◌+◌, ◌≤◌, List, [], ◌∷◌, length, refl, ap, sym, ◌∙◌, subst, arith}
+use Rattle.std.proofs.Common.{◌≡◌, ℕ, ◌+◌, ◌≤◌, List, [], length, refl, ap, sym, ◌∙◌, subst, arith}
 use Rattle.std.specs.List.{AllByRecursion}
 use Rattle.ffi3_type_rules.specs.Tree.{Tree, void}
 use Rattle.ffi3_type_rules.specs.Layout.{size_of}
@@ -15,9 +15,9 @@ use Rattle.ffi3_place_rules.specs.declared.Res.TheVariants.{Nothing, Direct as D
 use Rattle.ffi3_place_rules.specs.Image.{Image}
 use Rattle.ffi3_place_rules.specs.Standard.{Standard, ResultSpot, no_result, in_result_pieces, in_buffer, plan_of, frame_of, result_at, buffer_end, frame_copies_end, round8}
 use Rattle.ffi3_place_rules.specs.Holds.{OwnsResult}
-use Rattle.ffi3_place_rules.specs.Sound.{IsSound, IsPieceOf, IsWithin, StandsIn, ResultHasAll, piece_locs, result_locs}
+use Rattle.ffi3_place_rules.specs.Sound.{IsSound, IsWithin, StandsIn, ResultHasAll, piece_locs, result_locs}
 use Rattle.ffi3_explain_rules.proofs.Pieces.{stood_is_read}
-use Rattle.ffi3_transfer.specs.Places.{CanBeRead, HasPlace}
+use Rattle.ffi3_transfer.specs.Places.{CanBeRead}
 use Rattle.ffi3_transfer.proofs.Ready.{pieces_there, places_there}
 use Rattle.ffi3_explain.proofs.Loops.{all_within}
 use Rattle.ffi3_transfer.specs.Calls.{IsLoaded, result_bytes}
