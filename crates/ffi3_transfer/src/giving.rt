@@ -92,6 +92,8 @@ pub fn give<A: Abi>(
     ensures registers { OnErr result (registers.new ≡ registers.old) }
     ensures stack { OnErr result (stack.new ≡ stack.old) }
 {
+    // its contract tells what is true of every interface
+    let _sig = placed.sig();
     let sig = placed.placed_sig();
     let ty = sig.ret();
     let wanted = ty.size();

@@ -80,6 +80,8 @@ fn store_arguments<A: Abi>(
     ensures kept { PlacesKeep A.standard.link (image_in registers.old stack.old) (image_in registers.new stack.new) placed.now.arguments (plan_of A.standard placed.now).places }
     ensures stays { Stays A.standard.link (all_uses placed.now.arguments (plan_of A.standard placed.now).places) (image_in registers.old stack.old) (image_in registers.new stack.new) }
 {
+    // its contract tells what is true of every interface
+    let _sig = placed.sig();
     let sig = placed.placed_sig();
     let base = A::LINK;
     let mut at = values.len();
