@@ -12,7 +12,7 @@ pub use ffi3_format_rules::Format;
 use ffi3_types::{NoMemory, Sig, Target};
 use resolving::{all_resolved, resolved};
 use std::alloc::Global;
-use wanting::{signature_wants_format};
+use wanting::signature_wants_format;
 
 /// The format of long double by the target's standard.
 pub fn format_of(target: Target) -> Format

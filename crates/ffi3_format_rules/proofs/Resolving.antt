@@ -14,6 +14,7 @@ use Rattle.ffi3_format_rules.specs.declared.Format.{Format}
 use Rattle.ffi3_format_rules.specs.declared.Format.TheVariants.{Double, X87, Binary128}
 use Rattle.ffi3_format_rules.specs.Format.{resolved, all_resolved, resolved_signature, kind_wants_format, wants_format, want_format, signature_wants_format, left_out_by}
 use Rattle.ffi3_format_rules.specs.Laws.{FormatLaws}
+use Rattle.ffi3_format_rules.proofs.SameFaults.{same_first}
 
 -- ---- nothing to resolve
 
@@ -182,4 +183,5 @@ format_laws = record {
   callable = callable_is_own;
   plain = plain_signature;
   narrow = placed_is_callable;
+  same_first = same_first;
 }

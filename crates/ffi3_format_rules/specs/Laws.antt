@@ -1,6 +1,7 @@
 -- What `format_laws` says of resolved signatures.
 use Rattle.std.specs.Prelude.{◌≡◌, false}
-use Rattle.ffi3_type_rules.specs.Signature.{Signature, SignatureHasNoFault, SignatureIsPlaced, HasNoLongDouble}
+use Rattle.ffi3_type_rules.specs.Signature.{Signature, SignatureFault, SignatureHasNoFault, SignatureIsPlaced}
+use Rattle.ffi3_type_rules.specs.Signature.{HasNoLongDouble, IsFirstFaultFor, IsFirstSignatureFault, for_places}
 use Rattle.ffi3_format_rules.specs.declared.Format.{Format}
 use Rattle.ffi3_format_rules.specs.declared.Format.TheVariants.{Double}
 use Rattle.ffi3_format_rules.specs.Format.{resolved_signature, signature_wants_format}
@@ -15,4 +16,9 @@ pub record FormatLaws : Type 0 where
   pub callable : (f : Format) (s : Signature) → SignatureHasNoFault s → resolved_signature f s ≡ s
   -- where a long double is a double, none of 16 bytes comes in, and so what can be placed can be called
   pub plain : (s : Signature) → HasNoLongDouble s → HasNoLongDouble (resolved_signature Double s)
-  pub narrow : (s : Signature) → HasNoLongDouble s → SignatureIsPlaced (resolved_signature Double s) → SignatureHasNoFault (resolved_signature Double s)
+  pub narrow : (s : Signature)
+      → HasNoLongDouble s → SignatureIsPlaced (resolved_signature Double s)
+      → SignatureHasNoFault (resolved_signature Double s)
+  -- a signature without long doubles of 16 bytes has the same first fault for places as for calls
+  pub same_first : (s : Signature) → HasNoLongDouble s → (f : SignatureFault) → IsFirstFaultFor for_places s f
+      → IsFirstSignatureFault s f

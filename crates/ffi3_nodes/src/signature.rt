@@ -94,14 +94,9 @@ pub fn read_signature(alloc: Global, nodes: &[Node], fixed: Option<u32>) -> Resu
         Ok(None) => {}
         Err(_) => return Err(Refused::NoMemory),
     }
-    if nodes.len() > 0xFFFF_FFFF {
-        return Err(Refused::TooLong);
-    }
-    if let Err(fault) = scan(nodes) {
-        return Err(Refused::Nodes(fault));
-    }
-    let Ok(sig) = signature(alloc, nodes, fixed) else {
-        return Err(Refused::NoMemory);
+    let sig = match told(alloc, nodes, fixed) {
+        Ok(sig) => sig,
+        Err(refused) => return Err(refused),
     };
     match check_sig(&sig) {
         Ok(()) => Ok(sig),
