@@ -11,10 +11,14 @@ use Rattle.ffi3_place_rules.specs.Sound.{place_size, IsWhole}
 use Rattle.ffi3_marshal.specs.Stored.{IsPlaceIn}
 
 -- one of 32 general registers, or of so many words of floating ones, or up to eight bytes of the stack that is there
-abbrev pub IsThere : ℕ → Image → ℕ → Loc → Type 0
-IsThere floatings m base (G r) = r < 32
-IsThere floatings m base (F r) = r < floatings
-IsThere floatings m base (S n w) = (base + n + w ≤ length m.stack) × (w ≤ 8)
+abbrev pub IsThereIn : ℕ → Image → ℕ → Loc → Type 0
+IsThereIn floatings m base (G r) = r < 32
+IsThereIn floatings m base (F r) = r < floatings
+IsThereIn floatings m base (S n w) = (base + n + w ≤ length m.stack) × (w ≤ 8)
+
+-- of an image that has one word for each of 32 floating registers
+abbrev pub IsThere : Image → ℕ → Loc → Type 0
+IsThere = IsThereIn 32
 
 -- these are the bytes of a place, and zeros behind them
 pub record AreBytesOf (base : ℕ) (m : Image) (l : Loc) (bytes : List ℕ) : Type 0 where

@@ -11,7 +11,7 @@ use Rattle.ffi3_place_rules.specs.declared.Res.TheVariants.{Hidden}
 use Rattle.ffi3_place_rules.specs.Image.{Image}
 use Rattle.ffi3_place_rules.specs.Sound.{PlaceHasAll}
 use Rattle.ffi3_marshal.specs.Stored.{IsPlaceIn}
-use Rattle.ffi3_marshal.specs.Read.{IsThere}
+use Rattle.ffi3_marshal.specs.Read.{IsThereIn}
 use Rattle.ffi3_transfer.specs.Stored.{floating_words}
 
 -- a register or a further word, or one to eight bytes of so many of the stack
@@ -20,7 +20,7 @@ IsPlace = IsPlaceIn floating_words
 
 -- the same of a place that is read, in an image
 abbrev pub HasPlace : Image → ℕ → Loc → Type 0
-HasPlace = IsThere floating_words
+HasPlace = IsThereIn floating_words
 
 -- at most eight bytes in a place that is there
 abbrev pub CanBeRead : Image → ℕ → Piece → Type 0

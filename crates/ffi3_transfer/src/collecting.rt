@@ -49,7 +49,11 @@ pub fn outside_of(
 }
 
 /// The first argument whose address points outside the stack's bytes.
-pub fn first_outside<A: Abi>(placed: &Placed<A>, registers: &Registers, stack: &[u8]) -> Option<Outside>
+pub fn first_outside<A: Abi>(
+    placed: &Placed<A>,
+    registers: &Registers,
+    stack: &[u8],
+) -> Option<Outside>
     requires { least_stack A.standard placed.now ≤ length stack.now }
     ensures { result ≡ first_outside (image_in registers.now stack.now) A.standard.link 0 placed.now.arguments (plan_of A.standard placed.now).places }
 {
@@ -118,7 +122,12 @@ fn collect_argument(
 }
 
 // The bytes of all arguments, where no address points outside.
-fn collect_arguments<A: Abi>(placed: &Placed<A>, registers: &Registers, stack: &[u8], values: &mut [u8])
+fn collect_arguments<A: Abi>(
+    placed: &Placed<A>,
+    registers: &Registers,
+    stack: &[u8],
+    values: &mut [u8],
+)
     requires long { least_stack A.standard placed.now ≤ length stack.now }
     requires inside { first_outside (image_in registers.now stack.now) A.standard.link 0 placed.now.arguments (plan_of A.standard placed.now).places ≡ None }
     requires sized { length values.old ≡ packed_size placed.now.arguments }

@@ -67,7 +67,12 @@ fn store_place(
 }
 
 // Stores all arguments.
-fn store_arguments<A: Abi>(placed: &Placed<A>, values: &[u8], registers: &mut Registers, stack: &mut [u8])
+fn store_arguments<A: Abi>(
+    placed: &Placed<A>,
+    values: &[u8],
+    registers: &mut Registers,
+    stack: &mut [u8],
+)
     requires sized { length values.now ≡ packed_size placed.now.arguments }
     requires frame { entry_bytes A.standard placed.now ≤ length stack.old }
     requires high { registers.old.sp + length stack.old < 2 ^ 64 }
