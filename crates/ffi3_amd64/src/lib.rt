@@ -463,7 +463,7 @@ fn x87_pieces(alloc: Global, ty: &CheckedType<'_>) -> Result<Pieces, NoMemory>
     requires { is_class_x87 ty.now ≡ true }
     ensures { IfOk result (λ p. p ≡ x87_pieces 0 (leaves_of ty.now)) }
 {
-    let mut pieces = Pieces::new(alloc);
+    let mut pieces = Pieces::with_capacity(alloc, 2 * ty.leaf_count() as usize)?;
     for k in 0..ty.leaf_count() {
         push_x87(&mut pieces, ty, k)?;
     }

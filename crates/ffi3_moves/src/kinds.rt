@@ -38,14 +38,14 @@ fn widening(ty: &FfiType) -> Kind
         FfiType::Float => Kind::Zero,
         FfiType::Double => Kind::Zero,
         FfiType::Pointer => Kind::Zero,
-        FfiType::X87 => Kind::Zero,
-        FfiType::Binary128 => Kind::Zero,
         FfiType::Void => Kind::Zero,
         FfiType::Struct(_) => Kind::Zero,
         FfiType::Array(_, _) => Kind::Zero,
         FfiType::LongDouble => Kind::Zero,
         FfiType::Complex => Kind::Zero,
         FfiType::Vector => Kind::Zero,
+        FfiType::X87 => Kind::Zero,
+        FfiType::Binary128 => Kind::Zero,
     }
 }
 
@@ -67,14 +67,14 @@ fn widening_from_32(ty: &FfiType) -> Kind
         FfiType::U128 => Kind::Zero,
         FfiType::Double => Kind::Zero,
         FfiType::Pointer => Kind::Zero,
-        FfiType::X87 => Kind::Zero,
-        FfiType::Binary128 => Kind::Zero,
         FfiType::Void => Kind::Zero,
         FfiType::Struct(_) => Kind::Zero,
         FfiType::Array(_, _) => Kind::Zero,
         FfiType::LongDouble => Kind::Zero,
         FfiType::Complex => Kind::Zero,
         FfiType::Vector => Kind::Zero,
+        FfiType::X87 => Kind::Zero,
+        FfiType::Binary128 => Kind::Zero,
     }
 }
 

@@ -109,7 +109,7 @@ pub fn part_of_leaf(ty: &CheckedType<'_>, i: u32, from: u32, len: u8, loc: Loc) 
 pub fn one_piece(alloc: Global, piece: Piece) -> Result<Pieces, NoMemory>
     ensures { IfOk result (λ p. p ≡ piece ∷ []) }
 {
-    let mut pieces = Pieces::new(alloc);
+    let mut pieces = Pieces::with_capacity(alloc, 1)?;
     pieces.push(piece)?;
     Ok(pieces)
 }
@@ -118,7 +118,7 @@ pub fn one_piece(alloc: Global, piece: Piece) -> Result<Pieces, NoMemory>
 pub fn two_pieces(alloc: Global, first: Piece, second: Piece) -> Result<Pieces, NoMemory>
     ensures { IfOk result (λ p. p ≡ first ∷ second ∷ []) }
 {
-    let mut pieces = Pieces::new(alloc);
+    let mut pieces = Pieces::with_capacity(alloc, 2)?;
     pieces.push(first)?;
     pieces.push(second)?;
     Ok(pieces)
@@ -132,8 +132,9 @@ pub fn stack_pieces(alloc: Global, ty: &CheckedType<'_>, start: u64) -> Result<P
     let ext = widening(ty.as_type());
     // asked for once: it is found by a walk over all elements
     let size = ty.size();
-    let mut pieces = Pieces::new(alloc);
-    for j in 0..doublewords(ty) {
+    let count = doublewords(ty);
+    let mut pieces = Pieces::with_capacity(alloc, count as usize)?;
+    for j in 0..count {
         pieces.push(doubleword(size, j, Loc::S((start + 8 * j) as u32, 8), ext))?;
     }
     Ok(pieces)
