@@ -3,10 +3,11 @@ ghost use Rattle.std.specs.Prelude.{◌≡◌, IfOk};
 ghost use Rattle.ffi3_cdecl_rules.specs.Machine.{finish, is_dead, judged, closing, settled};
 ghost use Rattle.ffi3_cdecl_rules.specs.Reading.{is_too_great};
 ghost use Rattle.ffi3_cdecl_rules.specs.OnePass.{keeping, kept, taking, new_pass};
+ghost use Rattle.ffi3_cdecl.specs.ReadingFor.{judged_for};
 ghost use Rattle.ffi3_cdecl.specs.TokenOf.{dialect_of, token_of};
 ghost use Rattle.ffi3_cdecl.specs.RoundOf.{round_of};
 ghost use Rattle.ffi3_cdecl.specs.StateOf.{settled_of, state_of, wide_of};
-ghost use Rattle.ffi3_cdecl.specs.PassOf.{pass_of, outcome_of, outcome_behind};
+ghost use Rattle.ffi3_cdecl.specs.PassOf.{pass_of, outcome_of, outcome_behind, unjudged_behind};
 
 use crate::declaration::Declaration;
 use crate::declarator::{
@@ -27,7 +28,8 @@ use crate::step::{
 };
 use crate::token::{Dialect, Token};
 use crate::words::{step_struct_tag, step_tag, step_wide_dots, step_words};
-use ffi3_types::{NoMemory, SigFault, check_sig};
+use ffi3_format::Format;
+use ffi3_types::{NoMemory, SigFault, check_placed, check_sig};
 use std::alloc::Global;
 use std::mem;
 
@@ -181,6 +183,18 @@ fn judged(d: Declaration) -> Outcome
     }
 }
 
+/// The same where long doubles have a format, if its signature can be placed.
+#[tactic(auto, using(crate::proofs::Judging::placed_is_judged, crate::proofs::Judging::placing_fault_is_judged))]
+pub fn judged_for(alloc: Global, format: Format, d: Declaration) -> Result<Outcome, NoMemory>
+    ensures { IfOk result (λ o. outcome_of o ≡ judged_for format d) }
+{
+    let d = d.resolved(alloc, format)?;
+    Ok(match check_placed(d.sig()) {
+        Ok(()) => Outcome::Reads(d),
+        Err(fault) => Outcome::BadSignature(fault),
+    })
+}
+
 /// What is declared behind the function's parameters, where no bracket is open.
 #[tactic(auto, using(crate::proofs::Settling::finish_none, crate::proofs::Settling::finish_some, crate::proofs::Settling::finish_star_none, crate::proofs::Settling::finish_star_outside, crate::proofs::Settling::finish_star_inside))]
 fn finished_closing(o: Round, d: Declaration) -> Option<Declaration>
@@ -241,9 +255,9 @@ pub fn finished(state: State) -> Option<Declaration>
     }
 }
 
-/// Behind a pass that stopped there, or at the end of the text.
-pub fn outcome_at(pass: Pass, stop: Option<usize>, end: usize) -> Outcome
-    ensures { outcome_of result ≡ outcome_behind stop end (pass_of pass) }
+/// Behind a pass that stopped there, or at the end of the text: what its text declares is not judged.
+pub fn unjudged_at(pass: Pass, stop: Option<usize>, end: usize) -> Outcome
+    ensures { outcome_of result ≡ unjudged_behind stop end (pass_of pass) }
 {
     let Pass { state, died, great } = pass;
     let declared = finished(state);
@@ -253,8 +267,18 @@ pub fn outcome_at(pass: Pass, stop: Option<usize>, end: usize) -> Outcome
     match declared {
         Some(d) => match great {
             Some(at) => Outcome::BadNumber(at),
-            None => judged(d),
+            None => Outcome::Reads(d),
         },
         None => Outcome::Unexpected(died.unwrap_or(end)),
+    }
+}
+
+/// Behind a pass that stopped there, or at the end of the text.
+pub fn outcome_at(pass: Pass, stop: Option<usize>, end: usize) -> Outcome
+    ensures { outcome_of result ≡ outcome_behind stop end (pass_of pass) }
+{
+    match unjudged_at(pass, stop, end) {
+        Outcome::Reads(d) => judged(d),
+        other => other,
     }
 }

@@ -193,6 +193,7 @@ impl Writer {
             }
             FfiType::Array(fields, _) => self.put_first_type(alloc, fields),
             FfiType::LongDouble | FfiType::Complex | FfiType::Vector => Ok(()),
+            FfiType::X87 | FfiType::Binary128 => Ok(()),
         }
     }
 

@@ -4,8 +4,8 @@ use Rattle.std.proofs.Common.{◌≡◌, ℕ, suc, ◌+◌, ◌*◌, ◌<◌, �
 use Rattle.std.proofs.lemmas.Int.{to_z_pos}
 use Rattle.std.proofs.lemmas.Bool.{cases_lt}
 use Rattle.std.specs.Int.{w8, w16, w32, w64, from_le_bytes, cast_signed, cast_unsigned}
-use Rattle.ffi3_type_rules.specs.Tree.{Scalar, u8, s8, u16, s16, u32, s32, u64, s64, u128, s128, float, double, pointer, scalar}
-use Rattle.ffi3_type_rules.specs.Layout.{scalar_size}
+use Rattle.ffi3_type_rules.specs.Tree.{Scalar, u8, s8, u16, s16, u32, s32, u64, s64, u128, s128, float, double, pointer, x87, binary128, scalar}
+use Rattle.ffi3_type_rules.specs.Layout.{scalar_room, scalar_size}
 use Rattle.ffi3_type_rules.specs.Integer.{modulo, widened, widened_from_32}
 use Rattle.ffi3_type_rules.proofs.Widened.{read_negative}
 use Rattle.ffi3_place_rules.specs.declared.Ext.TheVariants.{Widen, Riscv}
@@ -154,6 +154,24 @@ IsFilledBy bytes Zero n = from_le_bytes w64 (to_eight 0 bytes) ≡ n
 IsFilledBy bytes Sign n = from_le_bytes w64 (to_eight (sign_of bytes) bytes) ≡ n
 IsFilledBy bytes _ n = ⊥
 
+-- a narrow integer takes the bytes of its value and no more
+pub narrow_same : (s : Scalar) → is_narrow_integer (scalar s) ≡ true → scalar_room s ≡ scalar_size s
+narrow_same u8 h = refl
+narrow_same s8 h = refl
+narrow_same u16 h = refl
+narrow_same s16 h = refl
+narrow_same u32 h = refl
+narrow_same s32 h = refl
+narrow_same u64 h = cc
+narrow_same s64 h = cc
+narrow_same u128 h = cc
+narrow_same s128 h = cc
+narrow_same float h = cc
+narrow_same double h = cc
+narrow_same pointer h = cc
+narrow_same x87 h = cc
+narrow_same binary128 h = cc
+
 module _ (bytes : List ℕ) (small : (k : ℕ) → get_or bytes k 0 < 256) where
   pub widen_filled : (s : Scalar) → is_narrow_integer (scalar s) ≡ true → length bytes ≡ scalar_size s → IsFilledBy bytes (filling Widen s) (widened s bytes)
   widen_filled u8 narrow l = (zeros_1 bytes l)
@@ -169,6 +187,8 @@ module _ (bytes : List ℕ) (small : (k : ℕ) → get_or bytes k 0 < 256) where
   widen_filled float narrow l = cc
   widen_filled double narrow l = cc
   widen_filled pointer narrow l = cc
+  widen_filled x87 narrow l = cc
+  widen_filled binary128 narrow l = cc
 
   below_8 : from_le_bytes w8 bytes < 2 ^ 8
   below_8 = omega (arith, small 0)
@@ -190,3 +210,5 @@ module _ (bytes : List ℕ) (small : (k : ℕ) → get_or bytes k 0 < 256) where
   riscv_filled float narrow l = cc
   riscv_filled double narrow l = cc
   riscv_filled pointer narrow l = cc
+  riscv_filled x87 narrow l = cc
+  riscv_filled binary128 narrow l = cc

@@ -20,6 +20,7 @@ use Rattle.ffi3_place_rules.specs.Agrees.{AgreesWithMachine}
 use Rattle.ffi3_place_rules.specs.Isa.{to_list}
 use Rattle.ffi3_place_rules.specs.Holds.{Own, OwnResult, OwnsResult, FillsResult, RegisterHolds}
 use Rattle.ffi3_place_rules.specs.Sound.{AreApart, IsSound, LiesIn, ResultHasAll, piece_locs, result_locs}
+use Rattle.ffi3_place_rules.proofs.OnMachine.{IsSoundOnMachine}
 use Rattle.ffi3_marshal.specs.Standing.{PiecesStand}
 use Rattle.ffi3_marshal.specs.Stored.{IsPlace, Stays}
 use Rattle.ffi3_marshal.proofs.Arguments.{ready_all}
@@ -54,7 +55,7 @@ void_value_of (struct_value vs) out f = cc
 no_value : (t : Tree) (v : ValueTree) (out : List ℕ) → t ≡ void → fits t v ≡ true → value_in t out ≡ v
 no_value t v out e fit = subst (λ u. value_in u out ≡ v) (sym e) (void_value_of v out (subst (λ u. fits u v ≡ true) e fit))
 
-module _ (std : Standard) (s : Signature) (sound : IsSound std s) (sp : ℕ) (x : List ℕ) (are : AreBytes x) (room : frame_at + frame_of std s ≤ length x) where
+module _ (std : Standard) (s : Signature) (sound : IsSoundOnMachine std s) (sp : ℕ) (x : List ℕ) (are : AreBytes x) (room : frame_at + frame_of std s ≤ length x) where
   long : frame_at ≤ length x
   long = omega (arith, room)
 

@@ -27,7 +27,7 @@ use Rattle.ffi3_moves.specs.Exchange.{AreBytes, image_at}
 use Rattle.ffi3_moves.specs.Laws.{KeepsStubs}
 use Rattle.ffi3_moves.proofs.Bytes.{part_bytes, part_part, over_outside, over_size, over_bytes}
 use Rattle.ffi3_moves.proofs.Places.{place_fits, put_there}
-use Rattle.ffi3_moves.proofs.Extended.{IsFilledBy, eight_of_4, widen_filled, riscv_filled}
+use Rattle.ffi3_moves.proofs.Extended.{IsFilledBy, eight_of_4, narrow_same, widen_filled, riscv_filled}
 use Rattle.ffi3_moves.proofs.Filled.{AreWord, eight_word, filled_word, eight_long, eight_low, eight_are}
 
 -- ---- one after another
@@ -191,8 +191,9 @@ module _ (sp base : ℕ) (link : List ℕ) (linked : length link ≡ base) (fram
     widen_moved ext e =
         let is : bytes ≡ moved (filling Widen (scalar_of t)) frame values (at + p.off) p.len = ap (λ e. moved (filling e (scalar_of t)) frame values (at + p.off) p.len) ext in
         let alone = scalar_is t e.0 in
+        let narrow = subst (λ u. is_narrow_integer u ≡ true) alone e.0 in
         let n = widened (scalar_of t) value in
-        let word = subst (λ z. AreWord z (widened (scalar_of t) value)) (sym is) (widen_word (scalar_of t) (subst (λ u. is_narrow_integer u ≡ true) alone e.0) (sized ∙ ap size_of alone) (whole e.1 e.2)) in
+        let word = subst (λ z. AreWord z (widened (scalar_of t) value)) (sym is) (widen_word (scalar_of t) narrow (sized ∙ ap size_of alone ∙ narrow_same (scalar_of t) narrow) (whole e.1 e.2)) in
         let put = word_moved e.3 n word in
         let put_word = word_put base p.loc n bytes (image_at sp link x) (image_at sp link after) e.3 word.small word.is put.0 in
         record {
@@ -204,8 +205,9 @@ module _ (sp base : ℕ) (link : List ℕ) (linked : length link ≡ base) (fram
     riscv_moved ext e =
         let is : bytes ≡ moved (filling Riscv (scalar_of t)) frame values (at + p.off) p.len = ap (λ e. moved (filling e (scalar_of t)) frame values (at + p.off) p.len) ext in
         let alone = scalar_is t e.0 in
+        let narrow = subst (λ u. is_narrow_integer u ≡ true) alone e.0 in
         let n = widened_from_32 (scalar_of t) value in
-        let word = subst (λ z. AreWord z (widened_from_32 (scalar_of t) value)) (sym is) (riscv_word (scalar_of t) (subst (λ u. is_narrow_integer u ≡ true) alone e.0) (sized ∙ ap size_of alone) (whole e.1 e.2)) in
+        let word = subst (λ z. AreWord z (widened_from_32 (scalar_of t) value)) (sym is) (riscv_word (scalar_of t) narrow (sized ∙ ap size_of alone ∙ narrow_same (scalar_of t) narrow) (whole e.1 e.2)) in
         let put = word_moved e.3 n word in
         let put_word = word_put base p.loc n bytes (image_at sp link x) (image_at sp link after) e.3 word.small word.is put.0 in
         record {

@@ -8,6 +8,7 @@ use Rattle.ffi3_type_rules.specs.Isa.{isa_of}
 use Rattle.ffi3_type_rules.specs.Tree.{Tree}
 use Rattle.ffi3_type_rules.specs.Signature.{Signature, SignatureHasNoFault}
 use Rattle.ffi3_type_rules.proofs.Right.{argument_is_laid_out}
+use Rattle.ffi3_type_rules.proofs.Placed.{faultless_is_plain}
 use Rattle.ffi3_place_rules.specs.declared.Loc.{Loc}
 use Rattle.ffi3_place_rules.specs.declared.Loc.TheVariants.{G, F, S}
 use Rattle.ffi3_place_rules.specs.declared.Place.{Place}
@@ -113,7 +114,7 @@ module _ (std : Standard) (s : Signature) (sound : IsSound std s) (right : Signa
 
   hidden_lies : (n : ℕ) → frame_of std s ≤ n → AllByRecursion (IsPlace n) (hidden_locs (plan_of std s).res)
   hidden_lies n room =
-      let passed = each_first (LiesIn (isa_of std.target) (frame_of std s)) (argument_locs (plan_of std s)) (copy_locs s.arguments (plan_of std s).places ++ buffer_locs s.result_type (plan_of std s).res) sound.in_frame in
+      let passed = each_first (LiesIn (isa_of std.target) (frame_of std s)) (argument_locs (plan_of std s)) (copy_locs s.arguments (plan_of std s).places ++ buffer_locs s.result_type (plan_of std s).res) (sound.on_machine (faultless_is_plain s right)).in_frame in
       let hidden = each_first (LiesIn (isa_of std.target) (frame_of std s)) (hidden_locs (plan_of std s).res) (flat_map place_locs (plan_of std s).places) passed in
       more (hidden_locs (plan_of std s).res) (machine_places (isa_of std.target) (frame_of std s) (hidden_locs (plan_of std s).res) hidden)
     where

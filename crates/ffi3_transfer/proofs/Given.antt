@@ -12,6 +12,7 @@ use Rattle.ffi3_type_rules.specs.declared.Isa.{Isa}
 use Rattle.ffi3_type_rules.specs.declared.Isa.TheVariants.{Amd64, Aarch64, Riscv}
 use Rattle.ffi3_type_rules.specs.Isa.{isa_of}
 use Rattle.ffi3_type_rules.proofs.Fitting.{value_fits}
+use Rattle.ffi3_type_rules.proofs.Placed.{faultless_is_plain}
 use Rattle.ffi3_type_rules.proofs.Right.{result_is_laid_out}
 use Rattle.ffi3_place_rules.specs.declared.Loc.{Loc}
 use Rattle.ffi3_place_rules.specs.declared.Loc.TheVariants.{G, F, S}
@@ -175,7 +176,7 @@ module _ (std : Standard) (s : Signature) (sound : IsSound std s) (right : Signa
   module _ (pieces : List Piece) (is : (plan_of std s).res ≡ DirectRes pieces) where
     pub result_registers : AllByRecursion (IsPlace 0) (piece_locs pieces)
     result_registers =
-        subst (λ r. AllByRecursion (IsPlace 0) (result_locs r)) is (machine_places (isa_of std.target) 0 (result_locs (plan_of std s).res) sound.result_in_registers)
+        subst (λ r. AllByRecursion (IsPlace 0) (result_locs r)) is (machine_places (isa_of std.target) 0 (result_locs (plan_of std s).res) (sound.on_machine (faultless_is_plain s right)).result_in_registers)
 
     pub direct_given : giving_bytes std s ≤ length old.stack → old.sp + length old.stack < 2 ^ 64 → (base : ℕ) → AllByRecursion (PieceStands base new s.result_type bytes) pieces → AllByRecursion (KeepsAbove base old new) pieces → Stays base (piece_locs pieces) old new → IsGiven std s bytes old new
     direct_given room low base stand keep stays =

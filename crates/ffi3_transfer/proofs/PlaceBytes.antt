@@ -9,7 +9,8 @@ use Rattle.ffi3_place_rules.specs.declared.Res.{Res}
 use Rattle.ffi3_place_rules.specs.declared.Res.TheVariants.{Nothing, Direct as DirectRes, Hidden}
 use Rattle.ffi3_place_rules.specs.Image.{Image}
 use Rattle.ffi3_place_rules.specs.Standard.{Standard, frame_of, plan_of}
-use Rattle.ffi3_place_rules.specs.Sound.{IsSound, IsWhole, LiesIn, argument_locs, buffer_locs, copy_locs, hidden_locs, place_locs}
+use Rattle.ffi3_place_rules.specs.Sound.{IsWhole, LiesIn, argument_locs, buffer_locs, copy_locs, hidden_locs, place_locs}
+use Rattle.ffi3_place_rules.proofs.OnMachine.{IsSoundOnMachine}
 use Rattle.ffi3_explain_rules.specs.Arguments.{stack_end}
 use Rattle.ffi3_explain.specs.Places.{HasPlace, HiddenIsThere}
 use Rattle.ffi3_explain.proofs.Ready.{places_reached}
@@ -24,7 +25,7 @@ place_lies m base (F r) low whole there = there
 place_lies m base (S n w) low whole there = (omega (arith, there.0), omega (arith, whole), there.1)
 
 -- the place of a hidden result's address is there, where the stack reaches so far
-pub hidden_there : (std : Standard) (s : Signature) → IsSound std s → (m : Image) (base : ℕ) (at : Loc) (buffer : ℕ) → (plan_of std s).res ≡ Hidden at buffer → base + stack_end (hidden_locs (plan_of std s).res) ≤ length m.stack → HasPlace m base at
+pub hidden_there : (std : Standard) (s : Signature) → IsSoundOnMachine std s → (m : Image) (base : ℕ) (at : Loc) (buffer : ℕ) → (plan_of std s).res ≡ Hidden at buffer → base + stack_end (hidden_locs (plan_of std s).res) ≤ length m.stack → HasPlace m base at
 hidden_there std s sound m base at buffer is room =
     let passed = each_first (LiesIn (isa_of std.target) (frame_of std s)) (argument_locs (plan_of std s)) (copy_locs s.arguments (plan_of std s).places ++ buffer_locs s.result_type (plan_of std s).res) sound.in_frame in
     let lie = each_first (LiesIn (isa_of std.target) (frame_of std s)) (hidden_locs (plan_of std s).res) (flat_map place_locs (plan_of std s).places) passed in

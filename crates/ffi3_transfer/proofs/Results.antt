@@ -16,6 +16,7 @@ use Rattle.ffi3_place_rules.specs.Image.{Image}
 use Rattle.ffi3_place_rules.specs.Standard.{Standard, ResultSpot, no_result, in_result_pieces, in_buffer, plan_of, frame_of, result_at, buffer_end, frame_copies_end, round8}
 use Rattle.ffi3_place_rules.specs.Holds.{OwnsResult}
 use Rattle.ffi3_place_rules.specs.Sound.{IsSound, IsPieceOf, IsWithin, LiesIn, ResultHasAll, piece_locs, result_locs}
+use Rattle.ffi3_place_rules.proofs.OnMachine.{IsSoundOnMachine}
 use Rattle.ffi3_explain_rules.proofs.Pieces.{stood_is_read}
 use Rattle.ffi3_explain.specs.Places.{CanBeRead, HasPlace}
 use Rattle.ffi3_explain.proofs.Ready.{places_there}
@@ -41,7 +42,7 @@ pieces_there : (m : Image) (base : ℕ) (t : Tree) (ps : List Piece) → AllByRe
 pieces_there m base t [] parts there = tt
 pieces_there m base t (p ∷ ps) parts there = ((there.0, parts.0.short), pieces_there m base t ps parts.1 there.1)
 
-module _ (std : Standard) (s : Signature) (sound : IsSound std s) (pieces : List Piece) (is : (plan_of std s).res ≡ DirectRes pieces) where
+module _ (std : Standard) (s : Signature) (sound : IsSoundOnMachine std s) (pieces : List Piece) (is : (plan_of std s).res ≡ DirectRes pieces) where
   has_all : ResultHasAll s.result_type (DirectRes pieces)
   has_all = subst (ResultHasAll s.result_type) is sound.result_has_all
 

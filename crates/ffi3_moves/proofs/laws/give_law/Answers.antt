@@ -1,4 +1,6 @@
 use Rattle.std.proofs.Common.{arith}
+use Rattle.ffi3_type_rules.proofs.Placed.{faultless_is_plain}
+use Rattle.ffi3_place_rules.proofs.OnMachine.{as_before}
 use Rattle.ffi3_moves.proofs.Returning.{returned}
 use Rattle.ffi3_moves.proofs.laws.give_law.Goals as goal
 
@@ -6,4 +8,4 @@ pub returns : goal.returns
 returns g c =
     let std = g.A.Abi.standard in
     let s = c.args.cif.now in
-    returned std s (g.met.A.Abi.sound s) c.args._sp c.args._exchange.now (λ k. omega (arith, c.type_inv._exchange k)) c.requires.room c.sig-sig.ensures.faultless g.met.A.Abi.agrees c.args._result.now (λ k. omega (arith, c.type_inv._result k)) c.requires.result c.requires.high c.requires.in_buffer
+    returned std s (as_before std s (g.met.A.Abi.sound s) (faultless_is_plain s c.sig-sig.ensures.faultless)) c.args._sp c.args._exchange.now (λ k. omega (arith, c.type_inv._exchange k)) c.requires.room c.sig-sig.ensures.faultless g.met.A.Abi.agrees c.args._result.now (λ k. omega (arith, c.type_inv._result k)) c.requires.result c.requires.high c.requires.in_buffer

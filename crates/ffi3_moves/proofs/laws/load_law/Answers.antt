@@ -1,4 +1,6 @@
 use Rattle.std.proofs.Common.{arith}
+use Rattle.ffi3_type_rules.proofs.Placed.{faultless_is_plain}
+use Rattle.ffi3_place_rules.proofs.OnMachine.{as_before}
 use Rattle.ffi3_moves.proofs.Returning.{loaded}
 use Rattle.ffi3_moves.proofs.laws.load_law.Goals as goal
 
@@ -6,4 +8,4 @@ pub returns : goal.returns
 returns g c v own =
     let std = g.A.Abi.standard in
     let s = c.args.cif.now in
-    loaded std s (g.met.A.Abi.sound s) c.args._sp c.args._exchange.now (λ k. omega (arith, c.type_inv._exchange k)) c.requires.room v c.args._result.now c.requires.result own
+    loaded std s (as_before std s (g.met.A.Abi.sound s) (faultless_is_plain s c.sig-sig.ensures.faultless)) c.args._sp c.args._exchange.now (λ k. omega (arith, c.type_inv._exchange k)) c.requires.room v c.args._result.now c.requires.result own

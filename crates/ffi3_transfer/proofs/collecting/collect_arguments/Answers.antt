@@ -1,6 +1,8 @@
 use Rattle.std.proofs.Common.{◌≡◌, ◌+◌, ◌-◌, ◌<◌, ◌++◌, take, drop, length, ap, sym, ◌∙◌, subst, arith}
 use Rattle.ffi3_type_rules.specs.Layout.{size_of, least_multiple}
+use Rattle.ffi3_type_rules.proofs.Placed.{faultless_is_plain}
 use Rattle.ffi3_place_rules.specs.Standard.{plan_of, round8}
+use Rattle.ffi3_place_rules.proofs.OnMachine.{as_before}
 use Rattle.ffi3_explain_rules.specs.Arguments.{outside_of, value_by_standard}
 use Rattle.ffi3_explain.proofs.Ready.{reached}
 use Rattle.ffi3_type_rules.specs.Tree.{tree_at}
@@ -46,7 +48,7 @@ collect_argument-requires-clause-there g c =
     let m = image_in c.args.registers.now c.args.stack.now in
     let below : c.loop-i.i - 1 < length c.args.cif.now.arguments = omega (arith, c.count-i.ensures.value, ap (λ r. length r.arguments) c.checked_sig-sig.ensures.value) in
     let here = at_argument s.arguments _ ps (c.loop-i.i - 1) c.arg-ty.result c.place.result.now (ap (λ r. r.arguments) c.checked_sig-sig.ensures.value) below c.arg-ty.ensures c.place.ensures in
-    (ready_at m c.LINK-base.result (c.loop-i.i - 1) s.arguments ps c.arg-ty.result c.place.result.now here.types here.places (reached std s (g.met.A.Abi.sound s) m c.LINK-base.result (c.LINK-base.ensures ∙ sym g.met.A.Abi.link_is) c.requires.long)).0
+    (ready_at m c.LINK-base.result (c.loop-i.i - 1) s.arguments ps c.arg-ty.result c.place.result.now here.types here.places (reached std s (as_before std s (g.met.A.Abi.sound s) (faultless_is_plain s c.checked_sig-sig.ensures.faultless)) m c.LINK-base.result (c.LINK-base.ensures ∙ sym g.met.A.Abi.link_is) c.requires.long)).0
 
 pub collect_argument-requires-clause-has_all : goal.collect_argument-requires-clause-has_all
 collect_argument-requires-clause-has_all g c =
@@ -56,7 +58,7 @@ collect_argument-requires-clause-has_all g c =
     let m = image_in c.args.registers.now c.args.stack.now in
     let below : c.loop-i.i - 1 < length c.args.cif.now.arguments = omega (arith, c.count-i.ensures.value, ap (λ r. length r.arguments) c.checked_sig-sig.ensures.value) in
     let here = at_argument s.arguments _ ps (c.loop-i.i - 1) c.arg-ty.result c.place.result.now (ap (λ r. r.arguments) c.checked_sig-sig.ensures.value) below c.arg-ty.ensures c.place.ensures in
-    (ready_at m c.LINK-base.result (c.loop-i.i - 1) s.arguments ps c.arg-ty.result c.place.result.now here.types here.places (reached std s (g.met.A.Abi.sound s) m c.LINK-base.result (c.LINK-base.ensures ∙ sym g.met.A.Abi.link_is) c.requires.long)).1
+    (ready_at m c.LINK-base.result (c.loop-i.i - 1) s.arguments ps c.arg-ty.result c.place.result.now here.types here.places (reached std s (as_before std s (g.met.A.Abi.sound s) (faultless_is_plain s c.checked_sig-sig.ensures.faultless)) m c.LINK-base.result (c.LINK-base.ensures ∙ sym g.met.A.Abi.link_is) c.requires.long)).1
 
 pub collect_argument-requires-clause-inside : goal.collect_argument-requires-clause-inside
 collect_argument-requires-clause-inside g c =

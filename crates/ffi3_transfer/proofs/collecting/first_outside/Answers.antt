@@ -1,6 +1,8 @@
 use Rattle.std.specs.Prelude.{Some}
 use Rattle.std.proofs.Common.{◌≡◌, ◌<◌, length, ap, sym, ◌∙◌, subst, refl, arith}
+use Rattle.ffi3_type_rules.proofs.Placed.{faultless_is_plain}
 use Rattle.ffi3_place_rules.specs.Standard.{plan_of}
+use Rattle.ffi3_place_rules.proofs.OnMachine.{as_before}
 use Rattle.ffi3_explain.proofs.Ready.{reached}
 use Rattle.ffi3_explain_rules.specs.Arguments.{first_outside}
 use Rattle.ffi3_transfer.specs.Stored.{image_in}
@@ -11,7 +13,7 @@ pub loop-i-init : goal.loop-i-init
 loop-i-init g c =
     let std = g.A.Abi.standard in
     let s = c.args.cif.now in
-    record { same = refl; ready = reached std s (g.met.A.Abi.sound s) (image_in c.args.registers.now c.args.stack.now) c.LINK-base.result (c.LINK-base.ensures ∙ sym g.met.A.Abi.link_is) c.requires }
+    record { same = refl; ready = reached std s (as_before std s (g.met.A.Abi.sound s) (faultless_is_plain s c.checked_sig-sig.ensures.faultless)) (image_in c.args.registers.now c.args.stack.now) c.LINK-base.result (c.LINK-base.ensures ∙ sym g.met.A.Abi.link_is) c.requires }
 
 pub outside_of-requires : goal.outside_of-requires
 outside_of-requires g c =

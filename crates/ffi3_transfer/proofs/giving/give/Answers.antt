@@ -2,11 +2,13 @@ use Rattle.std.specs.Prelude.{nat_le, true}
 use Rattle.std.proofs.Common.{◌≡◌, ◌+◌, ◌-◌, ◌^◌, ◌<◌, ◌≤◌, length, ap, sym, ◌∙◌, subst, arith}
 use Rattle.ffi3_type_rules.specs.Layout.{size_of}
 use Rattle.ffi3_type_rules.specs.Isa.{isa_of}
+use Rattle.ffi3_type_rules.proofs.Placed.{faultless_is_plain}
 use Rattle.ffi3_place_rules.specs.declared.Place.TheVariants.{Direct}
 use Rattle.ffi3_place_rules.specs.Image.{word_at}
 use Rattle.ffi3_place_rules.specs.Sound.{hidden_locs}
 use Rattle.ffi3_place_rules.specs.Isa.{to_list}
 use Rattle.ffi3_place_rules.specs.Standard.{plan_of}
+use Rattle.ffi3_place_rules.proofs.OnMachine.{as_before}
 use Rattle.ffi3_place_rules.proofs.Tests.{and_left}
 use Rattle.ffi3_marshal.specs.Standing.{PiecesStand}
 use Rattle.ffi3_marshal.proofs.Arguments.{lies_more}
@@ -54,7 +56,7 @@ returns-in-Direct-clause-ok g c =
 pub place_word-address-requires : goal.place_word-address-requires
 place_word-address-requires g c =
     let room : c.LINK-base.result + stack_end (hidden_locs (plan_of g.A.Abi.standard c.args.cif.now).res) ≤ length c.args.stack.now = omega (arith, c.if-stack-least.false, c.hidden_end.ensures.value, ap (λ r. stack_end (hidden_locs r)) c.result_place.ensures) in
-    hidden_there g.A.Abi.standard c.args.cif.now (g.met.A.Abi.sound c.args.cif.now) (image_in c.args.registers.now c.args.stack.now) c.LINK-base.result c.in-Hidden.at c.in-Hidden.buffer (sym c.result_place-2.ensures ∙ c.in-Hidden.is) room
+    hidden_there g.A.Abi.standard c.args.cif.now (as_before g.A.Abi.standard c.args.cif.now (g.met.A.Abi.sound c.args.cif.now) (faultless_is_plain c.args.cif.now c.checked_sig-sig.ensures.faultless)) (image_in c.args.registers.now c.args.stack.now) c.LINK-base.result c.in-Hidden.at c.in-Hidden.buffer (sym c.result_place-2.ensures ∙ c.in-Hidden.is) room
 
 pub returns-in-Some-clause-ok : goal.returns-in-Some-clause-ok
 returns-in-Some-clause-ok g c =

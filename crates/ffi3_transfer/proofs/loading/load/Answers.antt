@@ -1,6 +1,8 @@
 use Rattle.std.proofs.Common.{◌≡◌, length, ap, sym, ◌∙◌, arith}
 use Rattle.ffi3_type_rules.specs.Layout.{size_of}
+use Rattle.ffi3_type_rules.proofs.Placed.{faultless_is_plain}
 use Rattle.ffi3_place_rules.specs.declared.Res.TheVariants.{Direct}
+use Rattle.ffi3_place_rules.proofs.OnMachine.{as_before}
 use Rattle.ffi3_explain_rules.specs.Explain.{first_bytes}
 use Rattle.ffi3_transfer.specs.Stored.{image_in}
 use Rattle.ffi3_transfer.proofs.Results.{buffer_within, result_there, result_within, is_loaded}
@@ -9,13 +11,13 @@ use Rattle.ffi3_transfer.proofs.loading.load.Goals as goal
 pub read_pieces-requires-clause-there : goal.read_pieces-requires-clause-there
 read_pieces-requires-clause-there g c =
     let s = c.args.cif.now in
-    result_there g.A.Abi.standard s (g.met.A.Abi.sound s) c.in-Direct.pieces (sym c.result_place.ensures ∙ c.in-Direct.is) (image_in c.args.registers.now c.args.stack.now)
+    result_there g.A.Abi.standard s (as_before g.A.Abi.standard s (g.met.A.Abi.sound s) (faultless_is_plain s c.sig-sig.ensures.faultless)) c.in-Direct.pieces (sym c.result_place.ensures ∙ c.in-Direct.is) (image_in c.args.registers.now c.args.stack.now)
 
 pub read_pieces-requires-clause-within : goal.read_pieces-requires-clause-within
 read_pieces-requires-clause-within g c =
     let s = c.args.cif.now in
     let sized : length c.args.out.now ≡ size_of s.result_type = omega (arith, c.if-out-wanted.false, c.size-wanted.ensures.value, ap size_of c.ret.ensures, ap (λ r. size_of r.result_type) c.checked_sig.ensures.value) in
-    result_within g.A.Abi.standard s (g.met.A.Abi.sound s) c.in-Direct.pieces (sym c.result_place.ensures ∙ c.in-Direct.is) (length c.args.out.now) sized
+    result_within g.A.Abi.standard s (as_before g.A.Abi.standard s (g.met.A.Abi.sound s) (faultless_is_plain s c.sig-sig.ensures.faultless)) c.in-Direct.pieces (sym c.result_place.ensures ∙ c.in-Direct.is) (length c.args.out.now) sized
 
 pub slice_bounds-copy_from_slice-end : goal.slice_bounds-copy_from_slice-end
 slice_bounds-copy_from_slice-end g c =

@@ -1,7 +1,9 @@
 use Rattle.std.proofs.Common.{◌≡◌, ◌+◌, ◌<◌, ◌≤◌, ◌^◌, length, sym, ◌∙◌, subst, arith}
 use Rattle.std.specs.List.{AllByRecursion}
+use Rattle.ffi3_type_rules.proofs.Placed.{faultless_is_plain}
 use Rattle.ffi3_place_rules.specs.Sound.{IsWhole, hidden_locs}
 use Rattle.ffi3_place_rules.specs.Standard.{frame_of}
+use Rattle.ffi3_place_rules.proofs.OnMachine.{as_before}
 use Rattle.ffi3_explain.specs.Places.{HiddenIsThere}
 use Rattle.ffi3_explain.proofs.Ready.{result_ready}
 use Rattle.ffi3_transfer.specs.Stored.{image_in}
@@ -16,7 +18,7 @@ store_hidden-requires-clause-there g c =
     let base_is : c.LINK-base.result ≡ std.link = c.LINK-base.ensures ∙ sym g.met.A.Abi.link_is in
     let room : c.LINK-base.result + frame_of std s ≤ length c.store_arguments.new.stack = omega (arith, c.frame.ensures, c.if-stack-wanted.false, c.store_arguments.ensures.stays.size) in
     let high : c.store_arguments.new.registers.sp + c.LINK-base.result + frame_of std s < 2 ^ 64 = omega (arith, c.if-registers-stack.false, c.store_arguments.ensures.stays.size, c.store_arguments.ensures.stays.sp, room) in
-    subst (HiddenIsThere m c.LINK-base.result) (sym c.result_place.ensures) (result_ready std s (g.met.A.Abi.sound s) m c.LINK-base.result room high)
+    subst (HiddenIsThere m c.LINK-base.result) (sym c.result_place.ensures) (result_ready std s (as_before std s (g.met.A.Abi.sound s) (faultless_is_plain s c.sig-sig.ensures.faultless)) m c.LINK-base.result room high)
 
 pub store_hidden-requires-clause-whole : goal.store_hidden-requires-clause-whole
 store_hidden-requires-clause-whole g c =
