@@ -58,12 +58,7 @@ fn outcome(alloc: Global, r: Dialect, c: Sign, text: &str) -> Result<Outcome, No
 }
 
 /// What the text is read as where long doubles have a format.
-fn outcome_for(
-    alloc: Global,
-    format: Format,
-    c: Sign,
-    text: &str,
-) -> Result<Outcome, NoMemory>
+fn outcome_for(alloc: Global, format: Format, c: Sign, text: &str) -> Result<Outcome, NoMemory>
     ensures { IfOk result (λ o. outcome_of o ≡ read_for format (sign_of c) text.now) }
 {
     let bytes = text.as_bytes();
