@@ -13,3 +13,5 @@ pub mod Comments
 pub mod Following
 pub mod Attributes
 pub mod Marks
+pub mod Outcomes
+pub mod ForFormat

@@ -28,7 +28,7 @@ outcome_behind (Some at) end p = reading.bad_token at
 outcome_behind None end p = pass.outcome_at end p
 
 -- the same where no declaration is judged
-abbrev unjudged : Declaration → Option ℕ → reading.Outcome
+abbrev pub unjudged : Declaration → Option ℕ → reading.Outcome
 unjudged d None = reading.reads d
 unjudged d (Some at) = reading.bad_number at
 

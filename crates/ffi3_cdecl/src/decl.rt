@@ -49,7 +49,6 @@ fn run_over(
 }
 
 /// What the text is read as.
-#[tactic(auto, using(crate::proofs::Turns::computed))]
 fn outcome(alloc: Global, r: Dialect, c: Sign, text: &str) -> Result<Outcome, NoMemory>
     ensures { IfOk result (λ o. outcome_of o ≡ read_in (dialect_of r) (sign_of c) text.now) }
 {
@@ -59,19 +58,17 @@ fn outcome(alloc: Global, r: Dialect, c: Sign, text: &str) -> Result<Outcome, No
 }
 
 /// What the text is read as where long doubles have a format.
-fn outcome_for(
-    alloc: Global,
-    format: Format,
-    c: Sign,
-    text: &str,
-) -> Result<Outcome, NoMemory>
+fn outcome_for(alloc: Global, format: Format, c: Sign, text: &str) -> Result<Outcome, NoMemory>
     ensures { IfOk result (λ o. outcome_of o ≡ read_for format (sign_of c) text.now) }
 {
     let bytes = text.as_bytes();
     let (pass, stop) = run_over(alloc, Dialect::Wide, c, bytes)?;
     match unjudged_at(pass, stop, bytes.len()) {
         Outcome::Reads(d) => judged_for(alloc, format, d),
-        other => Ok(other),
+        Outcome::BadToken(at) => Ok(Outcome::BadToken(at)),
+        Outcome::Unexpected(at) => Ok(Outcome::Unexpected(at)),
+        Outcome::BadNumber(at) => Ok(Outcome::BadNumber(at)),
+        Outcome::BadSignature(fault) => Ok(Outcome::BadSignature(fault)),
     }
 }
 
@@ -114,6 +111,7 @@ pub fn read_wide_decl(alloc: Global, char_sign: Sign, text: &str) -> Result<Decl
 
 /// Reads a declaration of a function as people write it, where long doubles have this format: the wide reading, whose
 /// signature is one that can be placed, or has this first fault.
+#[tactic(auto, using(crate::proofs::ForFormat::is_reading_for))]
 pub fn read_decl_for(
     alloc: Global,
     format: Format,

@@ -274,11 +274,15 @@ pub fn unjudged_at(pass: Pass, stop: Option<usize>, end: usize) -> Outcome
 }
 
 /// Behind a pass that stopped there, or at the end of the text.
+#[tactic(auto, using(crate::proofs::Outcomes::judged_behind, crate::proofs::Outcomes::number_behind, crate::proofs::Outcomes::token_behind, crate::proofs::Outcomes::place_behind, crate::proofs::Outcomes::signature_behind))]
 pub fn outcome_at(pass: Pass, stop: Option<usize>, end: usize) -> Outcome
     ensures { outcome_of result ≡ outcome_behind stop end (pass_of pass) }
 {
     match unjudged_at(pass, stop, end) {
         Outcome::Reads(d) => judged(d),
-        other => other,
+        Outcome::BadToken(at) => Outcome::BadToken(at),
+        Outcome::Unexpected(at) => Outcome::Unexpected(at),
+        Outcome::BadNumber(at) => Outcome::BadNumber(at),
+        Outcome::BadSignature(fault) => Outcome::BadSignature(fault),
     }
 }
