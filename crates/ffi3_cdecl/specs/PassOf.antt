@@ -40,6 +40,14 @@ abbrev pub unjudged_behind : Option ℕ → ℕ → pass.Pass → reading.Outcom
 unjudged_behind (Some at) end p = reading.bad_token at
 unjudged_behind None end p = unjudged_by end p (finish p.state)
 
+-- and a declaration is judged so
+abbrev pub judged_by : (Declaration → reading.Outcome) → reading.Outcome → reading.Outcome
+judged_by judge (reading.reads d) = judge d
+judged_by judge (reading.bad_token at) = reading.bad_token at
+judged_by judge (reading.unexpected at) = reading.unexpected at
+judged_by judge (reading.bad_number at) = reading.bad_number at
+judged_by judge (reading.bad_signature f) = reading.bad_signature f
+
 -- ---- a pass over bytes, and where it stopped
 
 abbrev pub pass_on : Dialect → Found → ℕ → pass.Pass → (ℕ → pass.Pass → pass.Pass × Option ℕ) → pass.Pass × Option ℕ

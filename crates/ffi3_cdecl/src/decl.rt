@@ -5,14 +5,17 @@ ghost use Rattle.ffi3_cdecl_rules.specs.Tokens.{wide};
 ghost use Rattle.ffi3_cdecl_rules.specs.Reading.{IsReading, IsReadingIn, reads};
 ghost use Rattle.ffi3_cdecl_rules.specs.OnePass.{new_pass};
 ghost use Rattle.ffi3_type_rules.specs.Signature.{SignatureIsPlaced};
+ghost use Rattle.ffi3_format_rules.specs.Format.{resolved_signature};
 ghost use Rattle.ffi3_cdecl.specs.PassOf.{pass_of, outcome_of, pass_over};
-ghost use Rattle.ffi3_cdecl.specs.ReadingFor.{IsReadingFor, read_for};
+ghost use Rattle.ffi3_cdecl.specs.ReadingFor.{IsReadingEverywhere, IsReadingFor, read_everywhere, read_for};
 ghost use Rattle.ffi3_cdecl.specs.Tells.{Tells};
 ghost use Rattle.ffi3_cdecl.specs.TokenOf.{dialect_of, sign_of};
 
 use crate::declaration::Declaration;
 use crate::fault::DeclFault;
-use crate::read::{Outcome, Pass, judged_for, outcome_at, taking, unjudged_at};
+use crate::read::{
+    Outcome, Pass, outcome_at, outcome_everywhere, outcome_for, taking, unjudged_at,
+};
 use crate::token::{Dialect, Found, Sign, found_in};
 use ffi3_format::Format;
 use ffi3_types::NoMemory;
@@ -49,6 +52,7 @@ fn run_over(
 }
 
 /// What the text is read as.
+#[tactic(auto, using(crate::proofs::Passes::computed))]
 fn outcome(alloc: Global, r: Dialect, c: Sign, text: &str) -> Result<Outcome, NoMemory>
     ensures { IfOk result (λ o. outcome_of o ≡ read_in (dialect_of r) (sign_of c) text.now) }
 {
@@ -58,18 +62,23 @@ fn outcome(alloc: Global, r: Dialect, c: Sign, text: &str) -> Result<Outcome, No
 }
 
 /// What the text is read as where long doubles have a format.
-fn outcome_for(alloc: Global, format: Format, c: Sign, text: &str) -> Result<Outcome, NoMemory>
+#[tactic(auto, using(crate::proofs::Passes::computed_by, crate::proofs::Judging::same_judged_for))]
+fn text_for(alloc: Global, format: Format, c: Sign, text: &str) -> Result<Outcome, NoMemory>
     ensures { IfOk result (λ o. outcome_of o ≡ read_for format (sign_of c) text.now) }
 {
     let bytes = text.as_bytes();
     let (pass, stop) = run_over(alloc, Dialect::Wide, c, bytes)?;
-    match unjudged_at(pass, stop, bytes.len()) {
-        Outcome::Reads(d) => judged_for(alloc, format, d),
-        Outcome::BadToken(at) => Ok(Outcome::BadToken(at)),
-        Outcome::Unexpected(at) => Ok(Outcome::Unexpected(at)),
-        Outcome::BadNumber(at) => Ok(Outcome::BadNumber(at)),
-        Outcome::BadSignature(fault) => Ok(Outcome::BadSignature(fault)),
-    }
+    outcome_for(alloc, format, unjudged_at(pass, stop, bytes.len()))
+}
+
+/// What it is read as whatever format they have.
+#[tactic(auto, using(crate::proofs::Passes::computed_by, crate::proofs::Judging::same_judged_everywhere))]
+fn text_everywhere(alloc: Global, c: Sign, text: &str) -> Result<Outcome, NoMemory>
+    ensures { IfOk result (λ o. outcome_of o ≡ read_everywhere (sign_of c) text.now) }
+{
+    let bytes = text.as_bytes();
+    let (pass, stop) = run_over(alloc, Dialect::Wide, c, bytes)?;
+    outcome_everywhere(alloc, unjudged_at(pass, stop, bytes.len()))
 }
 
 /// Reads a declaration of a function, all of the text (C11 6.7, with the words and marks of 6.4): the one reading that
@@ -111,7 +120,7 @@ pub fn read_wide_decl(alloc: Global, char_sign: Sign, text: &str) -> Result<Decl
 
 /// Reads a declaration of a function as people write it, where long doubles have this format: the wide reading, whose
 /// signature is one that can be placed, or has this first fault.
-#[tactic(auto, using(crate::proofs::ForFormat::is_reading_for))]
+#[tactic(auto, using(crate::proofs::Judging::is_reading_for))]
 pub fn read_decl_for(
     alloc: Global,
     format: Format,
@@ -124,7 +133,29 @@ pub fn read_decl_for(
     ensures computed { IfOk result (λ d. reads d ≡ read_for format (sign_of char_sign) text.now) }
     ensures refused { IfErr result (λ e. Tells (λ o. o ≡ read_for format (sign_of char_sign) text.now) e) }
 {
-    match outcome_for(alloc, format, char_sign, text)? {
+    match text_for(alloc, format, char_sign, text)? {
+        Outcome::Reads(d) => Ok(d),
+        Outcome::BadToken(at) => Err(DeclFault::BadToken { at: at as u64 }),
+        Outcome::Unexpected(at) => Err(DeclFault::Unexpected { at: at as u64 }),
+        Outcome::BadNumber(at) => Err(DeclFault::BadNumber { at: at as u64 }),
+        Outcome::BadSignature(fault) => Err(DeclFault::Sig(fault)),
+    }
+}
+
+/// Reads a declaration of a function as people write it, for every target: the wide reading, whose signature is one
+/// that can be placed, whatever format long doubles have, or has this first fault. It is handed back as it is written.
+#[tactic(auto, using(crate::proofs::Judging::is_reading_everywhere))]
+pub fn read_decl_everywhere(
+    alloc: Global,
+    char_sign: Sign,
+    text: &str,
+) -> Result<Declaration, DeclFault>
+    ensures ok { IfOk result (λ d. IsReadingEverywhere (sign_of char_sign) text.now (reads d)) }
+    ensures err { IfErr result (λ e. Tells (IsReadingEverywhere (sign_of char_sign) text.now) e) }
+    ensures computed { IfOk result (λ d. reads d ≡ read_everywhere (sign_of char_sign) text.now) }
+    ensures refused { IfErr result (λ e. Tells (λ o. o ≡ read_everywhere (sign_of char_sign) text.now) e) }
+{
+    match text_everywhere(alloc, char_sign, text)? {
         Outcome::Reads(d) => Ok(d),
         Outcome::BadToken(at) => Err(DeclFault::BadToken { at: at as u64 }),
         Outcome::Unexpected(at) => Err(DeclFault::Unexpected { at: at as u64 }),
