@@ -1,19 +1,33 @@
 -- What a prototype calls its parameters, of an input that is read: one list of names.
-use Rattle.std.proofs.Common.{◌≡◌, ◌∙◌, ℕ, List, [], refl, sym}
+use Rattle.std.proofs.Common.{◌≡◌, ◌∙◌, ℕ, List, [], refl, sym, subst}
 use Rattle.ffi3_cdecl_rules.specs.Tokens.{signed}
 use Rattle.ffi3_cdecl_rules.specs.Grammar.{Declaration}
-use Rattle.ffi3_cdecl_rules.specs.Reading.{reads, bad_token, unexpected, bad_number, bad_signature}
+use Rattle.ffi3_cdecl_rules.specs.Reading.{Outcome, reads, bad_token, unexpected, bad_number, bad_signature}
 use Rattle.ffi3_cdecl_rules.specs.Prototype.{read_as, sign_unsaid}
 use Rattle.ffi3_cdecl_rules.proofs.Prototypes.{read_either}
-use Rattle.ffi3_names_rules.specs.Names.{AreNames}
+use Rattle.ffi3_cdecl.specs.ReadingFor.{IsReadingEverywhere, IsJudgedEverywhere, placed_everywhere, faulty_somewhere, has_bad_token, has_unexpected, has_bad_number, is_judged}
+use Rattle.ffi3_names_rules.specs.Names.{AreNames, are_names, declaration_names}
 use Rattle.ffi3_names_rules.specs.Scan.{names_in}
 use Rattle.ffi3_names_rules.proofs.Naming.{name_laws}
 use Rattle.ffi3_app.specs.Declarations.{Input, too_many_bytes, not_utf8, a_text, IsReadWidely}
 use Rattle.ffi3_app.specs.Outcome.{HasNames}
 
+declared_names : (bytes : List ℕ) (d e : Declaration) (o : Outcome) → IsJudgedEverywhere d o → o ≡ reads e → d ≡ e
+declared_names bytes d e _ (placed_everywhere right) same = cc same
+declared_names bytes d e _ (faulty_somewhere first) same = cc
+
+called_by : (bytes : List ℕ) (d : Declaration) (o : Outcome) → IsReadingEverywhere signed bytes o → o ≡ reads d → AreNames signed bytes d (names_in signed bytes)
+called_by bytes d _ (has_bad_token e) same = cc
+called_by bytes d _ (has_unexpected start rest e u) same = cc
+called_by bytes d _ (has_bad_number e p f) same = cc
+called_by bytes d _ (is_judged {d = x} {o = o} e p f is) same =
+    let these : AreNames signed bytes x (declaration_names p) = are_names e p in
+    let Q = λ (y : Declaration). AreNames signed bytes y (names_in signed bytes) in
+    subst Q (declared_names bytes x d o is same) (subst (AreNames signed bytes x) (name_laws.one_list signed bytes x (declaration_names p) these) these)
+
 pub are_called : (bytes : List ℕ) (d : Declaration) → IsReadWidely bytes (a_text (read_as (reads d))) → AreNames signed bytes d (names_in signed bytes)
 are_called bytes d (short, utf8, is) =
-    name_laws.found_in_one_pass signed bytes d (read_either bytes d is signed)
+    called_by bytes d (reads d) (read_either (λ c o. IsReadingEverywhere c bytes o) d is signed) refl
 
 pub some_names : (bytes : List ℕ) (i : Input) → IsReadWidely bytes i → (ns : List (List ℕ)) × HasNames bytes i ns
 some_names bytes too_many_bytes is = ([], refl)

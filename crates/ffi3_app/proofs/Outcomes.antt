@@ -5,9 +5,11 @@ use Rattle.ffi3_script_rules.specs.Script.{Script}
 use Rattle.ffi3_script_rules.specs.Natives.{NamedNative, names_of}
 use Rattle.ffi3_script_rules.proofs.Readings.{one_reading}
 use Rattle.ffi3_cdecl_rules.specs.Grammar.{Declaration}
-use Rattle.ffi3_cdecl_rules.specs.Prototype.{Prototype, read_as, sign_unsaid, IsPrototype}
+use Rattle.ffi3_cdecl_rules.specs.Prototype.{Prototype, read_as, sign_unsaid}
 use Rattle.ffi3_cdecl_rules.proofs.Readings.{one_reading as one_declaration_reading}
-use Rattle.ffi3_cdecl_rules.proofs.Prototypes.{one_prototype}
+use Rattle.ffi3_cdecl_rules.proofs.Prototypes.{one_prototype_by}
+use Rattle.ffi3_cdecl.specs.ReadingFor.{IsReadingEverywhere, read_everywhere}
+use Rattle.ffi3_cdecl.proofs.Judging.{is_reading_everywhere, one_reading_everywhere}
 use Rattle.ffi3_image_rules.specs.declared.Question.{Question}
 use Rattle.ffi3_image_rules.specs.declared.Question.TheVariants.{Explained, ByStandard}
 use Rattle.ffi3_image_rules.specs.Input as image
@@ -91,9 +93,13 @@ module _ (outcome : Declaration → Outcome) where
   declaration_is_short bytes o is accepted =
       input_is_short IsReadPlainly (outcome_of_input outcome) _ refl bytes o is accepted
 
-pub one_prototype_input : (bytes : List ℕ) (i j : Input) → IsInput IsPrototype bytes i → IsInput IsPrototype bytes j → i ≡ j
+one_prototype_everywhere : (text : List ℕ) (p q : Prototype) → IsPrototypeEverywhere text p → IsPrototypeEverywhere text q → p ≡ q
+one_prototype_everywhere text =
+    one_prototype_by (λ c o. IsReadingEverywhere c text o) (λ c. read_everywhere c text) (λ c. is_reading_everywhere c text (read_everywhere c text) refl) (λ c o is. one_reading_everywhere c text o is)
+
+pub one_prototype_input : (bytes : List ℕ) (i j : Input) → IsInput IsPrototypeEverywhere bytes i → IsInput IsPrototypeEverywhere bytes j → i ≡ j
 one_prototype_input bytes i j reads reads' =
-    one_input IsPrototype one_prototype bytes i j reads reads'
+    one_input IsPrototypeEverywhere one_prototype_everywhere bytes i j reads reads'
 
 module _ (outcome : List (List ℕ) → Declaration → Outcome) where
   one_of_prototype : (bytes : List ℕ) (o p : Outcome) → IsOfPrototype outcome bytes o → IsOfPrototype outcome bytes p → o ≡ p
@@ -105,16 +111,16 @@ module _ (outcome : List (List ℕ) → Declaration → Outcome) where
 
   prototype_of_all : (all : List ℕ) (o : Outcome) → IsOfPrototype outcome (take 1048577 all) o → IsOfPrototype outcome all o
   prototype_of_all all o (too_many_bytes, reads, ns, has, is) =
-      (too_many_bytes, input_of_all IsPrototype all too_many_bytes reads, ns, has, is)
+      (too_many_bytes, input_of_all IsPrototypeEverywhere all too_many_bytes reads, ns, has, is)
   prototype_of_all all o (not_utf8, reads, ns, has, is) =
-      (not_utf8, input_of_all IsPrototype all not_utf8 reads, ns, has, is)
+      (not_utf8, input_of_all IsPrototypeEverywhere all not_utf8 reads, ns, has, is)
   prototype_of_all all o (a_text p, (short, utf8, reads), ns, has, is) =
       let P = λ (bs : List ℕ). HasNames bs (a_text p) ns in
-      (a_text p, input_of_all IsPrototype all (a_text p) (short, utf8, reads), ns, subst P (all_taken all short) has, is ∙ ap (λ (bs : List ℕ). outcome_of_prototype bs (outcome ns) (a_text p)) (all_taken all short))
+      (a_text p, input_of_all IsPrototypeEverywhere all (a_text p) (short, utf8, reads), ns, subst P (all_taken all short) has, is ∙ ap (λ (bs : List ℕ). outcome_of_prototype bs (outcome ns) (a_text p)) (all_taken all short))
 
   prototype_is_short : (bytes : List ℕ) (o : Outcome) → IsOfPrototype outcome bytes o → IsAccepted o → length bytes ≤ 1048576
   prototype_is_short bytes o (i, reads, ns, has, is) accepted =
-      input_is_short IsPrototype (outcome_of_prototype bytes (outcome ns)) _ refl bytes o (i, reads, is) accepted
+      input_is_short IsPrototypeEverywhere (outcome_of_prototype bytes (outcome ns)) _ refl bytes o (i, reads, is) accepted
 
 -- ---- of an image
 

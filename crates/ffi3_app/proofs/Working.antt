@@ -1,8 +1,8 @@
 -- What came of work, from what its parts came to.
-use Rattle.std.proofs.Common.{[], ◌≡◌, ℕ, ◌≤◌, List, length, inl, inr, refl, sym, subst, ap, ◌∙◌}
+use Rattle.std.proofs.Common.{[], ◌∷◌, ◌≡◌, ◌⊎◌, ℕ, zero, suc, ◌<◌, ◌≤◌, List, length, map, arith, inl, inr, refl, sym, subst, ap, ◌∙◌}
 use Rattle.std.specs.Prelude.{Bool, Result, Ok, Err, IfOk, OnOk, IsUtf8, codes}
 use Rattle.ffi3_type_rules.specs.declared.Target.{Target}
-use Rattle.ffi3_type_rules.specs.Signature.{Position, SignatureFault, SignatureHasNoFault}
+use Rattle.ffi3_type_rules.specs.Signature.{Position, Signature, SignatureFault, SignatureIsPlaced, bad_fixed, fixed_outside}
 use Rattle.ffi3_io.specs.Sink.{SinkState}
 use Rattle.ffi3_io.specs.Written.{Wrote}
 use Rattle.ffi3_io.specs.declared.IoError.{IoError}
@@ -18,10 +18,17 @@ use Rattle.ffi3_cdecl.specs.declared.fault.DeclFault.{DeclFault}
 use Rattle.ffi3_cdecl.specs.declared.fault.DeclFault.TheVariants as decl
 use Rattle.ffi3_cdecl_rules.specs.Grammar.{Declaration}
 use Rattle.ffi3_cdecl_rules.specs.Reading as declaration
-use Rattle.ffi3_cdecl_rules.specs.Tokens.{wide, signed, unsigned}
-use Rattle.ffi3_cdecl_rules.specs.Prototype.{Prototype, read_as, sign_unsaid, first_other, IsPrototype, reads_alike, reads_by_sign, has_fault, has_fault_unsigned}
+use Rattle.ffi3_cdecl_rules.specs.Tokens.{signed, unsigned}
+use Rattle.ffi3_cdecl_rules.specs.Prototype.{Prototype, read_as, sign_unsaid, first_other, reads_alike, reads_by_sign, has_fault, has_fault_unsigned}
 use Rattle.ffi3_cdecl_rules.proofs.Identifiers.{identifier_read, all_fixed_read, right_read}
-use Rattle.ffi3_cdecl_rules.proofs.WideNames.{wide_right}
+use Rattle.ffi3_cdecl.proofs.Judging.{read_is_placed_everywhere}
+use Rattle.ffi3_cdecl.specs.ReadingFor.{IsReadingEverywhere}
+use Rattle.ffi3_format_rules.specs.declared.Format.{Format}
+use Rattle.ffi3_format_rules.specs.declared.Format.TheVariants.{Double}
+use Rattle.ffi3_format_rules.specs.Format.{resolved, resolved_signature}
+use Rattle.ffi3_sig_text.specs.SigText.{FixesSome}
+use Rattle.ffi3_type_rules.specs.Tree.{Tree}
+use Rattle.std.proofs.lemmas.Bool.{cases_lt}
 use Rattle.ffi3_cdecl_rules.proofs.Prototypes.{alike_by, read_either}
 use Rattle.ffi3_types.specs.SignatureFaultOf.{signature_fault_of}
 use Rattle.ffi3_script_rules.specs.Language.{reason_of_fault}
@@ -44,7 +51,7 @@ use Rattle.ffi3_words.specs.declared.words.InputCommand.{InputCommand}
 use Rattle.ffi3_app.specs.declared.unfinished.Unfinished.{Unfinished}
 use Rattle.ffi3_app.specs.declared.unfinished.Unfinished.TheVariants.{Refused, NoMemory, WriteFault}
 use Rattle.ffi3_explain_rules.specs.Standards.{standard_of}
-use Rattle.ffi3_app.specs.Declarations.{Input, a_text, IsInput, IsReadWidely, IsWritable, offset_line, reason_line, marked_line, unexpected_line, fault_words, fault_line, sign_line}
+use Rattle.ffi3_app.specs.Declarations.{Input, a_text, IsInput, IsPrototypeEverywhere, IsReadWidely, IsWritable, offset_line, reason_line, marked_line, unexpected_line, fault_words, fault_line, sign_line}
 use Rattle.ffi3_diagnostics_rules.specs.Positions.{placed_words}
 use Rattle.ffi3_app.specs.Outcome.{Outcome, refuses, tells, runs, benches, IsOfScript, IsOfDeclaration, HasNames, IsOfPrototype, IsOfImage, outcome_of_input, outcome_of_prototype, outcome_of_answer, IsOutcomeOn}
 use Rattle.ffi3_app.proofs.Called.{some_names}
@@ -149,12 +156,12 @@ module _ (IsRead : List ℕ → Prototype → Type 0) where
 -- ---- prototypes
 
 -- a text that is read so is none, whatever is done with one
-refused_text : (text : List ℕ) (p : Prototype) (line : List ℕ) (e : Unfinished) → IsPrototype text p → ((outcome : Declaration → Outcome) → refuses line ≡ outcome_of_prototype text outcome (a_text p)) → RefusesWith line e → IsNoText text e
+refused_text : (text : List ℕ) (p : Prototype) (line : List ℕ) (e : Unfinished) → IsPrototypeEverywhere text p → ((outcome : Declaration → Outcome) → refuses line ≡ outcome_of_prototype text outcome (a_text p)) → RefusesWith line e → IsNoText text e
 refused_text text p line (Refused told) reads is same = (p, reads, λ outcome. ap (λ (l : List ℕ). refuses l) same ∙ is outcome)
 refused_text text p line NoMemory reads is same = tt
 refused_text text p line WriteFault reads is same = absurd same
 
-told_text : (text : List ℕ) (f : DeclFault) (e : Unfinished) → Tells (λ o. IsPrototype text (read_as o)) f → IsPlaceToldAs text f e → IsNoText text e
+told_text : (text : List ℕ) (f : DeclFault) (e : Unfinished) → Tells (λ o. IsPrototypeEverywhere text (read_as o)) f → IsPlaceToldAs text f e → IsNoText text e
 told_text text (decl.BadToken at) e tells_it told =
     refused_text text (read_as (declaration.bad_token at)) (marked_line text at (codes "bad token")) e tells_it (λ outcome. refl) told
 told_text text (decl.Unexpected at) e tells_it told =
@@ -166,14 +173,14 @@ told_text text (decl.Sig f) e tells_it told =
 told_text text decl.NoMemory e tells_it told =
     let P = λ (x : Unfinished). IsNoText text x in subst P (sym told) tt
 
-signed_fault : (text : List ℕ) (f : DeclFault) → Tells (declaration.IsReadingIn wide signed text) f → Tells (λ o. IsPrototype text (read_as o)) f
+signed_fault : (text : List ℕ) (f : DeclFault) → Tells (IsReadingEverywhere signed text) f → Tells (λ o. IsPrototypeEverywhere text (read_as o)) f
 signed_fault text (decl.BadToken at) is = has_fault is (λ d e. cc)
 signed_fault text (decl.Unexpected at) is = has_fault is (λ d e. cc)
 signed_fault text (decl.BadNumber at) is = has_fault is (λ d e. cc)
 signed_fault text (decl.Sig f) is = has_fault is (λ d e. cc)
 signed_fault text decl.NoMemory is = tt
 
-unsigned_fault : (text : List ℕ) (d : Declaration) (f : DeclFault) → declaration.IsReadingIn wide signed text (declaration.reads d) → Tells (declaration.IsReadingIn wide unsigned text) f → Tells (λ o. IsPrototype text (read_as o)) f
+unsigned_fault : (text : List ℕ) (d : Declaration) (f : DeclFault) → IsReadingEverywhere signed text (declaration.reads d) → Tells (IsReadingEverywhere unsigned text) f → Tells (λ o. IsPrototypeEverywhere text (read_as o)) f
 unsigned_fault text d (decl.BadToken at) reads is = has_fault_unsigned reads is (λ d e. cc)
 unsigned_fault text d (decl.Unexpected at) reads is = has_fault_unsigned reads is (λ d e. cc)
 unsigned_fault text d (decl.BadNumber at) reads is = has_fault_unsigned reads is (λ d e. cc)
@@ -181,22 +188,22 @@ unsigned_fault text d (decl.Sig f) reads is = has_fault_unsigned reads is (λ d 
 unsigned_fault text d decl.NoMemory reads is = tt
 
 -- the fault of the reading where `char` is signed, or of the other
-pub refused_signed : (text : List ℕ) (f : DeclFault) (e : Unfinished) → Tells (declaration.IsReadingIn wide signed text) f → IsPlaceToldAs text f e → IsNoText text e
+pub refused_signed : (text : List ℕ) (f : DeclFault) (e : Unfinished) → Tells (IsReadingEverywhere signed text) f → IsPlaceToldAs text f e → IsNoText text e
 refused_signed text f e is told = told_text text f e (signed_fault text f is) told
 
-pub refused_unsigned : (text : List ℕ) (d : Declaration) (f : DeclFault) (e : Unfinished) → declaration.IsReadingIn wide signed text (declaration.reads d) → Tells (declaration.IsReadingIn wide unsigned text) f → IsPlaceToldAs text f e → IsNoText text e
+pub refused_unsigned : (text : List ℕ) (d : Declaration) (f : DeclFault) (e : Unfinished) → IsReadingEverywhere signed text (declaration.reads d) → Tells (IsReadingEverywhere unsigned text) f → IsPlaceToldAs text f e → IsNoText text e
 refused_unsigned text d f e reads is told =
     told_text text f e (unsigned_fault text d f reads is) told
 
 -- both readings declare the same
-pub reads_both : (text : List ℕ) (d e x : Declaration) → declaration.IsReadingIn wide signed text (declaration.reads d) → declaration.IsReadingIn wide unsigned text (declaration.reads e) → (x ≡ d) × (d ≡ e) → IsPrototype text (read_as (declaration.reads x))
+pub reads_both : (text : List ℕ) (d e x : Declaration) → IsReadingEverywhere signed text (declaration.reads d) → IsReadingEverywhere unsigned text (declaration.reads e) → (x ≡ d) × (d ≡ e) → IsPrototypeEverywhere text (read_as (declaration.reads x))
 reads_both text d e x p q (is, same) =
-    let P = λ (y : Declaration). IsPrototype text (read_as (declaration.reads y)) in
-    let Q = λ (y : Declaration). declaration.IsReadingIn wide unsigned text (declaration.reads y) in
-    subst P (sym is) (reads_alike (alike_by text d p (subst Q (sym same) q)))
+    let P = λ (y : Declaration). IsPrototypeEverywhere text (read_as (declaration.reads y)) in
+    let Q = λ (y : Declaration). IsReadingEverywhere unsigned text (declaration.reads y) in
+    subst P (sym is) (reads_alike (alike_by (λ c o. IsReadingEverywhere c text o) d p (subst Q (sym same) q)))
 
 -- or not
-pub reads_apart : (text : List ℕ) (d e : Declaration) (f : Unfinished) → declaration.IsReadingIn wide signed text (declaration.reads d) → declaration.IsReadingIn wide unsigned text (declaration.reads e) → IsSignUnsaid d e f → IsNoText text f
+pub reads_apart : (text : List ℕ) (d e : Declaration) (f : Unfinished) → IsReadingEverywhere signed text (declaration.reads d) → IsReadingEverywhere unsigned text (declaration.reads e) → IsSignUnsaid d e f → IsNoText text f
 reads_apart text d e (Refused line) p q (other, is) =
     (sign_unsaid (first_other d.signature e.signature), reads_by_sign p q other, λ outcome. ap (λ (l : List ℕ). refuses l) is)
 reads_apart text d e NoMemory p q apart = tt
@@ -210,18 +217,35 @@ sign_unsaid_by d e position WriteFault other is same = absurd same
 -- the text is the input's
 pub no_prototype : (bytes lent : List ℕ) (e : Unfinished) → length bytes ≤ max_length → IsUtf8 bytes → lent ≡ bytes → IsNoText lent e → IsNoPrototype bytes e
 no_prototype bytes lent (Refused line) short utf8 same (p, reads, is) =
-    let P = λ (b : List ℕ). IsPrototype b p in
+    let P = λ (b : List ℕ). IsPrototypeEverywhere b p in
     λ outcome. (a_text p, (short, utf8, subst P same reads), is outcome ∙ ap (λ (b : List ℕ). outcome_of_prototype b outcome (a_text p)) same)
 no_prototype bytes lent NoMemory short utf8 same is = tt
 no_prototype bytes lent WriteFault short utf8 same is = absurd is
 
-pub a_prototype : (bytes lent : List ℕ) (p : Prototype) → length bytes ≤ max_length → IsUtf8 bytes → lent ≡ bytes → IsPrototype lent p → IsReadWidely bytes (a_text p)
+pub a_prototype : (bytes lent : List ℕ) (p : Prototype) → length bytes ≤ max_length → IsUtf8 bytes → lent ≡ bytes → IsPrototypeEverywhere lent p → IsReadWidely bytes (a_text p)
 a_prototype bytes lent p short utf8 same is =
-    let P = λ (b : List ℕ). IsPrototype b p in (short, utf8, subst P same is)
+    let P = λ (b : List ℕ). IsPrototypeEverywhere b p in (short, utf8, subst P same is)
 
-pub prototype_is_right : (text : List ℕ) (d : Declaration) → IsPrototype text (read_as (declaration.reads d)) → SignatureHasNoFault d.signature
+pub prototype_is_right : (text : List ℕ) (d : Declaration) → IsPrototypeEverywhere text (read_as (declaration.reads d)) → (format : Format) → SignatureIsPlaced (resolved_signature format d.signature)
 prototype_is_right text d is =
-    wide_right signed text d (read_either text d is signed)
+    read_is_placed_everywhere signed text (declaration.reads d) (read_either (λ c o. IsReadingEverywhere c text o) d is signed) d refl
+
+-- and so is of a variadic function one argument at least fixed, and no more than there are
+length-resolved : (format : Format) (ts : List Tree) → length (map (resolved format) ts) ≡ length ts
+length-resolved format [] = refl
+length-resolved format (t ∷ ts) = ap suc (length-resolved format ts)
+
+pub some_are_fixed : (s : Signature) → ((format : Format) → SignatureIsPlaced (resolved_signature format s)) → FixesSome s
+some_are_fixed s right zero e =
+    absurd (right Double (bad_fixed 0 (length (map (resolved Double) s.arguments))) (fixed_outside e (inl refl)))
+some_are_fixed s right (suc n) e =
+    (omega arith, by_cases (cases_lt (length (map (resolved Double) s.arguments)) (suc n)))
+  where
+    by_cases : (length (map (resolved Double) s.arguments) < suc n) ⊎ (suc n ≤ length (map (resolved Double) s.arguments)) → suc n ≤ length s.arguments
+    by_cases (inl over) =
+        absurd (right Double (bad_fixed (suc n) (length (map (resolved Double) s.arguments))) (fixed_outside e (inr over)))
+    by_cases (inr within) =
+        subst (λ k. suc n ≤ k) (length-resolved Double s.arguments) within
 
 pub fault_told_as : (f g : DeclFault) (e : Unfinished) → f ≡ g → IsFaultToldAs g e → IsFaultToldAs f e
 fault_told_as f g e same told =

@@ -12,10 +12,13 @@ use Rattle.ffi3_script_rules.specs.Reading.{max_length}
 use Rattle.ffi3_script_rules.specs.ReasonText.{text_of_reason}
 use Rattle.ffi3_cdecl_rules.specs.Grammar.{Declaration}
 use Rattle.ffi3_cdecl_rules.specs.Canonical.{declaration_text, FixesAll, IsIdentifier}
-use Rattle.ffi3_cdecl_rules.specs.Prototype.{Prototype, read_as, sign_unsaid, IsPrototype, prototype_text}
+use Rattle.ffi3_cdecl_rules.specs.Prototype.{Prototype, read_as, sign_unsaid, IsPrototypeBy, prototype_text}
 use Rattle.ffi3_cdecl_rules.specs.Reading as declaration
 use Rattle.ffi3_cdecl_rules.specs.Telling.{tell}
 use Rattle.ffi3_cdecl_rules.specs.Tokens.{signed}
+use Rattle.ffi3_cdecl.specs.ReadingFor.{IsReadingEverywhere}
+use Rattle.ffi3_format_rules.specs.Format.{format_of, resolved_signature}
+use Rattle.ffi3_sig_text.specs.SigText.{told_signature}
 use Rattle.ffi3_diagnostics_rules.specs.Positions.{words_at, placed_words}
 use Rattle.ffi3_diagnostics_rules.specs.ToldText.{told_words, lines_at}
 use Rattle.ffi3_place_rules.specs.Standard.{Standard, plan_of}
@@ -49,9 +52,13 @@ IsReadPlainly text (sign_unsaid position) = ⊥
 abbrev pub IsReadAs : List ℕ → Input → Type 0
 IsReadAs bytes i = IsInput IsReadPlainly bytes i
 
+-- by both wide readings, of a function that can be placed whatever format long doubles have
+abbrev pub IsPrototypeEverywhere : List ℕ → Prototype → Type 0
+IsPrototypeEverywhere text p = IsPrototypeBy (λ c o. IsReadingEverywhere c text o) p
+
 -- as cplace reads it, for all targets at once
 abbrev pub IsReadWidely : List ℕ → Input → Type 0
-IsReadWidely bytes i = IsInput IsPrototype bytes i
+IsReadWidely bytes i = IsInput IsPrototypeEverywhere bytes i
 
 -- ---- the lines of refusals
 
@@ -128,17 +135,18 @@ named_lines names std i s =
     sig_text_of i std s
     ∷ map (named_text_of names std s) (arguments_from 0 s.arguments) ++ place_text_of std s at_result ∷ []
 
--- a target's line, and the lines of `place` for the signature, as number 0, by the target's standard and with these names
+-- a target's line, and the lines of `place` for the signature, as number 0, by the target's standard and with these names: its long doubles are what they are on the target
 abbrev pub placed_on : List (List ℕ) → Signature → Target → List ℕ
-placed_on names s t = target_line t ++ concat (named_lines names (standard_of t) 0 s)
+placed_on names s t =
+    target_line t ++ concat (named_lines names (standard_of t) 0 (resolved_signature (format_of t) s))
 
 abbrev pub every_target : List Target
 every_target = Amd64 ∷ Aapcs64 ∷ Riscv ∷ Win64 ∷ Apple ∷ []
 
--- a line with the signature, and one with the canonical text of the prototype: those of cdecl, with the types behind the dots
+-- a line with the signature, and one with the canonical text of the prototype: those of cdecl, with the types behind the dots, and long doubles by C's words
 abbrev pub prototype_lines : Declaration → List ℕ
 prototype_lines d =
-    a_line (signature_text d.signature) ++ a_line (prototype_text d.called d.signature)
+    a_line (told_signature d.signature) ++ a_line (prototype_text d.called d.signature)
 
 -- THE TEXT OF cplace, where the parameters have these names: these lines, and then each target's
 abbrev pub cplace_text : List (List ℕ) → Declaration → List ℕ

@@ -3,7 +3,7 @@ use Rattle.std.specs.Prelude.{◌≡◌, ◌⊎◌, ℕ, true, false, List, code
 use Rattle.ffi3_cdecl.specs.declared.fault.DeclFault.{DeclFault}
 use Rattle.ffi3_cdecl.specs.declared.fault.DeclFault.TheVariants as decl
 use Rattle.ffi3_cdecl_rules.specs.Grammar.{Declaration}
-use Rattle.ffi3_cdecl_rules.specs.Prototype.{Prototype, IsPrototype, first_other}
+use Rattle.ffi3_cdecl_rules.specs.Prototype.{Prototype, first_other}
 use Rattle.ffi3_io.specs.Sink.{Rose, SinkState}
 use Rattle.ffi3_io.specs.declared.IoError.{IoError}
 use Rattle.ffi3_io.specs.declared.IoError.TheVariants as io
@@ -17,7 +17,8 @@ use Rattle.ffi3_script_rules.specs.ReasonText.{text_of_reason}
 use Rattle.ffi3_script_rules.specs.Script.{Script}
 use Rattle.ffi3_status.specs.FaultLines.{ReportsFault, no_memory_line, write_fault_line}
 use Rattle.ffi3_types.specs.SignatureFaultOf.{signature_fault_of}
-use Rattle.ffi3_app.specs.Declarations.{Input, a_text, IsInput, IsReadPlainly, offset_line, reason_line, marked_line}
+use Rattle.ffi3_app.specs.Declarations.{Input, a_text, IsInput, IsReadPlainly, IsPrototypeEverywhere}
+use Rattle.ffi3_app.specs.Declarations.{offset_line, reason_line, marked_line}
 use Rattle.ffi3_app.specs.Declarations.{unexpected_line, fault_line, sign_line}
 use Rattle.ffi3_app.specs.declared.unfinished.Unfinished.{Unfinished}
 use Rattle.ffi3_app.specs.declared.unfinished.Unfinished.TheVariants.{Refused, NoMemory, WriteFault}
@@ -111,13 +112,13 @@ IsNoDeclaration bytes e = IsNoInput IsReadPlainly outcome_of_input bytes e
 -- no prototype for all targets
 abbrev pub IsNoPrototype : List ℕ → Unfinished → Type 0
 IsNoPrototype bytes e =
-    IsNoInput IsPrototype (outcome_of_prototype bytes) bytes e
+    IsNoInput IsPrototypeEverywhere (outcome_of_prototype bytes) bytes e
 
 -- a text is no prototype for all targets, and this line says so; or there was no memory
 abbrev pub IsNoText : List ℕ → Unfinished → Type 0
 IsNoText text (Refused line) =
     (p : Prototype)
-    × IsPrototype text p
+    × IsPrototypeEverywhere text p
     × ((outcome : Declaration → Outcome) → refuses line ≡ outcome_of_prototype text outcome (a_text p))
 IsNoText text NoMemory = Unit {0}
 IsNoText text WriteFault = ⊥

@@ -26,8 +26,8 @@ pub fn cdecl<O: Sink>(
     write_made_line(output, canonical_line(alloc, declaration))
 }
 
-/// The line of the signature.
-pub fn signature_line(alloc: Global, declaration: &Declaration) -> Result<Bytes, NoMemory>
+// The line of the signature.
+fn signature_line(alloc: Global, declaration: &Declaration) -> Result<Bytes, NoMemory>
     requires { SignatureHasNoFault declaration.now.signature }
     ensures { IfOk result (λ line. line ≡ a_line (signature_text declaration.now.signature)) }
 {

@@ -1,7 +1,10 @@
 //! The lines of cplace.
 ghost use Rattle.std.specs.Prelude.{◌≡◌, IfOk};
 ghost use Rattle.std.specs.List.{flat_map};
-ghost use Rattle.ffi3_type_rules.specs.Signature.{SignatureHasNoFault};
+ghost use Rattle.ffi3_type_rules.specs.Signature.{SignatureIsPlaced};
+ghost use Rattle.ffi3_format_rules.specs.declared.Format.{Format};
+ghost use Rattle.ffi3_format_rules.specs.Format.{resolved_signature};
+ghost use Rattle.ffi3_sig_text.specs.SigText.{told_signature};
 ghost use Rattle.ffi3_run_rules.specs.Lines.{a_line};
 ghost use Rattle.ffi3_cdecl_rules.specs.Prototype.{prototype_text};
 ghost use Rattle.ffi3_app.specs.Declarations.{cplace_text, every_target, placed_on, prototype_lines, target_line};
@@ -10,13 +13,14 @@ ghost use Rattle.ffi3_names_rules.specs.Scan.{names_in};
 ghost use Rattle.ffi3_names.specs.NamesOf.{names_of};
 ghost use Rattle.ffi3_io.specs.Written.{Wrote};
 
-use crate::cdecl::signature_line;
 use crate::place::place_signature;
 use crate::write::write_made_line;
 use ffi3_cdecl::{Declaration, Sign, prototype_text};
+use ffi3_format::{format_of, resolve};
 use ffi3_io::{IoError, Sink};
 use ffi3_names::{Name, names_in};
-use ffi3_types::{Bytes, CheckedSig, NoMemory, Target};
+use ffi3_sig_text::signature_text;
+use ffi3_types::{Bytes, NoMemory, Sig, Target};
 use ffi3_words::target_word;
 use std::alloc::Global;
 
@@ -28,12 +32,12 @@ pub fn cplace<O: Sink>(
     declaration: &Declaration,
     output: &mut O,
 ) -> Result<(), IoError>
-    requires { SignatureHasNoFault declaration.now.signature }
+    requires { (format : Format) → SignatureIsPlaced (resolved_signature format declaration.now.signature) }
     ensures { Wrote (cplace_text (names_in signed text.now) declaration.now) (O.state output.old) (O.state output.new) result }
 {
     let names = names_in(alloc, Sign::Signed, text)?;
     prototype(alloc, declaration, output)?;
-    place_everywhere(alloc, &CheckedSig::of(declaration.sig()), &names, output)
+    place_everywhere(alloc, declaration.sig(), &names, output)
 }
 
 // The signature and the canonical text.
@@ -42,16 +46,26 @@ fn prototype<O: Sink>(
     declaration: &Declaration,
     output: &mut O,
 ) -> Result<(), IoError>
-    requires { SignatureHasNoFault declaration.now.signature }
+    requires { (format : Format) → SignatureIsPlaced (resolved_signature format declaration.now.signature) }
     ensures { Wrote (prototype_lines declaration.now) (O.state output.old) (O.state output.new) result }
 {
-    write_made_line(output, signature_line(alloc, declaration))?;
+    write_made_line(output, told_line(alloc, declaration))?;
     write_made_line(output, prototype_line(alloc, declaration))
+}
+
+// The line of the signature.
+fn told_line(alloc: Global, declaration: &Declaration) -> Result<Bytes, NoMemory>
+    requires { (format : Format) → SignatureIsPlaced (resolved_signature format declaration.now.signature) }
+    ensures { IfOk result (λ line. line ≡ a_line (told_signature declaration.now.signature)) }
+{
+    let mut line = signature_text(alloc, declaration.sig())?;
+    line.push(b'\n')?;
+    Ok(line)
 }
 
 // The line of the canonical text.
 fn prototype_line(alloc: Global, declaration: &Declaration) -> Result<Bytes, NoMemory>
-    requires { SignatureHasNoFault declaration.now.signature }
+    requires { (format : Format) → SignatureIsPlaced (resolved_signature format declaration.now.signature) }
     ensures { IfOk result (λ line. line ≡ a_line (prototype_text declaration.now.called declaration.now.signature)) }
 {
     let mut line = prototype_text(alloc, declaration.sig(), declaration.name())?;
@@ -62,10 +76,11 @@ fn prototype_line(alloc: Global, declaration: &Declaration) -> Result<Bytes, NoM
 // The targets, one after another.
 fn place_everywhere<O: Sink>(
     alloc: Global,
-    sig: &CheckedSig<'_>,
+    sig: &Sig,
     names: &Vec<Name<'_>>,
     output: &mut O,
 ) -> Result<(), IoError>
+    requires { (format : Format) → SignatureIsPlaced (resolved_signature format sig.now) }
     ensures { Wrote (flat_map (placed_on (names_of names.now.items) sig.now) every_target) (O.state output.old) (O.state output.new) result }
 {
     place_on(alloc, Target::Amd64, sig, names, output)?;
@@ -75,18 +90,20 @@ fn place_everywhere<O: Sink>(
     place_on(alloc, Target::Apple, sig, names, output)
 }
 
-// A target's name, and the lines of place by its standard.
+// A target's name, and the lines of place by its standard, where long doubles are what they are on that target.
 fn place_on<O: Sink>(
     alloc: Global,
     target: Target,
-    sig: &CheckedSig<'_>,
+    sig: &Sig,
     names: &Vec<Name<'_>>,
     output: &mut O,
 ) -> Result<(), IoError>
+    requires { (format : Format) → SignatureIsPlaced (resolved_signature format sig.now) }
     ensures { Wrote (placed_on (names_of names.now.items) sig.now target) (O.state output.old) (O.state output.new) result }
 {
+    let here = resolve(alloc, format_of(target), sig.copy(alloc)?)?;
     write_made_line(output, target_line(alloc, target))?;
-    place_signature(alloc, target, 0, sig, names, output)
+    place_signature(alloc, target, 0, here, names, output)
 }
 
 // The line of a target.

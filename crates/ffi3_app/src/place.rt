@@ -2,6 +2,7 @@
 ghost use Rattle.ffi3_script.specs.ScriptOf.{script_of};
 ghost use Rattle.std.specs.Prelude.{◌≡◌, ◌<◌, ◌≤◌, ◌++◌, IfOk, codes, drop, length};
 ghost use Rattle.std.specs.List.{concat};
+ghost use Rattle.ffi3_type_rules.specs.Signature.{SignatureIsPlaced};
 ghost use Rattle.ffi3_explain_rules.specs.Standards.{standard_of};
 ghost use Rattle.ffi3_app.specs.Commands.{place_text};
 ghost use Rattle.ffi3_app.specs.Declarations.{argument_line, named_lines};
@@ -20,7 +21,7 @@ use ffi3_place::Abi;
 use ffi3_riscv::Riscv;
 use ffi3_script::Script;
 use ffi3_text::{place_line, sig_line};
-use ffi3_types::{At, Bytes, CheckedSig, NoMemory, Target};
+use ffi3_types::{At, Bytes, CheckedSig, NoMemory, Sig, Target};
 use ffi3_win64::Win64;
 use std::alloc::Global;
 
@@ -48,18 +49,19 @@ pub fn place_signature<O: Sink>(
     alloc: Global,
     target: Target,
     number: u32,
-    sig: &CheckedSig<'_>,
+    sig: Sig,
     names: &Vec<Name<'_>>,
     output: &mut O,
 ) -> Result<(), IoError>
-    ensures { Wrote (concat (named_lines (names_of names.now.items) (standard_of target) number sig.now)) (O.state output.old) (O.state output.new) result }
+    requires { SignatureIsPlaced sig }
+    ensures { Wrote (concat (named_lines (names_of names.now.items) (standard_of target) number sig)) (O.state output.old) (O.state output.new) result }
 {
     match target {
-        Target::Amd64 => place_one::<Amd64, O>(alloc, number, sig, names, output),
-        Target::Aapcs64 => place_one::<Aapcs64, O>(alloc, number, sig, names, output),
-        Target::Riscv => place_one::<Riscv, O>(alloc, number, sig, names, output),
-        Target::Win64 => place_one::<Win64, O>(alloc, number, sig, names, output),
-        Target::Apple => place_one::<Apple, O>(alloc, number, sig, names, output),
+        Target::Amd64 => place_planned::<Amd64, O>(alloc, number, sig, names, output),
+        Target::Aapcs64 => place_planned::<Aapcs64, O>(alloc, number, sig, names, output),
+        Target::Riscv => place_planned::<Riscv, O>(alloc, number, sig, names, output),
+        Target::Win64 => place_planned::<Win64, O>(alloc, number, sig, names, output),
+        Target::Apple => place_planned::<Apple, O>(alloc, number, sig, names, output),
     }
 }
 
@@ -76,7 +78,22 @@ fn place_by<A: Abi, O: Sink>(alloc: Global, script: &Script, output: &mut O) -> 
     Ok(())
 }
 
-// One signature, by a calling standard.
+// One signature that can be placed, by a calling standard.
+fn place_planned<A: Abi, O: Sink>(
+    alloc: Global,
+    number: u32,
+    sig: Sig,
+    names: &Vec<Name<'_>>,
+    output: &mut O,
+) -> Result<(), IoError>
+    requires { SignatureIsPlaced sig }
+    ensures { Wrote (concat (named_lines (names_of names.now.items) A.standard number sig)) (O.state output.old) (O.state output.new) result }
+{
+    let placed: Placed<A> = Placed::prepare(alloc, sig)?;
+    place_of(alloc, number, &placed, names, output)
+}
+
+// One signature without fault, by a calling standard.
 fn place_one<A: Abi, O: Sink>(
     alloc: Global,
     number: u32,

@@ -1,10 +1,13 @@
 //! From the bytes of an input to a prototype, or to the line that refuses them.
 ghost use Rattle.std.specs.Prelude.{◌≡◌, ◌↔◌, IsTrue, IfOk, IfErr};
-ghost use Rattle.ffi3_type_rules.specs.Signature.{SignatureHasNoFault};
-ghost use Rattle.ffi3_cdecl_rules.specs.Tokens.{wide, signed};
-ghost use Rattle.ffi3_cdecl_rules.specs.Prototype.{IsPrototype, first_other, read_as};
-ghost use Rattle.ffi3_cdecl_rules.specs.Reading.{IsReadingIn, reads};
-ghost use Rattle.ffi3_app.specs.Declarations.{IsReadWidely, a_text, sign_line, sign_words};
+ghost use Rattle.ffi3_type_rules.specs.Signature.{SignatureIsPlaced};
+ghost use Rattle.ffi3_format_rules.specs.declared.Format.{Format};
+ghost use Rattle.ffi3_format_rules.specs.Format.{resolved_signature};
+ghost use Rattle.ffi3_cdecl_rules.specs.Tokens.{signed};
+ghost use Rattle.ffi3_cdecl_rules.specs.Prototype.{first_other, read_as};
+ghost use Rattle.ffi3_cdecl_rules.specs.Reading.{reads};
+ghost use Rattle.ffi3_cdecl.specs.ReadingFor.{IsReadingEverywhere};
+ghost use Rattle.ffi3_app.specs.Declarations.{IsPrototypeEverywhere, IsReadWidely, a_text, sign_line, sign_words};
 ghost use Rattle.ffi3_type_rules.specs.Same.{same_tree};
 ghost use Rattle.ffi3_types.specs.SignatureFaultOf.{position_of};
 ghost use Rattle.ffi3_types.specs.TreeOf.{tree_of};
@@ -13,7 +16,7 @@ ghost use Rattle.ffi3_app.specs.Work.{IsNoPrototype, IsNoText, IsSignUnsaid};
 use crate::declaration::reason_line;
 use crate::marking::place_refusal;
 use crate::unfinished::{Unfinished, refused, words};
-use ffi3_cdecl::{Declaration, Sign, read_wide_decl};
+use ffi3_cdecl::{Declaration, Sign, read_decl_everywhere};
 use ffi3_diagnostics::words_at;
 use ffi3_json::MAX_LENGTH;
 use ffi3_types::{At, Bytes, FfiType, NoMemory, Sig, same_sig, same_type};
@@ -23,10 +26,10 @@ use std::str;
 const SIGN_UNSAID: &str =
     "char is signed or not by the machine: write signed char or unsigned char";
 
-/// Reads the bytes as one prototype, the same for all targets.
+/// Reads the bytes as one prototype, the same for all targets, whatever format long doubles have.
 pub fn prototype_in(alloc: Global, bytes: &[u8]) -> Result<Declaration, Unfinished>
     ensures read { IfOk result (λ d. IsReadWidely bytes.now (a_text (read_as (reads d)))) }
-    ensures faultless { IfOk result (λ d. SignatureHasNoFault d.signature) }
+    ensures placed { IfOk result (λ d. (format : Format) → SignatureIsPlaced (resolved_signature format d.signature)) }
     ensures refused { IfErr result (IsNoPrototype bytes.now) }
 {
     if bytes.len() > MAX_LENGTH {
@@ -40,10 +43,10 @@ pub fn prototype_in(alloc: Global, bytes: &[u8]) -> Result<Declaration, Unfinish
 
 // The text where `char` is signed, if it is the same where it is not.
 fn by_both_signs(alloc: Global, text: &str) -> Result<Declaration, Unfinished>
-    ensures read { IfOk result (λ d. IsPrototype text.now (read_as (reads d))) }
+    ensures read { IfOk result (λ d. IsPrototypeEverywhere text.now (read_as (reads d))) }
     ensures refused { IfErr result (IsNoText text.now) }
 {
-    match read_wide_decl(alloc, Sign::Signed, text) {
+    match read_decl_everywhere(alloc, Sign::Signed, text) {
         Ok(declaration) => by_other_sign(alloc, text, declaration),
         Err(fault) => Err(place_refusal(alloc, text, &fault)),
     }
@@ -55,11 +58,11 @@ fn by_other_sign(
     text: &str,
     declaration: Declaration,
 ) -> Result<Declaration, Unfinished>
-    requires { IsReadingIn wide signed text.now (reads declaration) }
-    ensures read { IfOk result (λ d. IsPrototype text.now (read_as (reads d))) }
+    requires { IsReadingEverywhere signed text.now (reads declaration) }
+    ensures read { IfOk result (λ d. IsPrototypeEverywhere text.now (read_as (reads d))) }
     ensures refused { IfErr result (IsNoText text.now) }
 {
-    match read_wide_decl(alloc, Sign::Unsigned, text) {
+    match read_decl_everywhere(alloc, Sign::Unsigned, text) {
         Ok(other) => if_alike(alloc, declaration, &other),
         Err(fault) => Err(place_refusal(alloc, text, &fault)),
     }

@@ -7,20 +7,20 @@ use Rattle.ffi3_app.proofs.place.place_signature.Goals as goal
 
 pub returns-in-Amd64 : goal.returns-in-Amd64
 returns-in-Amd64 g c =
-    placed_by (λ std. concat (named_lines (names_of c.args.names.now.items) std c.args.number c.args.sig.now)) c.args.target Amd64 _ _ c.place_one.result c.in-Amd64.is c.place_one.ensures
+    placed_by (λ std. concat (named_lines (names_of c.args.names.now.items) std c.args.number c.args.sig)) c.args.target Amd64 _ _ c.place_planned.result c.in-Amd64.is c.place_planned.ensures
 
 pub returns-in-Aapcs64 : goal.returns-in-Aapcs64
 returns-in-Aapcs64 g c =
-    placed_by (λ std. concat (named_lines (names_of c.args.names.now.items) std c.args.number c.args.sig.now)) c.args.target Aapcs64 _ _ c.place_one-in-Aapcs64.result c.in-Aapcs64.is c.place_one-in-Aapcs64.ensures
+    placed_by (λ std. concat (named_lines (names_of c.args.names.now.items) std c.args.number c.args.sig)) c.args.target Aapcs64 _ _ c.place_planned-in-Aapcs64.result c.in-Aapcs64.is c.place_planned-in-Aapcs64.ensures
 
 pub returns-in-Riscv : goal.returns-in-Riscv
 returns-in-Riscv g c =
-    placed_by (λ std. concat (named_lines (names_of c.args.names.now.items) std c.args.number c.args.sig.now)) c.args.target Riscv _ _ c.place_one-in-Riscv.result c.in-Riscv.is c.place_one-in-Riscv.ensures
+    placed_by (λ std. concat (named_lines (names_of c.args.names.now.items) std c.args.number c.args.sig)) c.args.target Riscv _ _ c.place_planned-in-Riscv.result c.in-Riscv.is c.place_planned-in-Riscv.ensures
 
 pub returns-in-Win64 : goal.returns-in-Win64
 returns-in-Win64 g c =
-    placed_by (λ std. concat (named_lines (names_of c.args.names.now.items) std c.args.number c.args.sig.now)) c.args.target Win64 _ _ c.place_one-in-Win64.result c.in-Win64.is c.place_one-in-Win64.ensures
+    placed_by (λ std. concat (named_lines (names_of c.args.names.now.items) std c.args.number c.args.sig)) c.args.target Win64 _ _ c.place_planned-in-Win64.result c.in-Win64.is c.place_planned-in-Win64.ensures
 
 pub returns-in-Apple : goal.returns-in-Apple
 returns-in-Apple g c =
-    placed_by (λ std. concat (named_lines (names_of c.args.names.now.items) std c.args.number c.args.sig.now)) c.args.target Apple _ _ c.place_one-in-Apple.result c.in-Apple.is c.place_one-in-Apple.ensures
+    placed_by (λ std. concat (named_lines (names_of c.args.names.now.items) std c.args.number c.args.sig)) c.args.target Apple _ _ c.place_planned-in-Apple.result c.in-Apple.is c.place_planned-in-Apple.ensures

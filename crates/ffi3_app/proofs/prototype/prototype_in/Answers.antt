@@ -3,9 +3,9 @@ use Rattle.std.specs.Prelude.{codes}
 use Rattle.std.proofs.lemmas.Result.{IfOk-weaker, IfErr-weaker}
 use Rattle.ffi3_run_rules.specs.Lines.{a_line}
 use Rattle.ffi3_script_rules.specs.Reading.{max_length}
-use Rattle.ffi3_cdecl_rules.specs.Prototype.{read_as, IsPrototype}
+use Rattle.ffi3_cdecl_rules.specs.Prototype.{read_as}
 use Rattle.ffi3_cdecl_rules.specs.Reading.{reads}
-use Rattle.ffi3_app.specs.Declarations.{too_many_bytes, not_utf8}
+use Rattle.ffi3_app.specs.Declarations.{too_many_bytes, not_utf8, IsPrototypeEverywhere}
 use Rattle.ffi3_app.specs.Outcome.{outcome_of_prototype}
 use Rattle.ffi3_app.proofs.Working.{refused_input, no_prototype, a_prototype, prototype_is_right}
 use Rattle.ffi3_app.proofs.prototype.prototype_in.Goals as goal
@@ -13,20 +13,20 @@ use Rattle.ffi3_app.proofs.prototype.prototype_in.Goals as goal
 pub returns-then-bytes-gt-MAX_LENGTH-clause-refused : goal.returns-then-bytes-gt-MAX_LENGTH-clause-refused
 returns-then-bytes-gt-MAX_LENGTH-clause-refused c =
     let long : max_length < length c.args.bytes.now = search rules in
-    refused_input IsPrototype (outcome_of_prototype c.args.bytes.now) c.args.bytes.now too_many_bytes (a_line (codes "ffi3: input too long")) c.refused.result long (λ outcome. refl) (c.refused.ensures (a_line (codes "ffi3: input too long")) c.words.ensures)
+    refused_input IsPrototypeEverywhere (outcome_of_prototype c.args.bytes.now) c.args.bytes.now too_many_bytes (a_line (codes "ffi3: input too long")) c.refused.result long (λ outcome. refl) (c.refused.ensures (a_line (codes "ffi3: input too long")) c.words.ensures)
 
 pub returns-in_default-clause-refused : goal.returns-in_default-clause-refused
 returns-in_default-clause-refused c =
     let short : length c.args.bytes.now ≤ max_length = search rules in
-    refused_input IsPrototype (outcome_of_prototype c.args.bytes.now) c.args.bytes.now not_utf8 (a_line (codes "ffi3: not UTF-8")) c.refused-in_default.result (short, c.in_default.ensures.cases.0) (λ outcome. refl) (c.refused-in_default.ensures (a_line (codes "ffi3: not UTF-8")) c.words-in_default.ensures)
+    refused_input IsPrototypeEverywhere (outcome_of_prototype c.args.bytes.now) c.args.bytes.now not_utf8 (a_line (codes "ffi3: not UTF-8")) c.refused-in_default.result (short, c.in_default.ensures.cases.0) (λ outcome. refl) (c.refused-in_default.ensures (a_line (codes "ffi3: not UTF-8")) c.words-in_default.ensures)
 
 pub returns-clause-read : goal.returns-clause-read
 returns-clause-read c =
     let short : length c.args.bytes.now ≤ max_length = search rules in
     IfOk-weaker c.by_both_signs.result _ _ (λ d is. a_prototype c.args.bytes.now c.in-Ok.text.now (read_as (reads d)) short c.in-Ok.ensures.cases.1 c.in-Ok.ensures.cases.0 is) c.by_both_signs.ensures.read
 
-pub returns-clause-faultless : goal.returns-clause-faultless
-returns-clause-faultless c =
+pub returns-clause-placed : goal.returns-clause-placed
+returns-clause-placed c =
     IfOk-weaker c.by_both_signs.result _ _ (λ d is. prototype_is_right c.in-Ok.text.now d is) c.by_both_signs.ensures.read
 
 pub returns-clause-refused : goal.returns-clause-refused
