@@ -11,6 +11,12 @@
     \op d\r, [x16, 256+8*\r]
 .endr
 .endm
+.macro each_upper op
+    add x17, x16, 512
+.irp half, v0.d,v1.d,v2.d,v3.d,v4.d,v5.d,v6.d,v7.d
+    \op {\half}[1], [x17], 8
+.endr
+.endm
 .macro each_saved op
 .irp r, 19,20,21,22,23,24,25,26,27,28,29,30
     \op x\r, [sp, 8*\r]
@@ -37,12 +43,14 @@ play_call:                      // x0: the callee, x1: the stack pointer at the 
     address x16, now
     each_general ldr
     each_floating ldr
+    each_upper ld1
     address x17, kept
     ldr x17, [x17, 8]
     blr x17
     address x16, now
     each_general str
     each_floating str
+    each_upper st1
     mov x17, sp
     str x17, [x16, 248]
     address x17, kept
@@ -57,6 +65,7 @@ play_enter:
     address x16, now
     each_general str
     each_floating str
+    each_upper st1
     str x30, [x16, 240]
     mov x17, sp
     str x17, [x16, 248]
@@ -68,6 +77,7 @@ play_enter:
     address x16, now
     each_general ldr
     each_floating ldr
+    each_upper ld1
     ldr x30, [x16, 240]
     ret
 

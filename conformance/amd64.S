@@ -48,11 +48,20 @@ play_call:                      # rdi: the callee, rsi: the address of the first
     movq %rsp, kept(%rip)
     movq %rdi, kept+8(%rip)
     movq %rsi, %rsp
+    fninit
     each_general load
     load_floating
     call *kept+8(%rip)
     each_general store
     store_floating
+    movq now+576(%rip), %rax    # x87_results
+    testq %rax, %rax
+    jz 1f
+    fstpt now+512(%rip)
+    decq %rax
+    jz 1f
+    fstpt now+528(%rip)
+1:
     movq %rsp, now+8*4(%rip)
     movq kept(%rip), %rsp
     popq %r15
@@ -70,8 +79,17 @@ play_enter:
     movq %rsp, now+8*4(%rip)
     movq %rsp, %rbx
     andq $-16, %rsp
+    fninit
     call entered
     movq %rbx, %rsp
+    movq now+576(%rip), %rax
+    testq %rax, %rax
+    jz 2f
+    decq %rax
+    jz 1f
+    fldt now+528(%rip)
+1:  fldt now+512(%rip)
+2:
     each_general load
     load_floating
     ret

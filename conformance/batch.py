@@ -10,12 +10,13 @@ import subprocess
 from concurrent.futures import ThreadPoolExecutor
 
 import cases
+import coff
 import differences
 import installed
 import macho
-from emit import Chunk, index_of
+from emit import C_NAMES, C_NAMES_OF_WINDOWS, Chunk, index_of
 from places import FLOATING, GENERAL, Layout
-from signature import SIZES, text_of
+from signature import VALUE_BYTES, text_of
 
 HERE = pathlib.Path(__file__).resolve().parent
 IN_A_CHUNK = 200
@@ -37,21 +38,27 @@ COMPILERS = {"amd64": ("gcc", "clang", "libffi-unix64"), "aapcs64": ("gcc", "cla
              "win64": ("gcc", "clang", "libffi-win64", "libffi-gnuw64"), "apple": ("clang", "clang-16")}
 # What plays a call and an entry, where it is another target's.
 PLAYED_BY = {"apple": "aapcs64"}
-FLAGS = ["-w", "-std=gnu11", "-fno-pie", "-fno-stack-protector"]
+FLAGS = ["-w", "-Wno-psabi", "-std=gnu11", "-fno-pie", "-fno-stack-protector"]
 # Defined on a target that is played as another is: player.h and tools/try_calls.c say what it changes.
 DEFINED = {"win64": ["-DWIN64"], "apple": ["-DAPPLE"]}
 # A leaf's scalar, by what C knows of it: the kind of player.h, and its bytes.
-SCALARS = {f"{'f' if name == 'double' else name[0]}{size}": name for name, size in SIZES.items()}
+KINDS = {"double": "f", "x87": "f", "binary128": "f"}
+SCALARS = {f"{KINDS.get(name, name[0])}{size}": name for name, size in VALUE_BYTES.items()}
+# Compilers for Windows, beside those for Linux that have its convention; the second has Microsoft's long double.
+OF_WINDOWS = {"mingw": ["x86_64-w64-mingw32-gcc"], "clang-msvc": ["clang", "--target=x86_64-pc-windows-msvc"]}
 # The files of one batch are optimised in turn: not at all, and much; with an even seed the other way round.
 OPTIMISED = ["-O0", "-O2"]
 
 
-def flags_of(target):
-    return [*FLAGS, *DEFINED.get(target, []), f"-I{HERE}"]
+def flags_of(target, compiler="gcc"):
+    of_windows = coff.FLAGS if compiler in OF_WINDOWS else []
+    return [*FLAGS, *DEFINED.get(target, []), *of_windows, f"-I{HERE}"]
 
 
 def command_of(target, compiler):
     prefix, _, flags = TARGETS[target]
+    if compiler in OF_WINDOWS:
+        return OF_WINDOWS[compiler]
     if compiler == "gcc":
         return [f"{prefix}-gcc"]
     return [compiler, *macho.FLAGS] if target == "apple" else [compiler, f"--target={prefix}", *flags]
@@ -137,12 +144,13 @@ def link(target, program, files):
 def compiled(target, compiler, folder, name, optimised):
     """Makes the object NAME.o of NAME.c in a folder. The words name no folder, so that a cache of compilers (ccache)
     knows the file again."""
-    words = [*command_of(target, compiler), *flags_of(target), optimised]
-    if target != "apple":
+    words = [*command_of(target, compiler), *flags_of(target, compiler), optimised]
+    translated = macho if target == "apple" else coff if compiler in OF_WINDOWS else None
+    if not translated:
         subprocess.run([*words, "-c", "-o", f"{name}.o", f"{name}.c"], check=True, cwd=folder)
         return
-    subprocess.run([*words, "-S", "-o", f"{name}.macho", f"{name}.c"], check=True, cwd=folder)
-    (folder / f"{name}.s").write_text(macho.in_elf((folder / f"{name}.macho").read_text()))
+    subprocess.run([*words, "-S", "-o", f"{name}.assembly", f"{name}.c"], check=True, cwd=folder)
+    (folder / f"{name}.s").write_text(translated.in_elf((folder / f"{name}.assembly").read_text()))
     subprocess.run([*command_of(target, "gcc"), "-c", "-o", f"{name}.o", f"{name}.s"], check=True, cwd=folder)
 
 
@@ -153,7 +161,8 @@ class Compiled(Played):
         self.target, self.compiler, self.folder = target, compiler, pathlib.Path(folder)
         self.folder.mkdir(parents=True, exist_ok=True)
         starts = range(0, len(signatures), IN_A_CHUNK)
-        chunks = [Chunk(number, signatures[start:start + IN_A_CHUNK]) for number, start in enumerate(starts)]
+        c_names = C_NAMES_OF_WINDOWS if compiler in OF_WINDOWS else C_NAMES
+        chunks = [Chunk(number, signatures[start:start + IN_A_CHUNK], c_names) for number, start in enumerate(starts)]
         self.types = [chunk.types for chunk in chunks]
         names = [f"chunk_{chunk.number}" for chunk in chunks]
         for name, chunk in zip(names, chunks):
@@ -162,7 +171,8 @@ class Compiled(Played):
         with ThreadPoolExecutor(JOBS) as pool:
             list(pool.map(self.compile, names, itertools.cycle(optimised)))
         program = self.folder / "play"
-        link(target, program, [self.folder / "index.c", *(self.folder / f"{name}.o" for name in names)])
+        files = [HERE / coff.CALLED] if compiler in OF_WINDOWS else []
+        link(target, program, [*files, self.folder / "index.c", *(self.folder / f"{name}.o" for name in names)])
         emulator = TARGETS[target][1]
         self.command = [*([emulator] if emulator else []), program]
 

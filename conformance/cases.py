@@ -6,7 +6,8 @@ callee's. What a place holds beside a value's own bytes is docs/RULES.md, sectio
 
 from random import Random
 
-from signature import FLOATING, INTEGERS, SIZES, leaves_of
+from places import X87
+from signature import FLOATING, INTEGERS, SIZES, VALUE_BYTES, leaves_of
 
 RETURN_ADDRESS_OF_HIDDEN = {"amd64": "g0", "aapcs64": None, "riscv": None, "win64": "g0", "apple": None}
 # To how many bytes a target's standard, not ffi3's own profile, says that a narrow integer is extended: compiled code
@@ -26,7 +27,7 @@ def values_for(signature, number, seed):
     random = Random(f"{seed} {number}")
 
     def bytes_of(kind):
-        return [random.randbytes(SIZES[leaf]) for leaf, _ in leaves_of(kind)]
+        return [random.randbytes(VALUE_BYTES[leaf]) for leaf, _ in leaves_of(kind)]
     return [bytes_of(kind) for kind in signature.arguments], bytes_of(signature.result)
 
 
@@ -98,6 +99,12 @@ def head(direction, index, plan, values, result):
     return [*lines, f"frame {plan.frame}"] if direction == "call" else [*lines, "begin", "dump"]
 
 
+def x87_lines(target, stand):
+    """How many x87 registers have a result, where some have."""
+    count = sum(piece.place in X87.get(target, ()) for piece in stand.pieces)
+    return [f"x87 {count}"] * (count > 0)
+
+
 def call_lines(target, index, signature, plan, layouts, values, result):
     """ffi3 is the caller."""
     lines = head("call", index, plan, values, result)
@@ -114,7 +121,8 @@ def call_lines(target, index, signature, plan, layouts, values, result):
         lines.append(f"put g0+0 {plan.vectors.to_bytes(8, 'little').hex()}")
     if plan.result.reference:
         lines.append(f"put_address {plan.result.reference}+0 {plan.result.copy}")
-    return [*lines, "go", "dump", *result_lines(target, signature, plan, layouts, result), "end"]
+    lines += [*x87_lines(target, plan.result), "go", "dump"]
+    return [*lines, *result_lines(target, signature, plan, layouts, result), "end"]
 
 
 def result_lines(target, signature, plan, layouts, result, widened=None):
@@ -149,7 +157,7 @@ def enter_lines(target, index, signature, plan, layouts, values, result):
     kind, stand = signature.result, plan.result
     if stand.reference:
         lines.append(f"want_aligned {stand.reference}+0 {layouts[kind].align}")
-    lines.append("go")
+    lines += ["go", *x87_lines(target, stand)]
     if stand.reference:
         lines += [f"put_at {stand.reference}+0 {at} {run.hex()}"
                   for at, run in runs(leaf_bytes(kind, layouts[kind], result))]

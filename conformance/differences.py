@@ -103,10 +103,15 @@ def without_result(signature):
     return replace(signature, result="void")
 
 
-def copy_of_its_own_alignment(signature, plan, direction, reason):
+def copy_of_its_own_alignment(signature, plan, direction, reason, kinds=None):
     found = re.fullmatch(r"the address at (\w+)\+0 is no multiple of 16", reason)
     return direction == "enter" and found is not None and any(
-        str(stand.reference) == found[1] for stand in plan.arguments)
+        str(stand.reference) == found[1] and (not kinds or kind in kinds)
+        for kind, stand in zip(signature.arguments, plan.arguments))
+
+
+def copy_of_two_doubles(signature, plan, direction, reason):
+    return copy_of_its_own_alignment(signature, plan, direction, reason, [("double", "double")])
 
 
 def reference_taken_by_value(signature, plan, direction, reason):
@@ -143,6 +148,9 @@ def in_four_bytes(signature, plan, direction, reason):
 
 COPIES = ("Microsoft, x64 calling convention, parameter passing: Structs or unions of other sizes are passed as a "
           "pointer to memory allocated by the caller.")
+COPY_ALIGNED = (
+    "Microsoft, x64 calling convention, parameter passing: For these aggregate types passed as a pointer, including "
+    "__m128, the caller-allocated temporary memory must be 16-byte aligned.")
 WIDE_RESULT = (
     "gcc 12 and clang 14 hand back an __int128 in xmm0. The standard has no integer of 128 bits; ffi3 treats it as a "
     "struct of its size, as both do where it is an argument.",
@@ -197,9 +205,11 @@ DIFFERENCES = [
         "clang aligns a copy as its type", "win64", "clang",
         "clang 14 gives a copy the alignment of its type, so its address may be no multiple of 16. ffi3's caller has "
         "copies at multiples of 16; its callee reads them at whatever address.",
-        "Microsoft, x64 calling convention, parameter passing: For these aggregate types passed as a pointer, "
-        "including __m128, the caller-allocated temporary memory must be 16-byte aligned.",
-        copy_of_its_own_alignment),
+        COPY_ALIGNED, copy_of_its_own_alignment),
+    Difference(
+        "gcc for Windows aligns a copy of a complex double as its type", "win64", "mingw",
+        "gcc 12 gives it an address that may be no multiple of 16, and a struct of two doubles one that is.",
+        COPY_ALIGNED, copy_of_two_doubles),
     Difference(
         "clang's caller of a variadic function stores a named char or short in four bytes", "apple", "clang",
         "clang 14 extends it to an int before it lays out the stack, and so what follows it may stand elsewhere; where "
@@ -213,8 +223,13 @@ DIFFERENCES = [
 ]
 
 
+# Compilers that differ as another does too.
+ALIKE = {("amd64", "clang-16"): "clang", ("win64", "mingw"): "gcc", ("win64", "clang-msvc"): "clang"}
+
+
 def listed(target, compiler):
-    return [difference for difference in DIFFERENCES if (difference.target, difference.compiler) == (target, compiler)]
+    names = compiler, ALIKE.get((target, compiler))
+    return [difference for difference in DIFFERENCES if difference.target == target and difference.compiler in names]
 
 
 def played(target, compiler, signature, plan):

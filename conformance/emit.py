@@ -10,8 +10,11 @@ C_NAMES = {
     "void": "void", "uint8": "unsigned char", "sint8": "signed char", "uint16": "unsigned short", "sint16": "short",
     "uint32": "unsigned int", "sint32": "int", "uint64": "unsigned long", "sint64": "long",
     "uint128": "unsigned __int128", "sint128": "__int128",
-    "float": "float", "double": "double", "pointer": "void *",
+    "float": "float", "double": "double", "pointer": "void *", "longdouble": "long double",
+    "floatcomplex": "_Complex float", "doublecomplex": "_Complex double", "longcomplex": "_Complex long double",
 }
+# Where long has 32 bits.
+C_NAMES_OF_WINDOWS = C_NAMES | {"uint64": "unsigned long long", "sint64": "long long"}
 
 
 def member_of(kind, path):
@@ -23,12 +26,23 @@ def member_of(kind, path):
     return text
 
 
+def leaf_of(name, kind, path):
+    """A leaf of a type with this C name, as an expression that is not evaluated, and where it begins in the type."""
+    part, path = (path[-1], path[:-1]) if path and isinstance(path[-1], str) else ("", path)
+    text = member_of(kind, path)
+    member, offset = (f"(({name} *)0)->{text}", f"offsetof({name}, {text})") if text else (f"*({name} *)0", "0")
+    if part:
+        return f"__{part}__ {member}", f"{offset} + sizeof(__real__ {member})" if part == "imag" else offset
+    return member, offset
+
+
 class Chunk:
     """One C file: some signatures, the structs that they use, and one `struct layout` for each type. The callers come
     last, since gcc takes its time where a function has another convention than the one before it."""
 
-    def __init__(self, number, signatures):
+    def __init__(self, number, signatures, c_names=C_NAMES):
         self.number = number
+        self.c_names = c_names
         self.names = {}
         self.types = []
         self.parts = ['#include "player.h"\n#include <stdarg.h>\n#include <stddef.h>\n']
@@ -48,7 +62,7 @@ class Chunk:
         """The C name of a type, which is defined, with its layout, at its first use."""
         if kind not in self.names:
             if isinstance(kind, str):
-                self.names[kind] = C_NAMES[kind]
+                self.names[kind] = self.c_names[kind]
             else:
                 members = " ".join(self.declared(element, f"m{i}") for i, element in enumerate(kind))
                 self.names[kind] = f"struct s{len(self.types)}"
@@ -66,11 +80,9 @@ class Chunk:
     def add_layout(self, kind):
         number, name = len(self.types), self.names[kind]
         self.types.append(kind)
-        leaves = leaves_of(kind)
-        paths = [member_of(kind, path) for _, path in leaves]
-        offsets = [f"offsetof({name}, {path})" if path else "0" for path in paths]
-        members = [f"(({name} *)0)->{path}" if path else f"*({name} *)0" for path in paths]
-        sizes = [f"sizeof({member})" for member in members]
+        leaves = [leaf_of(name, kind, path) for _, path in leaves_of(kind)]
+        members, offsets = zip(*leaves)
+        sizes = [f"LENGTH({member})" for member in members]
         kinds = [f"KIND({member})" for member in members]
         self.parts.append(f"static const unsigned short at_{number}[] = {{ {', '.join(offsets)} }};\n"
                           f"static const unsigned char size_{number}[] = {{ {', '.join(sizes)} }};\n"
@@ -91,7 +103,7 @@ class Chunk:
             parameters.append("...")
         callee = [f"/* {signature} */",
                   f"static {result} CONVENTION real_callee_{index}({', '.join(parameters) or 'void'}) {{"]
-        caller = [f"static void caller_{index}(function *called) {{"]
+        caller = [f"static void HELPER caller_{index}(function *called) {{"]
         if signature.fixed is not None:
             callee += ["REST rest;", f"REST_START(rest, a{fixed - 1});"]
         for i, (kind, layout) in enumerate(zip(kinds, layouts)):

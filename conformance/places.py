@@ -17,11 +17,13 @@ GENERAL = {
 GENERAL |= {"win64": GENERAL["amd64"], "apple": GENERAL["aapcs64"]}
 # The bytes of the return address between the stack pointer of an entry and the first stack argument.
 LINK = {"amd64": 8, "aapcs64": 0, "riscv": 0, "win64": 8, "apple": 0}
-# On AMD64 the player has the upper halves of vector registers as further ones. No place of ffi3 has bytes there.
+# On AMD64 the player has the upper halves of vector registers as further ones. No place of ffi3 has bytes there. Behind
+# the 32 it has on AMD64 st(0) and st(1), and on AArch64 the upper halves of v0 to v7.
 UPPER = 16
+BEHIND = 32
 FLOATING = {
     "amd64": {f"xmm{number}": number for number in range(16)}
-    | {f"xmm{number}_upper": UPPER + number for number in range(16)},
+    | {f"xmm{number}_upper": UPPER + number for number in range(16)} | {"st0": BEHIND, "st1": BEHIND + 2},
     "aapcs64": {f"v{number}": number for number in range(32)},
     "riscv": {f"fa{number}": 10 + number for number in range(8)},
 }
@@ -46,6 +48,9 @@ class Piece:
     place: Place
     offset: int
     length: int
+
+
+X87 = {"amd64": (Place("f", BEHIND), Place("f", BEHIND + 2))}
 
 
 @dataclass
@@ -135,8 +140,16 @@ def stand_of(target, words):
     pieces = []
     for word in words:
         name, offset, length = re.fullmatch(r"(\w+):(\d+)\+(\d+)", word).groups()
-        pieces.append(Piece(place_of(target, name), int(offset), int(length)))
+        pieces += halves(target, Piece(place_of(target, name), int(offset), int(length)))
     return Stand(pieces)
+
+
+def halves(target, piece):
+    """A piece, or, where it fills a vector register of AArch64, the two of it."""
+    place, offset, length = piece.place, piece.offset, piece.length
+    if length <= 8 or place.kind != "f" or place in X87.get(target, ()):
+        return [piece]
+    return [Piece(place, offset, 8), Piece(Place("f", BEHIND + place.number), offset + 8, length - 8)]
 
 
 def plan_of(target, lines):

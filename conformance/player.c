@@ -14,6 +14,7 @@
  *   want P HEX, want_address P N, want_at P N HEX    the same, looked at
  *   want_aligned P A  the address in place P is a multiple of A
  *   want_between P L H   the lowest byte of place P is from L to H
+ *   x87 N        the result is in so many x87 registers
  *   show         writes a line `shown BASE GENERAL FLOATING STACK`, in hexadecimal: registers, and the stack from BASE
  *   dump         writes a line with the same from the stack pointer on: in an entry `dumped I SP GENERAL FLOATING
  *                STACK`, to the end of the compiled caller's frame, and 512 bytes at least; in a call, where it has
@@ -28,6 +29,7 @@
 #include <setjmp.h>
 #include <signal.h>
 #include <stdarg.h>
+#include <stddef.h>
 #include <stdio.h>
 #include <stdlib.h>
 #include <string.h>
@@ -118,25 +120,25 @@ static int has_leaves(const void *value, const struct layout *layout, const unsi
     return good;
 }
 
-void argument_in(const void *value, const struct layout *layout)
+void HELPER argument_in(const void *value, const struct layout *layout)
 {
     if (!has_leaves(value, layout, values, &value_at))
         wrong("the callee finds another argument %u", argument);
     argument++;
 }
 
-void argument_out(void *value, const struct layout *layout)
+void HELPER argument_out(void *value, const struct layout *layout)
 {
     put_leaves(value, layout, values, &value_at);
 }
 
-void result_in(const void *value, const struct layout *layout)
+void HELPER result_in(const void *value, const struct layout *layout)
 {
     if (!has_leaves(value, layout, result, &result_at))
         wrong("the caller finds another result");
 }
 
-void result_out(void *value, const struct layout *layout)
+void HELPER result_out(void *value, const struct layout *layout)
 {
     put_leaves(value, layout, result, &result_at);
 }
@@ -174,6 +176,8 @@ static unsigned char *place(struct image *image)
     line += *line == ' ';
     if (kind == 's')
         return base + which + byte;
+    if (kind == 'f' && which >= 32)
+        return (unsigned char *)(image->further + which - 32) + byte;
     return (unsigned char *)((kind == 'g' ? image->general : image->floating) + which) + byte;
 }
 
@@ -241,6 +245,8 @@ static void play(const char *what)
         value_count = hex(values);
     } else if (!strcmp(what, "result")) {
         result_count = hex(result);
+    } else if (!strcmp(what, "x87")) {
+        now.x87_results = number();
     } else if (!strcmp(what, "put")) {
         hex(place(&now));
     } else if (!strcmp(what, "put_address")) {
@@ -314,12 +320,13 @@ void entered(void)
         if (!(KEPT_FLOATING >> k & 1))
             now.floating[k] = draw();
     }
+    fill(now.further, sizeof now.further);
     play_to("end");
 }
 
 static void call(function *callee)
 {
-    fill(&now, sizeof now);
+    fill(&now, offsetof(struct image, x87_results));
     play_to("go");
     before = now;
     play_call(callee, base);
@@ -339,6 +346,7 @@ static void call(function *callee)
 static void run_case(int is_call, const struct entry *entry)
 {
     ended = 0;
+    now.x87_results = 0;
     value_at = result_at = argument = 0;
     reasons[0] = 0;
     int fault = sigsetjmp(out_of_case, 1);

@@ -15,6 +15,11 @@ SIZES = {
 INTEGERS = [name for name in SIZES if "int" in name and name != "pointer"]
 FLOATING = ("float", "double")
 WIDE = ("uint128", "sint128")
+# What C has beside these, by no name of scripts: a long double, and complex numbers. What they are is a target's
+# (long_double.py): a long double is a double, or one of two further scalars. VALUE_BYTES has the bytes of values.
+COMPLEX = ("floatcomplex", "doublecomplex", "longcomplex")
+OF_C_ALONE = ("longdouble", *COMPLEX)
+VALUE_BYTES = SIZES | {"x87": 10, "binary128": 16}
 
 
 @dataclass(frozen=True)
@@ -67,9 +72,12 @@ def elements_of(kind):
 
 
 def leaves_of(kind):
-    """The scalars of a type from the left, each with the path of element numbers that leads to it."""
+    """The scalars of a type from the left, each with the path of element numbers that leads to it; that of a part of a
+    complex number ends with the part."""
     if kind == "void":
         return []
+    if kind in COMPLEX:
+        return [(kind, ("real",)), (kind, ("imag",))]
     if isinstance(kind, str):
         return [(kind, ())]
     return [(leaf, (i, *path)) for i, element in enumerate(elements_of(kind)) for leaf, path in leaves_of(element)]
@@ -147,7 +155,7 @@ def read_element(text, at):
             if text[at:at + 1] == "}":
                 return tuple(elements), at + 1
             at = expect(text, at, ",")
-    for name in ("void", *SIZES):
+    for name in ("void", *OF_C_ALONE, *SIZES):
         if text.startswith(name, at):
             return name, at + len(name)
     raise ValueError(f"{text!r} has no type at {at}")

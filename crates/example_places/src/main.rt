@@ -28,11 +28,12 @@ fn arguments(alloc: Global) -> Result<Fields, NoMemory> {
 pub fn places(alloc: Global, cif: &Cif<Riscv>) -> Result<Bytes, NoMemory>
     ensures { IfOk result (λ text. text ≡ all_lines riscv cif.now) }
 {
+    let placed = cif.placed();
     let mut text = Bytes::new(alloc);
-    for i in 0..cif.sig().count() {
-        text.extend(place_line(alloc, cif.placed(), At::Arg(i))?.as_slice())?;
+    for i in 0..placed.sig().count() {
+        text.extend(place_line(alloc, placed, At::Arg(i))?.as_slice())?;
     }
-    text.extend(place_line(alloc, cif.placed(), At::Ret)?.as_slice())?;
+    text.extend(place_line(alloc, placed, At::Ret)?.as_slice())?;
     Ok(text)
 }
 

@@ -16,7 +16,7 @@ use Rattle.ffi3_cdecl_rules.specs.Tokens.{TOO_GREAT}
 use Rattle.ffi3_cdecl_rules.specs.Grammar.{Declaration}
 use Rattle.ffi3_cdecl_rules.specs.Machine.{arrays}
 use Rattle.ffi3_cdecl_rules.specs.OnePass.{MOST_COUNTS, GREATEST_COUNT, with_count}
-use Rattle.ffi3_cdecl_rules.proofs.Alike.{AllSame, no_types, one_type, or_else_same, or_else_none, mapped_none, some_none, if_same, if_none, found_of, array_fault_is, of_same, none_of, too_deep_some}
+use Rattle.ffi3_cdecl_rules.proofs.Alike.{AllSame, no_types, one_type, or_else_same, or_else_none, mapped_none, some_none, if_same, if_none, array_fault_is, of_same, none_of, too_deep_some}
 use Rattle.ffi3_cdecl_rules.proofs.Judged.{IsSmall}
 use Rattle.ffi3_cdecl_rules.proofs.Kept.{all_length, SameDeclaration}
 
@@ -71,11 +71,11 @@ module _ (f : Format) where
     where
       same : (outer : ℕ) (role : Role) → first_fault outer role (array_of (resolved f t) n) ≡ first_fault outer role (array_of (resolved f u) n)
       same outer role =
-          array_fault_is n (resolved f t) outer role ∙ if_same (nat_lt outer DEEPEST_NESTING) (found_of role n outer (resolved f t)) (found_of role n outer (resolved f u)) ([], too_deep) (of_same role n outer (resolved f t) (resolved f u) (s.same_fault (outer + 1) AsElement) (λ e. ap (resolved f) (s.same_type (outer + 1) AsElement e))) ∙ sym (array_fault_is n (resolved f u) outer role)
+          array_fault_is n (resolved f t) outer role ∙ if_same (nat_lt outer DEEPEST_NESTING) _ _ ([], too_deep) (of_same role n outer (resolved f t) (resolved f u) (s.same_fault (outer + 1) AsElement) (λ e. ap (resolved f) (s.same_type (outer + 1) AsElement e))) ∙ sym (array_fault_is n (resolved f u) outer role)
 
       right : (outer : ℕ) (role : Role) → first_fault outer role (array_of (resolved f t) n) ≡ None → array_of t n ≡ array_of u n
       right outer role e =
-          ap (λ v. array_of v n) (s.same_type (outer + 1) AsElement (none_of role n outer (resolved f t) (if_none (nat_lt outer DEEPEST_NESTING) (found_of role n outer (resolved f t)) ([], too_deep) (sym (array_fault_is n (resolved f t) outer role) ∙ e))))
+          ap (λ v. array_of v n) (s.same_type (outer + 1) AsElement (none_of role n outer (resolved f t) (if_none (nat_lt outer DEEPEST_NESTING) _ ([], too_deep) (sym (array_fault_is n (resolved f t) outer role) ∙ e))))
 
   arrays_of_alike : (ns : List ℕ) (t u : Tree) → AlikeFor t u → AlikeFor (arrays ns t) (arrays ns u)
   arrays_of_alike [] t u s = s
@@ -99,15 +99,15 @@ module _ (f : Format) where
       same : (outer : ℕ) (role : Role) → 1 ≤ k + 1 → MOST_COUNTS ≤ outer + (k + 1) → first_fault outer role (array_of (resolved f t) n) ≡ first_fault outer role (array_of (resolved f u) n)
       same outer role some far =
           elim (cases_lt outer DEEPEST_NESTING) [
-            | inl shallow ↦ array_fault_is n (resolved f t) outer role ∙ if_same (nat_lt outer DEEPEST_NESTING) (found_of role n outer (resolved f t)) (found_of role n outer (resolved f u)) ([], too_deep) (of_same role n outer (resolved f t) (resolved f u) (d.same_deep (outer + 1) AsElement (omega arith) (omega arith)) (λ e. absurd (d.is_deep (outer + 1) AsElement (omega arith) (omega arith) e))) ∙ sym (array_fault_is n (resolved f u) outer role)
-            | inr deep ↦ array_fault_is n (resolved f t) outer role ∙ too_deep_some outer (found_of role n outer (resolved f t)) deep ∙ sym (array_fault_is n (resolved f u) outer role ∙ too_deep_some outer (found_of role n outer (resolved f u)) deep)
+            | inl shallow ↦ array_fault_is n (resolved f t) outer role ∙ if_same (nat_lt outer DEEPEST_NESTING) _ _ ([], too_deep) (of_same role n outer (resolved f t) (resolved f u) (d.same_deep (outer + 1) AsElement (omega arith) (omega arith)) (λ e. absurd (d.is_deep (outer + 1) AsElement (omega arith) (omega arith) e))) ∙ sym (array_fault_is n (resolved f u) outer role)
+            | inr deep ↦ array_fault_is n (resolved f t) outer role ∙ too_deep_some outer _ deep ∙ sym (array_fault_is n (resolved f u) outer role ∙ too_deep_some outer _ deep)
           ]
 
       there : (outer : ℕ) (role : Role) → 1 ≤ k + 1 → MOST_COUNTS ≤ outer + (k + 1) → first_fault outer role (array_of (resolved f t) n) ≡ None → ⊥
       there outer role some far e =
           elim (cases_lt outer DEEPEST_NESTING) [
-            | inl shallow ↦ d.is_deep (outer + 1) AsElement (omega arith) (omega arith) (none_of role n outer (resolved f t) (if_none (nat_lt outer DEEPEST_NESTING) (found_of role n outer (resolved f t)) ([], too_deep) (sym (array_fault_is n (resolved f t) outer role) ∙ e)))
-            | inr deep ↦ some_none ([], too_deep) (sym (array_fault_is n (resolved f t) outer role ∙ too_deep_some outer (found_of role n outer (resolved f t)) deep) ∙ e)
+            | inl shallow ↦ d.is_deep (outer + 1) AsElement (omega arith) (omega arith) (none_of role n outer (resolved f t) (if_none (nat_lt outer DEEPEST_NESTING) _ ([], too_deep) (sym (array_fault_is n (resolved f t) outer role) ∙ e)))
+            | inr deep ↦ some_none ([], too_deep) (sym (array_fault_is n (resolved f t) outer role ∙ too_deep_some outer _ deep) ∙ e)
           ]
 
   levels : (ns : List ℕ) (k : ℕ) (t u : Tree) → AlikeDeep k t u → AlikeDeep (k + length ns) (arrays ns t) (arrays ns u)

@@ -41,7 +41,7 @@ none_found s right =
 answered_first : (s : Signature) (f : SignatureFault) (o : Option SignatureFault) → SignatureAnswers for_places s o → IsFirstFaultFor for_places s f → Some f ≡ o
 answered_first s f None right first = absurd (right f first.is_there)
 answered_first s f (Some g) there first =
-    ap Some (one_first_signature_fault for_places s f g first there)
+    ap Some (one_first_signature_fault s f g first there)
 
 pub found_first : (s : Signature) (f : SignatureFault) → IsFirstFaultFor for_places s f → Some f ≡ first_fault_for for_places s
 found_first s f first =
@@ -108,9 +108,9 @@ answers (g ∷ gs) s =
     with_first g gs s (first_fault_for for_places (resolved_signature g s)) (first_fault_by gs s) (signature_answers for_places (resolved_signature g s)) (answers gs s)
 
 placed_by : (s : Signature) → ArePlaced s every_format → (format : Format) → SignatureIsPlaced (resolved_signature format s)
-placed_by s (first, second, third, rest) X87 = first
-placed_by s (first, second, third, rest) Binary128 = second
-placed_by s (first, second, third, rest) Double = third
+placed_by s (first, (second, (third, rest))) X87 = first
+placed_by s (first, (second, (third, rest))) Binary128 = second
+placed_by s (first, (second, (third, rest))) Double = third
 
 judged_everywhere_so : (d : Declaration) (o : Option SignatureFault) → Answers every_format d.signature o → IsJudgedEverywhere d (with_signature d o)
 judged_everywhere_so d None all = placed_everywhere (placed_by d.signature all)

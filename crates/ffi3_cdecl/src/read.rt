@@ -199,16 +199,23 @@ fn judged_for(alloc: Global, format: Format, d: Declaration) -> Result<Outcome, 
     })
 }
 
-/// The first fault of a signature whose long doubles have a format, in places.
+/// The first fault of a signature, in places.
 #[tactic(auto, using(crate::proofs::Judging::none_found, crate::proofs::Judging::found_first))]
+fn placing_fault(sig: &Sig) -> Option<SigFault>
+    ensures { option_map signature_fault_of result ≡ first_fault_for for_places sig.now }
+{
+    match check_placed(sig) {
+        Ok(()) => None,
+        Err(fault) => Some(fault),
+    }
+}
+
+/// That of a signature whose long doubles have a format.
 fn fault_for(alloc: Global, format: Format, sig: &Sig) -> Result<Option<SigFault>, NoMemory>
     ensures { IfOk result (λ f. option_map signature_fault_of f ≡ first_fault_for for_places (resolved_signature format sig.now)) }
 {
     let resolved = resolve(alloc, format, sig.copy(alloc)?)?;
-    Ok(match check_placed(&resolved) {
-        Ok(()) => None,
-        Err(fault) => Some(fault),
-    })
+    Ok(placing_fault(&resolved))
 }
 
 /// That by the first format by which there is any.

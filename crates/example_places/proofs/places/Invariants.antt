@@ -5,4 +5,4 @@ use Rattle.example_places.proofs.places.Given as goal
 
 abbrev pub invariant-loop-i : goal.invariant-loop-i
 invariant-loop-i l =
-    l.text ≡ argument_lines riscv l.cif l.i
+    l.text ≡ argument_lines riscv l.placed l.i
