@@ -52,7 +52,6 @@ fn run_over(
 }
 
 /// What the text is read as.
-#[tactic(auto, using(crate::proofs::Passes::computed))]
 fn outcome(alloc: Global, r: Dialect, c: Sign, text: &str) -> Result<Outcome, NoMemory>
     ensures { IfOk result (λ o. outcome_of o ≡ read_in (dialect_of r) (sign_of c) text.now) }
 {
@@ -62,7 +61,6 @@ fn outcome(alloc: Global, r: Dialect, c: Sign, text: &str) -> Result<Outcome, No
 }
 
 /// What the text is read as where long doubles have a format.
-#[tactic(auto, using(crate::proofs::Passes::computed_by, crate::proofs::Judging::same_judged_for))]
 fn text_for(alloc: Global, format: Format, c: Sign, text: &str) -> Result<Outcome, NoMemory>
     ensures { IfOk result (λ o. outcome_of o ≡ read_for format (sign_of c) text.now) }
 {
@@ -72,7 +70,6 @@ fn text_for(alloc: Global, format: Format, c: Sign, text: &str) -> Result<Outcom
 }
 
 /// What it is read as whatever format they have.
-#[tactic(auto, using(crate::proofs::Passes::computed_by, crate::proofs::Judging::same_judged_everywhere))]
 fn text_everywhere(alloc: Global, c: Sign, text: &str) -> Result<Outcome, NoMemory>
     ensures { IfOk result (λ o. outcome_of o ≡ read_everywhere (sign_of c) text.now) }
 {

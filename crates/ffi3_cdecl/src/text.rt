@@ -3,7 +3,7 @@ ghost use Rattle.std.specs.Prelude.{◌≡◌, ◌<◌, ◌≤◌, ◌++◌, ◌
 ghost use Rattle.ffi3_type_rules.specs.Tree.{double, trees_of};
 ghost use Rattle.ffi3_type_rules.specs.Signature.{SignatureHasNoFault};
 ghost use Rattle.ffi3_types.specs.TreeOf.{tree_of};
-ghost use Rattle.ffi3_cdecl_rules.specs.Tokens.{long_word, type_word, open_square, number, close_square, comma, semicolon};
+ghost use Rattle.ffi3_cdecl_rules.specs.Tokens.{complex_word, long_word, type_word, open_square, number, close_square, comma, semicolon};
 ghost use Rattle.ffi3_cdecl_rules.specs.Canonical.{hugs, holds, spelled, scalar_word, count_tokens, first_count_tokens, member_name, type_tokens, first_type_tokens, member_tokens, end_tokens, parameter_tokens, declaration_text, FixesAll, IsIdentifier};
 ghost use Rattle.ffi3_cdecl_rules.specs.Prototype.{behind_commas, fixed_tokens, prototype_text};
 ghost use Rattle.ffi3_cdecl_rules.specs.Reading.{IsReading, reads};
@@ -140,6 +140,14 @@ impl Writer {
         self.put_two(alloc, Token::Long, Token::Type(TypeWord::Double))
     }
 
+    /// A complex one.
+    fn put_long_complex(&mut self, alloc: Global) -> Result<(), NoMemory>
+        ensures { OnOk result (Wrote self.old self.new (λ rest. long_word ∷ type_word double ∷ complex_word ∷ rest)) }
+    {
+        self.put_long_double(alloc)?;
+        self.put(alloc, Token::Complex)
+    }
+
     /// One count of an array.
     fn put_count(&mut self, alloc: Global, count: u32) -> Result<(), NoMemory>
         ensures { OnOk result (Wrote self.old self.new (λ rest. open_square ∷ number count ∷ close_square ∷ rest)) }
@@ -200,10 +208,7 @@ impl Writer {
             }
             FfiType::Array(fields, _) => self.put_first_type(alloc, fields),
             FfiType::LongDouble => self.put_long_double(alloc),
-            FfiType::Complex => {
-                self.put_long_double(alloc)?;
-                self.put(alloc, Token::Complex)
-            }
+            FfiType::Complex => self.put_long_complex(alloc),
             FfiType::Vector => Ok(()),
             FfiType::X87 | FfiType::Binary128 => Ok(()),
         }
