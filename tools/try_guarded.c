@@ -514,7 +514,7 @@ static void try_interface(uint32_t target, const struct ffi3_node *nodes, size_t
 {
     static unsigned char bytes[sizeof line], result[1 << 13];
     static struct ffi3_move whole[MUCH / sizeof(struct ffi3_move)];
-    struct ffi3_registers none = {{0}, {0}, 0};
+    struct ffi3_registers none = {.sp = 0};
     may_write(&registers, 1);
     may_write(&stacks, 1);
     struct ffi3_interface *it = memset(place_in(&calls, sizeof *it, at_end), 0, sizeof *it);
