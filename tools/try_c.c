@@ -215,7 +215,8 @@ static size_t lay_out(uint32_t target, const char *text, size_t length, uint32_t
             check(is_right_leaf(target, leaves + i, layout->size), "leaf", text, length);
     } else if (status == FFI3_NOT_DECLARED) {
         check(!wanted && is_untouched(leaves, room * sizeof *leaves), "leaves of no function", text, length);
-        check_fault(&layout->fault, length, text, length);
+        if (!due)
+            check_fault(&layout->fault, length, text, length);
     } else {
         check(is_untouched(leaves, room * sizeof *leaves) && (status == FFI3_TOO_SMALL ? room < wanted
               : status == FFI3_UNKNOWN_VALUE ? value >= layout->arguments && value != FFI3_RESULT

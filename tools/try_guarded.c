@@ -255,6 +255,10 @@ static void add_found(uint32_t status, const struct ffi3_arguments *found)
     add(row, sizeof row);
 }
 
+// The registers that a program hands in that was compiled with a version before 0.3. Functions here have no long doubles,
+// so that no more of them is read or written.
+#define AS_BEFORE offsetof(struct ffi3_registers, upper)
+
 // A machine whose registers and memory have such addresses; its stack is memory from its start on.
 static struct ffi3_registers machine;
 static unsigned char memory[1 << 16];
@@ -275,7 +279,7 @@ static void try_arguments(uint32_t target, const char *text, size_t length, int 
     static unsigned char whole[MUCH];
     static struct ffi3_arguments found;
     draw_machine();
-    const struct ffi3_registers *lent = lend(&registers, &machine, sizeof machine, at_end);
+    const struct ffi3_registers *lent = lend(&registers, &machine, AS_BEFORE, at_end);
     uint32_t is = ffi3_arguments(target, text, length, lent, memory, sizeof memory, &found, whole, sizeof whole);
     size_t least = found.stack, room = is == FFI3_OK ? found.size : 64;
     for (size_t there = all ? 0 : least; there <= least + 2; there = next(there, least)) {
@@ -354,7 +358,7 @@ static void try_each(const struct function *of, uint32_t target, int all, int at
     static unsigned char values_of_all[MUCH];
     static struct ffi3_arguments found;
     draw_machine();
-    const struct ffi3_registers *lent = lend(&registers, &machine, sizeof machine, at_end);
+    const struct ffi3_registers *lent = lend(&registers, &machine, AS_BEFORE, at_end);
     uint32_t is = each_of(of, target, lent, memory, sizeof memory, &found, whole, ALL, values_of_all,
                           sizeof values_of_all);
     size_t least = found.stack, count = found.arguments, size = found.size;
@@ -393,7 +397,7 @@ static void try_result(const struct function *of, uint32_t target, int all, int 
     static unsigned char whole[MUCH];
     static struct ffi3_result found;
     draw_machine();
-    const struct ffi3_registers *lent = lend(&registers, &machine, sizeof machine, at_end);
+    const struct ffi3_registers *lent = lend(&registers, &machine, AS_BEFORE, at_end);
     const unsigned char *stack = lend(&stacks, memory, DEEP, at_end);
     uint32_t is = result_of(of, target, lent, stack, DEEP, &found, whole, sizeof whole);
     size_t wanted = is == FFI3_OK ? found.size : 0;
@@ -543,9 +547,9 @@ static void try_interface(uint32_t target, const struct ffi3_node *nodes, size_t
     if (asked == FFI3_OK && sizes.values < sizeof bytes && sizes.result < sizeof result && frame <= 1 << 16) {
         const unsigned char *values = lend(&texts, bytes, sizes.values, at_end);
         unsigned char *stack = place_in(&stacks, frame, at_end);
-        struct ffi3_registers *held = memcpy(place_in(&registers, sizeof none, at_end), &none, sizeof none);
+        struct ffi3_registers *held = memcpy(place_in(&registers, AS_BEFORE, at_end), &none, AS_BEFORE);
         check(ffi3_store(it, values, sizes.values, held, stack, frame) == FFI3_OK, "store");
-        add(held, sizeof *held);
+        add(held, AS_BEFORE);
         add(stack, frame);
         unsigned char *found = place_in(&arrays, sizes.values, at_end);
         struct ffi3_reason reason;
