@@ -229,6 +229,8 @@ static size_t try_layout(const char *text, size_t length, uint32_t value, int al
         check(status == (told == FFI3_OK && capacity < wanted ? FFI3_TOO_SMALL : told)
                   && !memcmp(layout, &found, sizeof found), "layout");
         check_array(leaves, whole, sizeof *leaves, wanted, capacity, "leaves");
+        uint32_t same = ffi3_layout_for(FFI3_AMD64, text, length, value, layout, leaves, capacity);
+        check(told != FFI3_OK || same == status, "layout for a target");
     }
     return found.arguments;
 }
@@ -255,7 +257,7 @@ static void add_found(uint32_t status, const struct ffi3_arguments *found)
     add(row, sizeof row);
 }
 
-// The registers that a program hands in that was compiled with a version before 0.3. Functions here have no long doubles,
+// Of registers what a program hands in that was compiled with a version before 0.3. Functions here have no long double,
 // so that no more of them is read or written.
 #define AS_BEFORE offsetof(struct ffi3_registers, upper)
 
@@ -496,6 +498,8 @@ static void try_type(const struct ffi3_node *nodes, size_t count, int all, int a
         check(status == (told == FFI3_OK && capacity < found.leaves ? FFI3_TOO_SMALL : told)
                   && !memcmp(type, &found, sizeof found), "type of nodes");
         check_array(room, leaves, sizeof *room, found.leaves, capacity, "leaves of nodes");
+        uint32_t same = ffi3_layout_nodes_for(FFI3_AMD64, nodes, count, type, room, capacity);
+        check(told != FFI3_OK || same == status, "type of nodes for a target");
     }
     for (size_t capacity = all ? 0 : found.members; capacity <= found.members + 2;
          capacity = next(capacity, found.members)) {
@@ -505,11 +509,15 @@ static void try_type(const struct ffi3_node *nodes, size_t count, int all, int a
         check(status == (told == FFI3_OK && capacity < found.members ? FFI3_TOO_SMALL : told)
                   && !memcmp(type, &found, sizeof found), "type of nodes");
         check_array(room, offsets, sizeof *room, found.members, capacity, "offsets of nodes");
+        uint32_t same = ffi3_offsets_for(FFI3_AMD64, nodes, count, type, room, capacity);
+        check(told != FFI3_OK || same == status, "offsets for a target");
     }
     for (size_t members = 0; members <= found.members && members < ALL; members++) {
         const size_t *lent = lend(&registers, offsets, members * sizeof *offsets, at_end);
         uint32_t status = ffi3_check_layout(nodes, count, found.size, found.align, lent, members, &fault);
         check(status == (members < found.members ? FFI3_NOT_DECLARED : told), "a layout that is told");
+        uint32_t same = ffi3_check_for(FFI3_AMD64, nodes, count, found.size, found.align, lent, members, &fault);
+        check(told != FFI3_OK || same == status, "a layout that is told for a target");
     }
 }
 
