@@ -106,6 +106,11 @@ static void lay_out(void)
     must(ffi3_layout(text, length, FFI3_RESULT, &layout, leaves, MOST) == FFI3_OK, "layout");
 }
 
+static void layout_for(void)
+{
+    must(ffi3_layout_for(FFI3_AMD64, text, length, FFI3_RESULT, &layout, leaves, MOST) == FFI3_OK, "layout_for");
+}
+
 /* How many nodes the result has: none but the first where it is a scalar. */
 static size_t of_result(void)
 {
@@ -126,6 +131,22 @@ static void check_layout(void)
 {
     must(ffi3_check_layout(nodes, of_result(), type.size, type.align, offsets, type.members, &fault) == FFI3_OK,
          "check_layout");
+}
+
+static void layout_nodes_for(void)
+{
+    must(ffi3_layout_nodes_for(FFI3_AMD64, nodes, of_result(), &type, leaves, MOST) == FFI3_OK, "layout_nodes_for");
+}
+
+static void offsets_for(void)
+{
+    must(ffi3_offsets_for(FFI3_AMD64, nodes, of_result(), &type, offsets, MOST) == FFI3_OK, "offsets_for");
+}
+
+static void check_for(void)
+{
+    must(ffi3_check_for(FFI3_AMD64, nodes, of_result(), type.size, type.align, offsets, type.members, &fault) ==
+             FFI3_OK, "check_for");
 }
 
 static void arguments(void)
@@ -206,10 +227,14 @@ int main(int number, char **words)
     tell("ffi3_place", place);
     tell("ffi3_place_nodes", place_nodes);
     tell("ffi3_layout of the result", lay_out);
+    tell("ffi3_layout_for", layout_for);
     tell("ffi3_check_text", check_text);
     tell("ffi3_layout_nodes of the result", layout_nodes);
+    tell("ffi3_layout_nodes_for", layout_nodes_for);
     tell("ffi3_offsets_nodes of the result", offsets_nodes);
+    tell("ffi3_offsets_for", offsets_for);
     tell("ffi3_check_layout of the result", check_layout);
+    tell("ffi3_check_for", check_for);
     tell("ffi3_arguments", arguments);
     tell("ffi3_fault_text", tell_fault);
     tell("ffi3_fault_lines", tell_lines);

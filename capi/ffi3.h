@@ -15,16 +15,16 @@
  *
  * DECLARATIONS. A text is the declaration of one function as a manual page has it, with or without a semicolon:
  * `ssize_t read(int fd, void *buf, size_t count);`. Types are C's integers and floating-point types with their words in
- * any order, _Bool and bool, float _Complex and double _Complex, __int128, the names of <stdint.h> and <stddef.h> that
- * say a width, size_t, ssize_t, ptrdiff_t, intptr_t, intmax_t and those without a sign, pointers to anything, also to
- * names that are not known, arrays and functions as parameters, and structs that are written out where they are used,
- * `struct { int8_t a[2][3], *b; }`. A char without a sign has that of the target, and in a layout is signed. No other
- * name, no enum and no union is a type by itself: not wchar_t or int_fast8_t. A long has 64 bits for each standard,
- * also for Microsoft's, where C's has 32: what is a long there is written int. Qualifiers, storage classes, comments,
- * and attributes that say nothing of where a value stands are passed over. There is no preprocessor and no typedef. Of
- * a variadic function (`, ...`) the named arguments are placed, and behind them the types that stand behind the dots,
- * `, ..., int, double`, which is no C: those that a call passes there. At most 64 arguments, 4,096 bytes a struct, and
- * structs and arrays 16 deep.
+ * any order, _Bool and bool, long double, the three complex types, __int128, the names of <stdint.h> and <stddef.h>
+ * that say a width, size_t, ssize_t, ptrdiff_t, intptr_t, intmax_t and those without a sign, pointers to anything, also
+ * to names that are not known, arrays and functions as parameters, and structs that are written out where they are
+ * used, `struct { int8_t a[2][3], *b; }`. A char without a sign has that of the target, and in a layout is signed. No
+ * other name, no enum and no union is a type by itself: not wchar_t or int_fast8_t. A long has 64 bits for each
+ * standard, also for Microsoft's, where C's has 32: what is a long there is written int. Qualifiers, storage classes,
+ * comments, and attributes that say nothing of where a value stands are passed over. There is no preprocessor and no
+ * typedef. Of a variadic function (`, ...`) the named arguments are placed, and behind them the types that stand behind
+ * the dots, `, ..., int, double`, which is no C: those that a call passes there. At most 64 arguments, 4,096 bytes a
+ * struct, and structs and arrays 16 deep.
  *
  * DUTIES OF A CALLER. Each pointer points to memory of its type that the caller may read, and, where it is not const,
  * write: to as many elements as the length or the capacity behind it says, else to one. Where that length or capacity
@@ -43,8 +43,10 @@
  * WHAT STAYS. A program that is linked with one version of libffi3.so.0 goes with each later one: functions, numbers,
  * and the size and fields of each struct stay. What comes later has numbers of its own, stands in what is `reserved`
  * today, or in functions and structs of its own. So the structs of version 0.1 that have no reserved words never grow
- * (ffi3_fault, ffi3_piece, ffi3_call, ffi3_leaf, ffi3_layout and ffi3_registers), nor do ffi3_node and ffi3_move: they
- * stand in arrays, and have kinds.
+ * (ffi3_fault, ffi3_piece, ffi3_call, ffi3_leaf and ffi3_layout), nor do ffi3_node and ffi3_move: they stand in arrays,
+ * and have kinds. One has grown: since version 0.3 ffi3_registers ends with `upper`, which is read or written only
+ * where a call has a long double in a vector register, by FFI3_AAPCS64. No earlier version placed such a call, so a
+ * program that was compiled without `upper` may hand in what it has.
  */
 #ifndef FFI3_H
 #define FFI3_H
@@ -57,7 +59,7 @@ extern "C" {
 #endif
 
 /* 10000 * major + 100 * minor + patch: 10203 would be version 1.2.3. */
-#define FFI3_VERSION 200
+#define FFI3_VERSION 300
 
 /* CALLING STANDARDS, by their machines. */
 #define FFI3_AMD64 0   /* System V psABI for AMD64: Linux, macOS, the BSDs */
@@ -94,11 +96,11 @@ extern "C" {
 #define FFI3_BAD_NUMBER 4            /* the number at `offset` is over 4,294,967,295 */
 #define FFI3_BAD_TYPEDEF 5           /* an array of no elements; of nodes also a struct of no members, a void that is no
                                         result, or an array that is no member and no element */
-#define FFI3_LEFT_OUT_LONG_DOUBLE 6  /* a long double by value; and its complex. Kinds 8 and 12 are of nodes alone */
-#define FFI3_LEFT_OUT_COMPLEX 7
+#define FFI3_LEFT_OUT_LONG_DOUBLE 6  /* of a layout without a target: a long double, whose size is the target's; and */
+#define FFI3_LEFT_OUT_COMPLEX 7      /* its complex. Kinds 8 and 12 are of nodes alone */
 #define FFI3_LEFT_OUT_VECTOR 8
 #define FFI3_TOO_LARGE 9             /* a struct or an array of `number` bytes, more than 4,096 */
-#define FFI3_TOO_DEEP 10             /* structs and arrays more than 16 deep. A complex is a struct of two */
+#define FFI3_TOO_DEEP 10             /* structs and arrays more than 16 deep. A complex is one of them */
 #define FFI3_TOO_MANY 11             /* `number` arguments, more than 64 */
 #define FFI3_BAD_FIXED 12            /* of `number` arguments, `argument` are fixed */
 #define FFI3_BAD_VARIADIC 13         /* C would promote the type of variadic argument `argument` */
@@ -127,6 +129,7 @@ struct ffi3_fault {
 #define FFI3_GENERAL 0  /* a general register: ffi3_register_name has its name */
 #define FFI3_FLOATING 1 /* a floating or vector register */
 #define FFI3_STACK 2    /* the stack, from where stack arguments begin: on Windows from the 32-byte shadow store on */
+#define FFI3_X87 3      /* st(0) or st(1): a long double of FFI3_AMD64 as a result, all ten bytes of it */
 
 /* What a caller writes into the REST of an argument's register, or of its last eight bytes on the stack, and a callee
  * into that of a result's. Who reads it looks at the value's own bytes, and counts on the rest only where the standard
@@ -142,11 +145,11 @@ struct ffi3_fault {
 struct ffi3_piece {
     uint32_t part;   /* an argument's number, FFI3_HIDDEN or FFI3_RESULT */
     uint32_t holds;  /* FFI3_BYTES or FFI3_ADDRESS */
-    uint32_t place;  /* FFI3_GENERAL, FFI3_FLOATING or FFI3_STACK */
+    uint32_t place;  /* FFI3_GENERAL, FFI3_FLOATING, FFI3_STACK or FFI3_X87 */
     uint32_t number; /* which register; on the stack, the offset in bytes from where stack arguments begin */
     uint32_t offset; /* the first byte of the value that stands there; of an address, where the value stands in the
                         caller's frame, from its start, which is where stack arguments begin */
-    uint32_t length; /* how many bytes */
+    uint32_t length; /* how many bytes: 8 at most in a general register, 16 in a vector register, 10 in one of x87 */
     uint32_t rest;   /* FFI3_REST_FREE and so on */
 };
 
@@ -172,8 +175,12 @@ struct ffi3_call {
  * argument 0, then those of argument 1 and so on, and then that of FFI3_HIDDEN, if the result is left in a buffer.
  * Behind them stands what is given back: the pieces of FFI3_RESULT, which has none where it is void; or, where the
  * result is left in a buffer, the register in which the callee returns the buffer's address, if the standard has one.
- * The bytes of a value that stand on the stack one behind another are one piece. The elements from CALL->pieces on stay
- * as they were.
+ * The bytes of a value that stand on the stack one behind another are one piece, and so are those of one register. The
+ * elements from CALL->pieces on stay as they were.
+ *
+ * A long double is what it is by TARGET: of FFI3_AMD64 x87's extended format, in 16 bytes of which ten are significant;
+ * of FFI3_AAPCS64 and FFI3_RISCV IEEE 754's binary128; of FFI3_WIN64 and FFI3_APPLE a double. A gcc for Windows has
+ * another, of 16 bytes, which it passes by its address: so it is told as an __int128.
  *
  * FFI3_OK: CALL and PIECES are filled.
  * FFI3_TOO_SMALL: CALL is filled, and PIECES is as it was: it wants CALL->pieces elements. A CAPACITY of 0 asks for
@@ -184,7 +191,7 @@ struct ffi3_call {
 uint32_t ffi3_place(uint32_t target, const char *text, size_t length, struct ffi3_call *call,
                     struct ffi3_piece *pieces, size_t capacity);
 
-/* KINDS OF LEAF: the scalars of C, by their widths. */
+/* KINDS OF LEAF: the scalars of C, by their widths. The last two are no kinds of node: see FFI3_LONG_DOUBLE. */
 #define FFI3_UINT8 0
 #define FFI3_SINT8 1
 #define FFI3_UINT16 2
@@ -198,11 +205,13 @@ uint32_t ffi3_place(uint32_t target, const char *text, size_t length, struct ffi
 #define FFI3_FLOAT 10
 #define FFI3_DOUBLE 11
 #define FFI3_POINTER 12
+#define FFI3_LEAF_X87 21       /* a long double in x87's extended format */
+#define FFI3_LEAF_BINARY128 22 /* a long double in IEEE 754's binary128 */
 
 /* A scalar in a type. */
 struct ffi3_leaf {
     uint32_t kind; /* FFI3_UINT8 and so on */
-    uint32_t size; /* its bytes */
+    uint32_t size; /* its bytes: of FFI3_LEAF_X87 the ten significant ones of 16 */
     size_t offset; /* its first byte, from the start of the type */
 };
 
@@ -219,7 +228,8 @@ struct ffi3_layout {
  *                      struct ffi3_layout *LAYOUT, struct ffi3_leaf *LEAVES, size_t CAPACITY)
  *
  * How the type of argument VALUE is laid out, or of the result where VALUE is FFI3_RESULT, of the function that the
- * LENGTH bytes at TEXT declare. All five standards lay out alike.
+ * LENGTH bytes at TEXT declare. All five standards lay out alike, but for a long double, which so is a fault here:
+ * ffi3_layout_for lays it out.
  *
  * LEAVES is an array of CAPACITY elements, and is given the type's scalars from the front.
  *
@@ -231,6 +241,16 @@ struct ffi3_layout {
  */
 uint32_t ffi3_layout(const char *text, size_t length, uint32_t value, struct ffi3_layout *layout,
                      struct ffi3_leaf *leaves, size_t capacity);
+
+/* uint32_t ffi3_layout_for(uint32_t TARGET, const char *TEXT, size_t LENGTH, uint32_t VALUE,
+ *                          struct ffi3_layout *LAYOUT, struct ffi3_leaf *LEAVES, size_t CAPACITY)
+ *
+ * As ffi3_layout, of a function that is called by the standard TARGET, which says what a long double is, and whether a
+ * char has a sign. The answers are those of ffi3_layout, and FFI3_UNKNOWN_TARGET, told first: LAYOUT is 0, and LEAVES
+ * as it was.
+ */
+uint32_t ffi3_layout_for(uint32_t target, const char *text, size_t length, uint32_t value, struct ffi3_layout *layout,
+                         struct ffi3_leaf *leaves, size_t capacity);
 
 /* KINDS OF TOKEN, as ffi3_check_text tells what could have stood in a place. More may come: 0 is none. */
 #define FFI3_EXPECTED_TYPE 1         /* a name or a word with which a type begins */
@@ -299,9 +319,9 @@ struct ffi3_node {
 #define FFI3_VOID 13                /* as a result alone */
 #define FFI3_COMPLEX_FLOAT 14       /* float _Complex: as all standards say, the struct of two */
 #define FFI3_COMPLEX_DOUBLE 15      /* double _Complex */
-#define FFI3_LONG_DOUBLE 16         /* these three are a fault by name: FFI3_LEFT_OUT_LONG_DOUBLE and so on */
-#define FFI3_COMPLEX_LONG_DOUBLE 17
-#define FFI3_VECTOR 18
+#define FFI3_LONG_DOUBLE 16         /* as the target has it; where none is given a fault: FFI3_LEFT_OUT_LONG_DOUBLE */
+#define FFI3_COMPLEX_LONG_DOUBLE 17 /* so too: FFI3_LEFT_OUT_COMPLEX */
+#define FFI3_VECTOR 18              /* a fault by name: FFI3_LEFT_OUT_VECTOR */
 #define FFI3_STRUCT 19
 #define FFI3_ARRAY 20               /* a member of a struct, or an element of an array */
 
@@ -323,8 +343,8 @@ uint32_t ffi3_place_nodes(uint32_t target, const struct ffi3_node *nodes, size_t
 struct ffi3_type {
     size_t size;          /* in bytes, a multiple of the alignment; of void 0 */
     size_t align;         /* 1, 2, 4, 8 or 16 */
-    size_t members;       /* how many members a struct has, those of structs in it not among them; a complex has 2, else
-                             0 */
+    size_t members;       /* how many members a struct has, those of structs in it not among them; a complex has 2, but
+                             one of x87's format, which is an array, has none; else 0 */
     size_t leaves;        /* how many scalars it has, those of structs and arrays in it among them */
     uint64_t reserved[2]; /* 0 */
     struct ffi3_fault fault;
@@ -352,6 +372,21 @@ uint32_t ffi3_layout_nodes(const struct ffi3_node *nodes, size_t count, struct f
 uint32_t ffi3_offsets_nodes(const struct ffi3_node *nodes, size_t count, struct ffi3_type *type, size_t *offsets,
                             size_t capacity);
 
+/* uint32_t ffi3_layout_nodes_for(uint32_t TARGET, const struct ffi3_node *NODES, size_t COUNT, struct ffi3_type *TYPE,
+ *                                struct ffi3_leaf *LEAVES, size_t CAPACITY)
+ * uint32_t ffi3_offsets_for(uint32_t TARGET, const struct ffi3_node *NODES, size_t COUNT, struct ffi3_type *TYPE,
+ *                           size_t *OFFSETS, size_t CAPACITY)
+ *
+ * The same of the type that the nodes are by the standard TARGET: that of the result, where they declare a function of
+ * no arguments as ffi3_place_nodes reads them. Where they do not, TYPE->fault is what it says of them, or
+ * FFI3_NOT_ONE_TYPE where they are those of more types. FFI3_UNKNOWN_TARGET is told first: TYPE is 0, and the array as
+ * it was.
+ */
+uint32_t ffi3_layout_nodes_for(uint32_t target, const struct ffi3_node *nodes, size_t count, struct ffi3_type *type,
+                               struct ffi3_leaf *leaves, size_t capacity);
+uint32_t ffi3_offsets_for(uint32_t target, const struct ffi3_node *nodes, size_t count, struct ffi3_type *type,
+                          size_t *offsets, size_t capacity);
+
 /* uint32_t ffi3_check_layout(const struct ffi3_node *NODES, size_t COUNT, size_t SIZE, size_t ALIGN,
  *                            const size_t *OFFSETS, size_t MEMBERS, struct ffi3_fault *FAULT)
  *
@@ -368,12 +403,23 @@ uint32_t ffi3_offsets_nodes(const struct ffi3_node *nodes, size_t count, struct 
 uint32_t ffi3_check_layout(const struct ffi3_node *nodes, size_t count, size_t size, size_t align,
                            const size_t *offsets, size_t members, struct ffi3_fault *fault);
 
+/* uint32_t ffi3_check_for(uint32_t TARGET, const struct ffi3_node *NODES, size_t COUNT, size_t SIZE, size_t ALIGN,
+ *                         const size_t *OFFSETS, size_t MEMBERS, struct ffi3_fault *FAULT)
+ *
+ * The same of the type that the nodes are by the standard TARGET: FAULT says what ffi3_layout_nodes_for says of them.
+ * FFI3_UNKNOWN_TARGET is told first: FAULT is 0.
+ */
+uint32_t ffi3_check_for(uint32_t target, const struct ffi3_node *nodes, size_t count, size_t size, size_t align,
+                        const size_t *offsets, size_t members, struct ffi3_fault *fault);
+
 /* What a machine holds at one moment. For ffi3_arguments that is a function's entry: its first instruction, before any
  * of this changed. */
 struct ffi3_registers {
     uint64_t general[32];  /* by the numbers that ffi3_register_name takes; what is no register is not read */
-    uint64_t floating[32]; /* of each the low 64 bits */
+    uint64_t floating[32]; /* of each the low 64 bits. On AMD64 16 and 17 are st(0): the 64 bits of its significand,
+                              and the 16 of its sign and exponent; 18 and 19 are st(1). They have results alone */
     uint64_t sp;           /* the stack pointer: on AMD64 and Windows it points to the return address */
+    uint64_t upper[8];     /* on AArch64 the high 64 bits of v0 to v7, for long doubles alone. Since version 0.3 */
 };
 
 /* The arguments of a call, as a whole. */
@@ -397,7 +443,7 @@ struct ffi3_arguments {
  * all of it is among the bytes of STACK.
  *
  * VALUES has room for CAPACITY bytes. It is given the values one after another, argument 0 first, each as it stands in
- * memory, from a multiple of 8 on; ffi3_layout has their sizes. Padding in them and between them is 0.
+ * memory, from a multiple of 8 on; ffi3_layout_for has their sizes. Padding in them and between them is 0.
  *
  * FFI3_OK: FOUND and VALUES are filled.
  * FFI3_TOO_SMALL: FOUND is filled, and VALUES is as it was: it wants FOUND->size bytes.
@@ -533,7 +579,8 @@ void ffi3_release(struct ffi3_interface *interface);
 /* The sizes of a call, in bytes. */
 struct ffi3_sizes {
     size_t values;        /* the arguments' values, packed: one after another, each from a multiple of 8 on. A uint128
-                             may so stand where C has none: copy it by memcpy */
+                             or long double may so stand where C has none: copy
+                             it by memcpy */
     size_t result;        /* the result */
     size_t link;          /* the return address on the stack: 8 on AMD64 and Windows, else 0 */
     size_t frame;         /* stack arguments, copies and a hidden result's buffer. A multiple of 16 */
@@ -634,10 +681,12 @@ uint32_t ffi3_give(struct ffi3_interface *interface, const unsigned char *result
                    struct ffi3_reason *reason);
 
 /* MOVES: the same as plain data, for whoever compiles calls, or plays them. Values are packed as above. An exchange is
- * an array of bytes: general register R at 8 * R, floating register R at 256 + 8 * R, then 64 bytes that no move speaks
- * of, and from FFI3_FRAME_AT on the frame. Whoever plays the first list, and the last of a hidden result, has an
- * exchange from which the callee is entered; whoever plays the second from the exchange at the return has the result;
- * the third and the fourth are the callee's. Any number of threads may read moves. */
+ * an array of bytes: general register R at 8 * R, floating register R at 256 + 8 * R, x87's words as ffi3_registers has
+ * them, then 64 bytes, and from FFI3_FRAME_AT on the frame. In these 64 bytes, from 512 on, stand the high 64 bits of
+ * AArch64's v0 to v7, where a call by FFI3_AAPCS64 has a long double there; no move of another call speaks of them.
+ * Whoever plays the first list, and the last of a hidden result, has an exchange from which the callee is entered;
+ * whoever plays the second from the exchange at the return has the result; the third and the fourth are the callee's.
+ * Any number of threads may read moves. */
 #define FFI3_FRAME_AT 576
 
 /* LISTS of moves. */
@@ -709,9 +758,9 @@ size_t ffi3_fault_lines(uint32_t target, const char *text, size_t length, char *
 /* size_t ffi3_register_name(uint32_t TARGET, uint32_t PLACE, uint32_t NUMBER, char *NAME, size_t CAPACITY)
  *
  * The name of register NUMBER, as "rdi", "x0", "fa0": a general one where PLACE is FFI3_GENERAL, a floating one where
- * it is FFI3_FLOATING. Numbers are those of the machine's instructions. Answers how long the name is, without the
- * terminating NUL; it is written, with that NUL, only where CAPACITY is greater: 8 is enough for each. What is no
- * register has the empty name.
+ * it is FFI3_FLOATING, st0 or st1 where it is FFI3_X87. Numbers are those of the machine's instructions. Answers how
+ * long the name is, without the terminating NUL; it is written, with that NUL, only where CAPACITY is greater: 8 is
+ * enough for each. What is no register has the empty name.
  */
 size_t ffi3_register_name(uint32_t target, uint32_t place, uint32_t number, char *name, size_t capacity);
 

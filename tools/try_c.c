@@ -13,13 +13,15 @@
 // The sizes that programs are linked with: none of them changes.
 _Static_assert(sizeof(struct ffi3_fault) == 24 && sizeof(struct ffi3_piece) == 28, "what version 0.1 has");
 _Static_assert(sizeof(struct ffi3_call) == 80 && sizeof(struct ffi3_leaf) == 16, "what version 0.1 has");
-_Static_assert(sizeof(struct ffi3_layout) == 56 && sizeof(struct ffi3_registers) == 520, "what version 0.1 has");
+_Static_assert(sizeof(struct ffi3_layout) == 56, "what version 0.1 has");
+_Static_assert(offsetof(struct ffi3_registers, upper) == 520, "what version 0.1 has");
 _Static_assert(sizeof(struct ffi3_arguments) == 64, "what version 0.1 has");
 _Static_assert(offsetof(struct ffi3_arguments, fault) == 40, "where version 0.1 has it");
 _Static_assert(sizeof(struct ffi3_node) == 8 && sizeof(struct ffi3_type) == 72, "what version 0.2 has");
 _Static_assert(sizeof(struct ffi3_checked) == 88 && offsetof(struct ffi3_checked, fault) == 64, "what version 0.2 has");
 _Static_assert(sizeof(struct ffi3_argument) == 32 && sizeof(struct ffi3_result) == 56, "what version 0.2 has");
 _Static_assert(sizeof(struct ffi3_interface) == 8 && sizeof(struct ffi3_sizes) == 64, "what version 0.2 has");
+_Static_assert(sizeof(struct ffi3_registers) == 584, "what version 0.3 has");
 _Static_assert(sizeof(struct ffi3_reason) == 24 && sizeof(struct ffi3_move) == 32, "what version 0.2 has");
 
 static long due, counted;
@@ -117,8 +119,12 @@ static int is_untouched(const void *made, size_t size)
 static int is_right_piece(const struct ffi3_call *call, size_t i, const struct ffi3_piece *p)
 {
     int part = i < call->passed ? p->part < call->arguments || p->part == FFI3_HIDDEN : p->part == FFI3_RESULT;
-    return part && p->holds <= FFI3_ADDRESS && p->place <= FFI3_STACK && p->length && p->rest <= FFI3_REST_NONE
-        && (p->place == FFI3_STACK ? p->number + p->length <= call->frame : p->number < 32 && p->length <= 8);
+    int stands = p->place == FFI3_STACK      ? p->number + p->length <= call->frame
+                 : p->place == FFI3_X87      ? p->number < 2 && p->length == 10 && p->part == FFI3_RESULT
+                 : p->place == FFI3_FLOATING ? p->number < 32 && (p->length <= 8 || p->length == 16)
+                                             : p->number < 32 && p->length <= 8;
+    return part && stands && p->holds <= FFI3_ADDRESS && p->place <= FFI3_X87 && p->length
+        && p->rest <= FFI3_REST_NONE;
 }
 
 static void check_fault(const struct ffi3_fault *fault, size_t longest, const char *text, size_t length)
@@ -182,22 +188,35 @@ static size_t place(uint32_t target, const char *text, size_t length, size_t roo
     return wanted;
 }
 
-static size_t lay_out(const char *text, size_t length, uint32_t value, size_t room, size_t *arguments)
+// In place of a target: that of a layout without one.
+#define NO_TARGET UINT32_MAX
+
+static int is_right_leaf(uint32_t target, const struct ffi3_leaf *leaf, size_t size)
+{
+    int is_binary128 = target == FFI3_AAPCS64 || target == FFI3_RISCV;
+    int is_known = leaf->kind == FFI3_LEAF_X87         ? target == FFI3_AMD64 && leaf->size == 10
+                   : leaf->kind == FFI3_LEAF_BINARY128 ? is_binary128 && leaf->size == 16
+                                                       : leaf->kind <= FFI3_POINTER;
+    return is_known && leaf->offset + leaf->size <= size;
+}
+
+static size_t lay_out(uint32_t target, const char *text, size_t length, uint32_t value, size_t room, size_t *arguments)
 {
     struct ffi3_layout *layout = block(sizeof *layout);
     struct ffi3_leaf *leaves = block(room * sizeof *leaves);
-    uint32_t status = ffi3_layout(text, length, value, layout, leaves, room);
+    uint32_t status = target == NO_TARGET ? ffi3_layout(text, length, value, layout, leaves, room)
+                                          : ffi3_layout_for(target, text, length, value, layout, leaves, room);
     size_t wanted = layout->leaves;
     *arguments = layout->arguments;
     if (status == FFI3_OK) {
         check(wanted <= room && is_untouched(leaves + wanted, (room - wanted) * sizeof *leaves),
               "leaves behind the last", text, length);
         for (size_t i = 0; i < wanted; i++)
-            check(leaves[i].kind <= FFI3_POINTER && leaves[i].offset + leaves[i].size <= layout->size, "leaf", text,
-                  length);
+            check(is_right_leaf(target, leaves + i, layout->size), "leaf", text, length);
     } else if (status == FFI3_NOT_DECLARED) {
         check(!wanted && is_untouched(leaves, room * sizeof *leaves), "leaves of no function", text, length);
-        check_fault(&layout->fault, length, text, length);
+        if (!due)
+            check_fault(&layout->fault, length, text, length);
     } else {
         check(is_untouched(leaves, room * sizeof *leaves) && (status == FFI3_TOO_SMALL ? room < wanted
               : status == FFI3_UNKNOWN_VALUE ? value >= layout->arguments && value != FFI3_RESULT
@@ -439,6 +458,8 @@ static void try_result(uint32_t target, const struct nodes *from)
     }
 }
 
+static const uint32_t layouts[] = {NO_TARGET, FFI3_AMD64, FFI3_AAPCS64};
+
 // A text of the very length, as it is.
 static void try_text(const char *from, size_t length, int all_rooms)
 {
@@ -461,12 +482,14 @@ static void try_text(const char *from, size_t length, int all_rooms)
         try_each(target, &(struct nodes){.line = text, .length = length});
         check_text(target, text, length);
     }
-    lay_out(text, length, FFI3_RESULT, 0, &arguments);
-    for (uint32_t value = 0; value <= arguments; value++) {
-        size_t wanted = lay_out(text, length, value, 0, &none);
-        if (all_rooms && wanted)
-            lay_out(text, length, value, wanted - 1, &none);
-        lay_out(text, length, value, wanted, &none);
+    for (size_t i = 0; i < sizeof layouts / sizeof *layouts; i++) {
+        lay_out(layouts[i], text, length, FFI3_RESULT, 0, &arguments);
+        for (uint32_t value = 0; value <= arguments; value++) {
+            size_t wanted = lay_out(layouts[i], text, length, value, 0, &none);
+            if (all_rooms && wanted)
+                lay_out(layouts[i], text, length, value, wanted - 1, &none);
+            lay_out(layouts[i], text, length, value, wanted, &none);
+        }
     }
     release(text, length);
 }
@@ -492,7 +515,9 @@ static void try_refused(const char *line, size_t length)
         due++, counted = 0;
         place((uint32_t)due % 5, line, length, 64);
         calls = counted, counted = 0;
-        lay_out(line, length, FFI3_RESULT, 64, &none);
+        lay_out(NO_TARGET, line, length, FFI3_RESULT, 64, &none);
+        calls = calls > counted ? calls : counted, counted = 0;
+        lay_out((uint32_t)due % 5, line, length, FFI3_RESULT, 64, &none);
         calls = calls > counted ? calls : counted, counted = 0;
         read_arguments((uint32_t)due % 5, line, length, 4096, 4096);
         calls = calls > counted ? calls : counted, counted = 0;
@@ -522,15 +547,19 @@ static size_t place_nodes(uint32_t target, const struct nodes *from, size_t room
 }
 
 // A layout is a type's own, and not with another size or fewer members. Of what is no type the same fault is told.
-static void check_told(const struct nodes *from, const struct ffi3_type *type, const size_t *offsets, size_t members)
+static void check_told(uint32_t target, const struct nodes *from, const struct ffi3_type *type, const size_t *offsets,
+                       size_t members)
 {
     struct ffi3_fault *fault = block(sizeof *fault);
     size_t *exact = block(members * sizeof *exact);
     memcpy(exact, offsets, members * sizeof *exact);
     check(!type->reserved[0] && !type->reserved[1], "reserved words of a type", from->line, from->length);
     for (size_t more = 0; more < 2; more++) {
+        size_t size = type->size + more;
         uint32_t status =
-            ffi3_check_layout(from->at, from->count, type->size + more, type->align, exact, members, fault);
+            target == NO_TARGET
+                ? ffi3_check_layout(from->at, from->count, size, type->align, exact, members, fault)
+                : ffi3_check_for(target, from->at, from->count, size, type->align, exact, members, fault);
         int other = status == FFI3_NOT_DECLARED && fault->kind == FFI3_LAID_OUT_OTHERWISE && fault->number == members;
         if (type->fault.kind)
             check(due || (status == FFI3_NOT_DECLARED && fault->kind == type->fault.kind), "told layout of no type",
@@ -547,13 +576,16 @@ static void check_told(const struct nodes *from, const struct ffi3_type *type, c
 }
 
 // One call for leaves and one for offsets, with room for so many; the greater of what they want.
-static size_t type_of_nodes(const struct nodes *from, size_t room)
+static size_t type_of_nodes(uint32_t target, const struct nodes *from, size_t room)
 {
     struct ffi3_type *type = block(sizeof *type), *other = block(sizeof *other);
     struct ffi3_leaf *leaves = block(room * sizeof *leaves);
     size_t *offsets = block(room * sizeof *offsets), most;
-    uint32_t status = ffi3_layout_nodes(from->at, from->count, type, leaves, room);
-    uint32_t second = ffi3_offsets_nodes(from->at, from->count, other, offsets, room);
+    int is_any = target == NO_TARGET;
+    uint32_t status = is_any ? ffi3_layout_nodes(from->at, from->count, type, leaves, room)
+                             : ffi3_layout_nodes_for(target, from->at, from->count, type, leaves, room);
+    uint32_t second = is_any ? ffi3_offsets_nodes(from->at, from->count, other, offsets, room)
+                             : ffi3_offsets_for(target, from->at, from->count, other, offsets, room);
     most = type->leaves > type->members ? type->leaves : type->members;
     if (status == FFI3_NOT_DECLARED && !due)
         check_fault(&type->fault, from->count, from->line, from->length);
@@ -570,11 +602,10 @@ static size_t type_of_nodes(const struct nodes *from, size_t room)
               && is_untouched(offsets + starts, (room - starts) * sizeof *offsets), "behind the last", from->line,
           from->length);
     for (size_t i = 0; i < told; i++)
-        check(leaves[i].kind <= FFI3_POINTER && leaves[i].offset + leaves[i].size <= type->size, "leaf of nodes",
-              from->line, from->length);
+        check(is_right_leaf(target, leaves + i, type->size), "leaf of nodes", from->line, from->length);
     for (size_t i = 0; i < starts; i++)
         check(offsets[i] < other->size && (!i || offsets[i - 1] < offsets[i]), "offset", from->line, from->length);
-    check_told(from, type, offsets, starts);
+    check_told(target, from, type, offsets, starts);
     release(offsets, room * sizeof *offsets);
     release(leaves, room * sizeof *leaves);
     free(other);
@@ -596,9 +627,11 @@ static void try_nodes(struct nodes from, int all_rooms)
         try_each(target, &from);
     }
     for (; from.count; from.at++, from.count--) {
-        size_t wanted = type_of_nodes(&from, 0);
-        for (size_t room = all_rooms ? 1 : wanted; room <= wanted + 1; room++)
-            type_of_nodes(&from, room);
+        for (size_t i = 0; i < sizeof layouts / sizeof *layouts; i++) {
+            size_t wanted = type_of_nodes(layouts[i], &from, 0);
+            for (size_t room = all_rooms ? 1 : wanted; room <= wanted + 1; room++)
+                type_of_nodes(layouts[i], &from, room);
+        }
     }
     release(exact, (size_t)(from.at - exact) * sizeof *exact);
 }
@@ -608,7 +641,7 @@ static void try_damaged_nodes(struct nodes from, struct ffi3_node *nodes)
     static const struct ffi3_node others[] = {
         {FFI3_STRUCT, 2}, {FFI3_STRUCT, 0}, {FFI3_STRUCT, UINT32_MAX}, {FFI3_ARRAY, 3}, {FFI3_ARRAY, UINT32_MAX},
         {FFI3_VOID, 0}, {FFI3_COMPLEX_FLOAT, 0}, {FFI3_LONG_DOUBLE, 0}, {FFI3_DOUBLE, 1}, {FFI3_ARRAY + 1, 0},
-        {UINT32_MAX, UINT32_MAX},
+        {FFI3_COMPLEX_LONG_DOUBLE, 0}, {UINT32_MAX, UINT32_MAX},
     };
     size_t count = from.count;
     for (size_t at = 0; at < count; at++) {
@@ -646,7 +679,9 @@ static void try_nodes_refused(const struct nodes *from)
         calls = calls > counted ? calls : counted, counted = 0;
         read_each((uint32_t)due % 5, from, 4096, 64, 4096);
         calls = calls > counted ? calls : counted, counted = 0;
-        type_of_nodes(&first, 64);
+        type_of_nodes(NO_TARGET, &first, 64);
+        calls = calls > counted ? calls : counted, counted = 0;
+        type_of_nodes((uint32_t)due % 5, &first, 64);
     } while (due <= (calls > counted ? calls : counted));
     due = 0;
 }
@@ -674,6 +709,9 @@ int main(int count, char **words)
     FILE *file = count == 3 ? fopen(words[1], "r") : NULL, *other = count == 3 ? fopen(words[2], "r") : NULL;
     struct ffi3_call call;
     struct ffi3_piece piece;
+    struct ffi3_layout layout;
+    struct ffi3_leaf leaf;
+    struct ffi3_type type;
     if (!file || !other)
         return 2;
     while (fgets(line, sizeof line, other)) {
@@ -692,6 +730,14 @@ int main(int count, char **words)
     check(ffi3_version() == FFI3_VERSION, "version", "", 0);
     check(ffi3_place(FFI3_APPLE + 1, "void f(void)", 12, &call, &piece, 1) == FFI3_UNKNOWN_TARGET && !call.pieces,
           "target", "", 0);
+    check(ffi3_layout_for(FFI3_APPLE + 1, "void f(void)", 12, 0, &layout, &leaf, 1) == FFI3_UNKNOWN_TARGET
+              && ffi3_offsets_for(FFI3_APPLE + 1, NULL, 0, &type, NULL, 0) == FFI3_UNKNOWN_TARGET && !layout.size
+              && ffi3_layout_nodes_for(FFI3_APPLE + 1, NULL, 0, &type, NULL, 0) == FFI3_UNKNOWN_TARGET && !type.align
+              && ffi3_check_for(FFI3_APPLE + 1, NULL, 0, 0, 0, NULL, 0, &type.fault) == FFI3_UNKNOWN_TARGET,
+          "target of a layout", "", 0);
+    check(ffi3_register_name(FFI3_AMD64, FFI3_X87, 1, line, sizeof line) == 3 && !strcmp(line, "st1")
+              && !ffi3_register_name(FFI3_AMD64, FFI3_X87, 2, line, sizeof line)
+              && !ffi3_register_name(FFI3_AAPCS64, FFI3_X87, 0, line, sizeof line), "x87 registers", "", 0);
     check(!ffi3_register_name(FFI3_RISCV, FFI3_STACK, 0, line, sizeof line) && !*line, "no register", "", 0);
     printf("%ld passed, %ld failed\n", passed, failed);
     return failed != 0;

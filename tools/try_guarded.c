@@ -229,6 +229,8 @@ static size_t try_layout(const char *text, size_t length, uint32_t value, int al
         check(status == (told == FFI3_OK && capacity < wanted ? FFI3_TOO_SMALL : told)
                   && !memcmp(layout, &found, sizeof found), "layout");
         check_array(leaves, whole, sizeof *leaves, wanted, capacity, "leaves");
+        uint32_t same = ffi3_layout_for(FFI3_AMD64, text, length, value, layout, leaves, capacity);
+        check(told != FFI3_OK || same == status, "layout for a target");
     }
     return found.arguments;
 }
@@ -255,6 +257,10 @@ static void add_found(uint32_t status, const struct ffi3_arguments *found)
     add(row, sizeof row);
 }
 
+// Of registers what a program hands in that was compiled with a version before 0.3. Functions here have no long double,
+// so that no more of them is read or written.
+#define AS_BEFORE offsetof(struct ffi3_registers, upper)
+
 // A machine whose registers and memory have such addresses; its stack is memory from its start on.
 static struct ffi3_registers machine;
 static unsigned char memory[1 << 16];
@@ -275,7 +281,7 @@ static void try_arguments(uint32_t target, const char *text, size_t length, int 
     static unsigned char whole[MUCH];
     static struct ffi3_arguments found;
     draw_machine();
-    const struct ffi3_registers *lent = lend(&registers, &machine, sizeof machine, at_end);
+    const struct ffi3_registers *lent = lend(&registers, &machine, AS_BEFORE, at_end);
     uint32_t is = ffi3_arguments(target, text, length, lent, memory, sizeof memory, &found, whole, sizeof whole);
     size_t least = found.stack, room = is == FFI3_OK ? found.size : 64;
     for (size_t there = all ? 0 : least; there <= least + 2; there = next(there, least)) {
@@ -354,7 +360,7 @@ static void try_each(const struct function *of, uint32_t target, int all, int at
     static unsigned char values_of_all[MUCH];
     static struct ffi3_arguments found;
     draw_machine();
-    const struct ffi3_registers *lent = lend(&registers, &machine, sizeof machine, at_end);
+    const struct ffi3_registers *lent = lend(&registers, &machine, AS_BEFORE, at_end);
     uint32_t is = each_of(of, target, lent, memory, sizeof memory, &found, whole, ALL, values_of_all,
                           sizeof values_of_all);
     size_t least = found.stack, count = found.arguments, size = found.size;
@@ -393,7 +399,7 @@ static void try_result(const struct function *of, uint32_t target, int all, int 
     static unsigned char whole[MUCH];
     static struct ffi3_result found;
     draw_machine();
-    const struct ffi3_registers *lent = lend(&registers, &machine, sizeof machine, at_end);
+    const struct ffi3_registers *lent = lend(&registers, &machine, AS_BEFORE, at_end);
     const unsigned char *stack = lend(&stacks, memory, DEEP, at_end);
     uint32_t is = result_of(of, target, lent, stack, DEEP, &found, whole, sizeof whole);
     size_t wanted = is == FFI3_OK ? found.size : 0;
@@ -492,6 +498,8 @@ static void try_type(const struct ffi3_node *nodes, size_t count, int all, int a
         check(status == (told == FFI3_OK && capacity < found.leaves ? FFI3_TOO_SMALL : told)
                   && !memcmp(type, &found, sizeof found), "type of nodes");
         check_array(room, leaves, sizeof *room, found.leaves, capacity, "leaves of nodes");
+        uint32_t same = ffi3_layout_nodes_for(FFI3_AMD64, nodes, count, type, room, capacity);
+        check(told != FFI3_OK || same == status, "type of nodes for a target");
     }
     for (size_t capacity = all ? 0 : found.members; capacity <= found.members + 2;
          capacity = next(capacity, found.members)) {
@@ -501,11 +509,15 @@ static void try_type(const struct ffi3_node *nodes, size_t count, int all, int a
         check(status == (told == FFI3_OK && capacity < found.members ? FFI3_TOO_SMALL : told)
                   && !memcmp(type, &found, sizeof found), "type of nodes");
         check_array(room, offsets, sizeof *room, found.members, capacity, "offsets of nodes");
+        uint32_t same = ffi3_offsets_for(FFI3_AMD64, nodes, count, type, room, capacity);
+        check(told != FFI3_OK || same == status, "offsets for a target");
     }
     for (size_t members = 0; members <= found.members && members < ALL; members++) {
         const size_t *lent = lend(&registers, offsets, members * sizeof *offsets, at_end);
         uint32_t status = ffi3_check_layout(nodes, count, found.size, found.align, lent, members, &fault);
         check(status == (members < found.members ? FFI3_NOT_DECLARED : told), "a layout that is told");
+        uint32_t same = ffi3_check_for(FFI3_AMD64, nodes, count, found.size, found.align, lent, members, &fault);
+        check(told != FFI3_OK || same == status, "a layout that is told for a target");
     }
 }
 
@@ -514,7 +526,7 @@ static void try_interface(uint32_t target, const struct ffi3_node *nodes, size_t
 {
     static unsigned char bytes[sizeof line], result[1 << 13];
     static struct ffi3_move whole[MUCH / sizeof(struct ffi3_move)];
-    struct ffi3_registers none = {{0}, {0}, 0};
+    struct ffi3_registers none = {.sp = 0};
     may_write(&registers, 1);
     may_write(&stacks, 1);
     struct ffi3_interface *it = memset(place_in(&calls, sizeof *it, at_end), 0, sizeof *it);
@@ -543,9 +555,9 @@ static void try_interface(uint32_t target, const struct ffi3_node *nodes, size_t
     if (asked == FFI3_OK && sizes.values < sizeof bytes && sizes.result < sizeof result && frame <= 1 << 16) {
         const unsigned char *values = lend(&texts, bytes, sizes.values, at_end);
         unsigned char *stack = place_in(&stacks, frame, at_end);
-        struct ffi3_registers *held = memcpy(place_in(&registers, sizeof none, at_end), &none, sizeof none);
+        struct ffi3_registers *held = memcpy(place_in(&registers, AS_BEFORE, at_end), &none, AS_BEFORE);
         check(ffi3_store(it, values, sizes.values, held, stack, frame) == FFI3_OK, "store");
-        add(held, sizeof *held);
+        add(held, AS_BEFORE);
         add(stack, frame);
         unsigned char *found = place_in(&arrays, sizes.values, at_end);
         struct ffi3_reason reason;

@@ -91,7 +91,7 @@ static int has(struct ffi3_interface *it, uint32_t target, int is_large)
 static int has_nothing(struct ffi3_interface *it)
 {
     struct ffi3_sizes sizes;
-    struct ffi3_registers registers = {{0}, {0}, 0};
+    struct ffi3_registers registers = {.sp = 0};
     struct ffi3_reason reason;
     struct ffi3_move moves[1];
     unsigned char bytes[8] = {0};

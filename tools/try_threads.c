@@ -112,6 +112,10 @@ static void ask(struct work *work, const char *text, size_t length, uint32_t tar
     add(work, work->leaves, work->layout.leaves * sizeof *work->leaves);
     if (told[2] == FFI3_OK)
         add(work, work->values, work->found.size);
+    uint32_t laid = ffi3_layout_for(target, text, length, FFI3_RESULT, &work->layout, work->leaves, LEAVES);
+    add(work, &laid, sizeof laid);
+    add(work, &work->layout, sizeof work->layout);
+    add(work, work->leaves, work->layout.leaves * sizeof *work->leaves);
     if (told[0] == FFI3_NOT_DECLARED) {
         char words[64];
         add(work, words, ffi3_fault_text(&work->call.fault, words, sizeof words));
@@ -155,6 +159,11 @@ static void ask_of_nodes(struct work *work, uint32_t target)
     for (size_t i = 0; i < sizeof told / sizeof *told; i++)
         if (told[i] != FFI3_OK)
             abort();
+    if (ffi3_layout_nodes_for(target, nodes, nodes_of_one, &work->type, work->leaves, LEAVES) != FFI3_OK ||
+        ffi3_offsets_for(target, nodes, nodes_of_one, &work->type, work->offsets, 2) != FFI3_OK ||
+        ffi3_check_for(target, nodes, nodes_of_one, work->type.size, work->type.align, work->offsets, 2,
+                       &work->layout.fault) != FFI3_OK)
+        abort();
     add(work, &work->call, sizeof work->call);
     add(work, work->pieces, work->call.pieces * sizeof *work->pieces);
     // All addresses are that of the first byte of the stack, but one that points past it.

@@ -62,9 +62,10 @@ class Stop:
         machine = MACHINES[name]
         return cls(frame, machine._replace(target=machine.others.get(system(), machine.target)))
 
-    def register(self, name: str) -> int:
-        """The lowest 64 bits of a register."""
-        return low_bits(self.frame.read_register(self.machine.renamed.get(name, name)))
+    def register(self, name: str, count: int = 8) -> int:
+        """The lowest bytes of a register: eight, or as many as a long double has there."""
+        value = self.frame.read_register(self.machine.renamed.get(name, name))
+        return all_bits(value) if count > 8 else low_bits(value)
 
     def memory(self, at: int, count: int) -> bytes:
         return gdb.selected_inferior().read_memory(at, count).tobytes()
@@ -99,6 +100,14 @@ def low_bits(value: gdb.Value) -> int:
             value = value[next(name for name in ("v2_int64", "d", "u", "double", *fields) if name in fields)]
         kind = value.type.strip_typedefs()
     return int(value.format_string(format="z"), 16) & WORD
+
+
+def all_bits(value: gdb.Value) -> int:
+    """All the bits of a vector register of 128, or of one of x87, which gdb has as a float of 80."""
+    if value.type.strip_typedefs().code == gdb.TYPE_CODE_UNION:
+        words = value["d"]["u"]
+        return low_bits(words[0]) | low_bits(words[1]) << 64
+    return int(value.format_string(format="z"), 16)
 
 
 # ---- where it stopped
@@ -218,7 +227,8 @@ def prototype_of(target: str, text: str) -> Prototype:
 
 def registers(stop: Stop, call: Call) -> dict[str, int]:
     """The registers that a call's places name."""
-    return {piece.place: stop.register(piece.place) for piece in call.pieces if piece.place != "stack"}
+    return {piece.place: stop.register(piece.place, piece.length)
+            for piece in sorted(call.pieces, key=lambda piece: piece.length) if piece.place != "stack"}
 
 
 def read_or_say(stop: Stop, at: int, size: int, what: str) -> bytes:
@@ -247,7 +257,7 @@ def all_arguments(stop: Stop, prototype: Prototype) -> Iterator[tuple[str, Type,
                                     registers(stop, prototype.place()), stop.register("sp"), stop.stack(),
                                     function.fixed)
     for name, nodes, one in zip(prototype.names(), prototype.kinds, found):
-        kind = library.layout_nodes(nodes)
+        kind = library.layout_nodes(nodes, stop.machine.target)
         held = read_or_say(stop, one.address, one.size, name) if one.value is None else one.value
         yield name, kind, library.scalars(kind.leaves, held)
 

@@ -37,11 +37,12 @@ class Subject(NamedTuple):
 
 def of_text(declaration: str | bytes, targets: Iterable[str] = TARGETS) -> Subject:
     """The function that a text declares, its arguments by their names there, or else by their numbers."""
-    count = layout(declaration).arguments
-    sizes = {i: layout(declaration, i).size for i in range(count)} | {HIDDEN: layout(declaration).size}
-    title = declaration if isinstance(declaration, str) else declaration.decode()
     calls = {target: place(target, declaration) for target in targets}
-    return Subject(title, names_or_numbers(declaration, count), calls, dict.fromkeys(calls, sizes))
+    sizes = {target: {i: layout(declaration, i, target).size for i in range(call.arguments)}
+             | {HIDDEN: layout(declaration, target=target).size} for target, call in calls.items()}
+    title = declaration if isinstance(declaration, str) else declaration.decode()
+    count = max((call.arguments for call in calls.values()), default=0)
+    return Subject(title, names_or_numbers(declaration, count), calls, sizes)
 
 
 def of_entry(entry: "Entry") -> Subject:
@@ -126,14 +127,26 @@ class _Drawing:
 
 
 def _draw_registers(drawing: _Drawing, x: float, y: float, pieces: Sequence[Piece]) -> float:
-    names = list(dict.fromkeys(piece.place for piece in hidden_first(pieces) if piece.place != "stack"))
-    for name in names:
-        drawing.row(x, y, name)
-        for piece in pieces:
-            if piece.place == name:
-                drawing.bytes(x, y, 0, piece.length, piece, piece.offset)
-        y += _ROW
+    for name, rows in register_rows(pieces).items():
+        for first, boxes in enumerate(rows):
+            drawing.row(x, y, f"{name} high" if first else name)
+            for piece, count, value in boxes:
+                drawing.bytes(x, y, 0, count, piece, value)
+            y += _ROW
     return y
+
+
+def register_rows(pieces: Sequence[Piece]) -> dict[str, list[list[tuple[Piece, int, int]]]]:
+    """The registers in rows of eight bytes, one or two each: the pieces that stand there, how many bytes they have in
+    the row, and their first byte of the value."""
+    found: dict[str, list[list[tuple[Piece, int, int]]]] = {}
+    for piece in hidden_first(pieces):
+        if piece.place != "stack":
+            rows = found.setdefault(piece.place, [])
+            for first in range(0, piece.length, 8):
+                rows += [[]] * (first // 8 == len(rows))
+                rows[first // 8] = [*rows[first // 8], (piece, min(8, piece.length - first), piece.offset + first)]
+    return found
 
 
 Stretch = tuple[int, Piece, int, int]

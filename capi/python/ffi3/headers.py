@@ -65,11 +65,11 @@ LAYS_OUT = {"__attribute__", "__attribute", "__declspec", "_Alignas", "alignas"}
 WITH_BRACKETS = {"__attribute__", "__attribute", "__asm__", "__asm", "asm", "__declspec"}
 LEFT_OUT = {"__extension__", "__restrict", "__restrict__", "__inline", "__inline__", "__forceinline", "__thread",
             "_Noreturn", "__noreturn__", "__cdecl", "__stdcall", "__unaligned", "__vectorcall", "__regcall"}
-# GNU C's words as words of C. Reals of 16 and of 128 bits are read as little as a long double.
+# GNU C's words as words of C. Reals of 16 and of 128 bits have words that C has not, which pycparser reads.
 INSTEAD = {"__const": "const", "__const__": "const", "__volatile__": "volatile", "__volatile": "volatile",
            "__signed__": "signed", "__signed": "signed", "__complex__": "_Complex", "__alignof__": "_Alignof",
            "_Float32": "float", "_Float64": "double", "_Float32x": "double", "_Float64x": "long double",
-           "_Float16": "long double", "_Float128": "long double", "__float128": "long double",
+           "_Float16": "short float", "_Float128": "long float", "__float128": "long float",
            "__int8": "char", "__int16": "short", "__int32": "int", "__int64": "long long"}
 TRANSPARENT = {"transparent_union", "__transparent_union__"}
 # Attributes by which a function is called by another standard, with the target whose own that is, if any.
@@ -368,7 +368,14 @@ def named(node: c_ast.Node, name: str) -> c_ast.Node:
 
 # ---- types: each knows what to ask the compiler, by an expression of this type, and its nodes by the answers
 
-Answers = Mapping[str, int]
+class Answers(dict[str, int]):
+    """What a compiler answers to questions, and the target for which it makes code."""
+
+    def __init__(self, target: str, found: Mapping[str, int]):
+        super().__init__(found)
+        self.target = target
+
+
 INTEGERS = {(size, is_signed): f"{'us'[is_signed]}int{8 * size}"
             for size in (1, 2, 4, 8, 16) for is_signed in (0, 1)}
 REALS = {"float": 4, "double": 8}
@@ -423,6 +430,23 @@ class Integer(Kind):
         return (INTEGERS.get((of_bytes, is_signed), "vector"),)
 
 
+def real_of(words: str, of_bytes: int, target: str) -> str:
+    """The node of a real that has these words, and so many bytes.
+
+    A long double is the target's, or a double. That of gcc for Windows is neither: it is passed as the standard passes
+    each type of 16 bytes, so it is told as an integer of that size. Of the reals that C has not one is a long double's:
+    that of 128 bits, where this is IEEE 754's."""
+    if words == "long double" and of_bytes == 8:
+        return "double"
+    if words == "long double" and of_bytes == 16 and target in ("amd64", "aapcs64", "riscv", "win64"):
+        return words if target != "win64" else "uint128"
+    if words == "long float" and of_bytes == 16 and target in ("aapcs64", "riscv"):
+        return "long double"
+    if words not in REALS:
+        raise Refused(f"a real of {8 * of_bytes} bits")
+    return words if REALS[words] == of_bytes else "vector"
+
+
 @dataclass(frozen=True)
 class Real(Kind):
     """A floating type, by its words."""
@@ -433,9 +457,8 @@ class Real(Kind):
         return [size(self.value), sign(self.value)]
 
     def nodes(self, answers: Answers) -> tuple[Node, ...]:
-        of_bytes = answered(answers, size(self.value))
-        name = "double" if self.words == "long double" and of_bytes == 8 else self.words
-        return (name if REALS.get(name, of_bytes) == of_bytes and sign(self.value) in answers else "vector",)
+        name = real_of(self.words, answered(answers, size(self.value)), answers.target)
+        return (name if sign(self.value) in answers else "vector",)
 
 
 @dataclass(frozen=True)
@@ -445,9 +468,10 @@ class Complex(Kind):
     words: str
 
     def nodes(self, answers: Answers) -> tuple[Node, ...]:
-        of_bytes = answered(answers, size(self.value))
-        name = "double" if self.words == "long double" and of_bytes == 16 else self.words
-        return (f"complex {name}" if 2 * REALS.get(name, of_bytes / 2) == of_bytes else "vector",)
+        name = real_of(self.words, answered(answers, size(self.value)) // 2, answers.target)
+        if name == "uint128":
+            return ("struct", 2), name, name
+        return (f"complex {name}" if name != "vector" else name,)
 
 
 @dataclass(frozen=True)
@@ -521,7 +545,7 @@ class Struct(Kind):
         """That it is laid out as its types say, and so is each struct without a name in it."""
         starts = [offsets[names_of(name, kind)[0]] for name, kind in self.members]
         try:
-            library.check_layout(nodes, of_bytes, alignment, [at - starts[0] for at in starts])
+            library.check_layout(nodes, of_bytes, alignment, [at - starts[0] for at in starts], answers.target)
         except library.Error as error:
             if error.kind != library.LAID_OUT_OTHERWISE:
                 raise
@@ -530,7 +554,7 @@ class Struct(Kind):
         for name, kind in self.members:
             if isinstance(kind, Struct) and not name:
                 inner = kind.nodes(answers)
-                natural = library.layout_nodes(inner)
+                natural = library.layout_nodes(inner, answers.target)
                 kind.check(inner, answers, offsets, natural.size, natural.align)
 
 
@@ -614,7 +638,7 @@ class Definitions(c_ast.NodeVisitor):
         if len(names) == 1 and names[0] in self.typedefs:
             return self.read(self.typedefs[names[0]], value)
         if words & {"float", "double"}:
-            real = "float" if "float" in words else "long double" if "long" in words else "double"
+            real = " ".join(word for word in ("short", "long", "float", "double") if word in words)
             return Complex(value, real) if "_Complex" in words else Real(value, real)
         if "_Complex" in words:
             raise Refused("a complex integer")
@@ -668,7 +692,7 @@ def spelled(node: c_ast.Node, is_plain: bool = False) -> str:
     written once more only where no attribute or pragma says how it is laid out."""
     kind = node.type
     if isinstance(kind, c_ast.IdentifierType):
-        return " ".join(kind.names)
+        return in_c(" ".join(kind.names))
     if kind.name:
         return f"{type(kind).__name__.lower()} {kind.name}"
     if not is_plain:
@@ -690,7 +714,12 @@ def is_flat(node: c_ast.Node) -> bool:
 
 def written(node: c_ast.Node) -> str:
     """A node in C, on one line."""
-    return " ".join(c_generator.CGenerator().visit(node).split())
+    return in_c(" ".join(c_generator.CGenerator().visit(node).split()))
+
+
+def in_c(words: str) -> str:
+    """Words that pycparser has read, with those of GNU C in place of those that no C has."""
+    return words.replace("long float", "_Float128").replace("short float", "_Float16")
 
 
 written_once = lru_cache(maxsize=1 << 12)(written)  # of parameters, which many functions may share
@@ -742,7 +771,7 @@ class Function:
 
     def layout(self, part: library.Part) -> library.Type:
         """The layout of an argument, or of the result."""
-        return library.layout_nodes(self.nodes[part + 1 if isinstance(part, int) else 0])
+        return library.layout_nodes(self.nodes[part + 1 if isinstance(part, int) else 0], self.target)
 
     def types(self) -> list[Kind]:
         return [kind for kind in (self.result, *self.arguments) if kind]
@@ -776,8 +805,7 @@ class Function:
         except Refused as refused:
             self.reason = str(refused)
         except library.Error as error:
-            wider = ", or a real of 16 or 128 bits" * (error.kind == library.LEFT_OUT_LONG_DOUBLE)
-            self.reason = f"{error}{wider}"
+            self.reason = str(error)
 
 
 # ---- the compiler
@@ -860,7 +888,7 @@ def asking(i: int, question: str) -> str:
             f'__asm__(".ascii \\"@@ {i} {marks} @@\\"" : : {digits}); }}')
 
 
-def answers_of(compiler: Compiler, text: str, questions: Iterable[str]) -> dict[str, int]:
+def answers_of(compiler: Compiler, text: str, questions: Iterable[str]) -> Answers:
     """The compiler's answers to constant expressions of natural numbers, none where it refuses the expression."""
     listed = list(dict.fromkeys(questions))
     with tempfile.TemporaryDirectory() as folder:
@@ -872,8 +900,9 @@ def answers_of(compiler: Compiler, text: str, questions: Iterable[str]) -> dict[
             made = run(*compiler.words, "-x", "cpp-output", "-w", "-S", "-O0", "-o", "-", file)
             if made.returncode == 0:
                 found = re.findall(r"@@ (\d+)((?: \d+)+) @@", made.stdout)
-                return {listed[int(i)]: sum(int(digit) << 10 * k for k, digit in enumerate(digits.split()))
-                        for i, digits in found}
+                return Answers(compiler.target, {
+                    listed[int(i)]: sum(int(digit) << 10 * k for k, digit in enumerate(digits.split()))
+                    for i, digits in found})
             wrong = {numbers[int(line) - 1] for line in re.findall(r"^asked:(\d+):\d+: error", made.stderr, re.M)}
             if not wrong:
                 raise Failed(made.stderr.strip())

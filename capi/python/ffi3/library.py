@@ -8,6 +8,7 @@ file stands, or that of the system. It is loaded when this module is, and is all
 
 import ctypes
 import ctypes.util
+import math
 import os
 import struct
 from collections.abc import Iterable, Mapping, Sequence
@@ -33,11 +34,13 @@ _RESULT, _HIDDEN = 0xFFFFFFFF, 0xFFFFFFFE
 _NOT_VARIADIC = 0xFFFFFFFF
 _MOST_32, _MOST_64 = (1 << 32) - 1, (1 << 64) - 1
 _ADDRESS = 1
-_GENERAL, _FLOATING, _STACK = range(3)
+_GENERAL, _FLOATING, _STACK, _X87 = range(4)
 _RESTS = ("free", "extended", "extended by 32", "ones", "none")
 _KINDS = ("uint8", "sint8", "uint16", "sint16", "uint32", "sint32", "uint64", "sint64", "uint128", "sint128", "float",
           "double", "pointer")
-_SIZES = dict(zip(_KINDS, (1, 1, 2, 2, 4, 4, 8, 8, 16, 16, 4, 8, 8)))
+# Of leaves these are two more, in which a long double stands: x87's ten bytes, of 16, and IEEE 754's binary128.
+_LEAF_KINDS = {**dict(enumerate(_KINDS)), 21: "x87", 22: "binary128"}
+_SIZES = dict(zip((*_KINDS, "x87", "binary128"), (1, 1, 2, 2, 4, 4, 8, 8, 16, 16, 4, 8, 8, 10, 16)))
 _NODE_KINDS = (*_KINDS, "void", "complex float", "complex double", "long double", "complex long double", "vector",
                "struct", "array")
 _NUMBER_OF_KIND = {name: number for number, name in enumerate(_NODE_KINDS)}
@@ -50,7 +53,7 @@ _REASONS = (None, "attribute", "keyword", "struct", "union", "enum", "named")
 
 
 # Of the library that this module knows, as FFI3_VERSION of ffi3.h.
-VERSION = 200
+VERSION = 300
 
 
 class VersionError(ImportError):
@@ -119,7 +122,7 @@ class Piece(NamedTuple):
     """Where bytes of one value stand, or its address.
 
     part is an argument's number, "hidden" or "result"; place a register's name, or "stack". On the stack number is the
-    offset from the first stack argument. Of an address, offset says where in the caller's frame the value stands. rest
+    offset from the first stack argument. A vector register may have 16 bytes, and st0 and st1 have ten. Of an address, offset says where in the caller's frame the value stands. rest
     is what the rest of a register, or of the last eight bytes on the stack, holds: "free", "extended", "extended by
     32", "ones" or "none", as ffi3.h says.
     """
@@ -250,7 +253,8 @@ class _Type(ctypes.Structure):
 
 
 class _Registers(ctypes.Structure):
-    _fields_ = [("general", ctypes.c_uint64 * 32), ("floating", ctypes.c_uint64 * 32), ("sp", ctypes.c_uint64)]
+    _fields_ = [("general", ctypes.c_uint64 * 32), ("floating", ctypes.c_uint64 * 32), ("sp", ctypes.c_uint64),
+                ("upper", ctypes.c_uint64 * 8)]
 
 
 class _Interface(ctypes.Structure):
@@ -316,6 +320,11 @@ def _load() -> ctypes.CDLL:
         ("check_layout", uint32, [nodes, size, size, size, ctypes.POINTER(ctypes.c_size_t), size,
                                   ctypes.POINTER(_Fault)]),
         ("layout", uint32, [text, size, uint32, ctypes.POINTER(_Layout), ctypes.POINTER(_Leaf), size]),
+        ("layout_for", uint32, [uint32, text, size, uint32, ctypes.POINTER(_Layout), ctypes.POINTER(_Leaf), size]),
+        ("layout_nodes_for", uint32, [uint32, nodes, size, whole, ctypes.POINTER(_Leaf), size]),
+        ("offsets_for", uint32, [uint32, nodes, size, whole, ctypes.POINTER(ctypes.c_size_t), size]),
+        ("check_for", uint32, [uint32, nodes, size, size, size, ctypes.POINTER(ctypes.c_size_t), size,
+                               ctypes.POINTER(_Fault)]),
         ("check_text", uint32, [uint32, text, size, ctypes.POINTER(_Checked)]),
         ("arguments", uint32, [uint32, text, size, registers, text, size, ctypes.POINTER(_Arguments), text, size]),
         ("arguments_each", uint32, [uint32, text, size, registers, text, size, ctypes.POINTER(_Arguments),
@@ -347,7 +356,7 @@ _library = _load()
 
 
 def version() -> str:
-    """The library's version, as "0.2.0"."""
+    """The library's version, as "0.3.0"."""
     return _shown(_library.ffi3_version())
 
 
@@ -367,10 +376,10 @@ def _number(value: int, most: int) -> int:
     return index(value) if 0 <= index(value) <= most else most
 
 
-def _word(value: int, what: str) -> int:
-    """64 bits, of which no other number can take the place."""
-    if not 0 <= index(value) <= _MOST_64:
-        raise ValueError(f"{what}: {value} is no number of 64 bits")
+def _word(value: int, what: str, bits: int = 64) -> int:
+    """So many bits, of which no other number can take the place."""
+    if not 0 <= index(value) < 1 << bits:
+        raise ValueError(f"{what}: {value} is no number of {bits} bits")
     return index(value)
 
 
@@ -511,20 +520,33 @@ def _named(fixed: int | None) -> int:
     return _NOT_VARIADIC if fixed is None else _number(fixed, _NOT_VARIADIC - 1)
 
 
-def layout_nodes(nodes: Iterable[Node]) -> Type:
-    """The layout of the one type that these nodes are, as place_nodes has them. Raises Error where they are none."""
-    return _laid_pairs(_pairs_of(nodes))
+def layout_nodes(nodes: Iterable[Node], target: str | None = None) -> Type:
+    """The layout of the one type that these nodes are, as place_nodes has them. Raises Error where they are none.
+
+    All targets lay out alike but for a long double, which is a fault where there is no target.
+    """
+    return _laid_pairs(_pairs_of(nodes), target)
+
+
+def _of_target(target: str | None, function, function_for):
+    """A function of the library, or, where there is a target, the one of a target with its number in front."""
+    if target is None:
+        return function
+    number = _target(target)
+    return lambda *given: function_for(number, *given)
 
 
 @lru_cache(maxsize=1 << 12)
-def _laid_pairs(pairs: _Pairs) -> Type:
+def _laid_pairs(pairs: _Pairs, target: str | None) -> Type:
     (array, count), told = _array_of(pairs), _Type()
+    tell_leaves = _of_target(target, _library.ffi3_layout_nodes, _library.ffi3_layout_nodes_for)
+    tell_offsets = _of_target(target, _library.ffi3_offsets_nodes, _library.ffi3_offsets_for)
 
     def leaves(into, capacity):
-        return _library.ffi3_layout_nodes(array, count, ctypes.byref(told), into, capacity), told.leaves
+        return tell_leaves(array, count, ctypes.byref(told), into, capacity), told.leaves
 
     def offsets(into, capacity):
-        return _library.ffi3_offsets_nodes(array, count, ctypes.byref(told), into, capacity), told.members
+        return tell_offsets(array, count, ctypes.byref(told), into, capacity), told.members
 
     found = []
     for item, ask in ((ctypes.c_size_t, offsets), (_Leaf, leaves)):
@@ -532,35 +554,39 @@ def _laid_pairs(pairs: _Pairs) -> Type:
         if status != _OK:
             _refuse(status, told.fault)
         found.append(items)
-    return Type(told.size, told.align, tuple(found[0]), tuple((each.offset, _KINDS[each.kind]) for each in found[1]))
+    return Type(told.size, told.align, tuple(found[0]),
+                tuple((each.offset, _LEAF_KINDS[each.kind]) for each in found[1]))
 
 
-def check_layout(nodes: Iterable[Node], size: int, align: int, offsets: Sequence[int] = ()) -> None:
+def check_layout(nodes: Iterable[Node], size: int, align: int, offsets: Sequence[int] = (),
+                 target: str | None = None) -> None:
     """Raises Error where the one type that these nodes are is laid out otherwise, or where they are none."""
     (array, count), fault = _nodes_of(nodes), _Fault()
     starts = (ctypes.c_size_t * len(offsets))(*(_number(each, _MOST_64) for each in offsets))
-    status = _library.ffi3_check_layout(array, count, _number(size, _MOST_64), _number(align, _MOST_64), starts,
-                                        len(starts), ctypes.byref(fault))
+    checked = _of_target(target, _library.ffi3_check_layout, _library.ffi3_check_for)
+    status = checked(array, count, _number(size, _MOST_64), _number(align, _MOST_64), starts, len(starts),
+                     ctypes.byref(fault))
     if status != _OK:
         _refuse(status, fault)
 
 
-def layout(declaration: str | bytes, value: Part = RESULT) -> Layout:
+def layout(declaration: str | bytes, value: Part = RESULT, target: str | None = None) -> Layout:
     """The layout of an argument, by its number, or of the result, of the function that a text declares.
 
-    Raises Error where the text declares none, and IndexError where it has no such argument.
+    Raises Error where the text declares none, also where it has a long double and no target says what that is; and
+    IndexError where it has no such argument.
     """
     text, told = _bytes_of(declaration), _Layout()
+    tell = _of_target(target, _library.ffi3_layout, _library.ffi3_layout_for)
     number = _number(value, _HIDDEN) if not isinstance(value, str) else _RESULT if value == RESULT else _HIDDEN
 
     def ask(array, capacity):
-        status = _library.ffi3_layout(text, len(text), number, ctypes.byref(told), array, capacity)
-        return status, told.leaves
+        return tell(text, len(text), number, ctypes.byref(told), array, capacity), told.leaves
 
     status, leaves = _filled(_Leaf, ask)
     if status != _OK:
         _refuse(status, told.fault, value)
-    return Layout(told.size, told.align, tuple((each.offset, _KINDS[each.kind]) for each in leaves), told.arguments)
+    return Layout(told.size, told.align, tuple((each.offset, _LEAF_KINDS[each.kind]) for each in leaves), told.arguments)
 
 
 # ---- what a machine holds where a function begins
@@ -573,18 +599,52 @@ def scalars(leaves: Iterable[tuple[int, str]], held: bytes) -> tuple[Scalar, ...
 def _scalar(kind: str, held: bytes) -> Scalar:
     if kind in ("float", "double"):
         return struct.unpack("<f" if kind == "float" else "<d", held)[0]
-    return int.from_bytes(held, "little", signed=kind.startswith("sint"))
+    number = int.from_bytes(held, "little", signed=kind.startswith("sint"))
+    return _long_double(number, kind == "x87") if kind in ("x87", "binary128") else number
+
+
+def _long_double(bits: int, is_x87: bool) -> float:
+    """The double that is nearest to a long double: of x87's format, which has the first bit of its fraction, or
+    binary128, which has not."""
+    width = 64 if is_x87 else 112
+    fraction, exponent, sign = bits % (1 << width), bits >> width & 0x7FFF, -1 if bits >> width + 15 else 1
+    if exponent == 0x7FFF:
+        return sign * (math.nan if fraction % (1 << 63 if is_x87 else 1 << 112) else math.inf)
+    if not is_x87 and exponent:
+        fraction += 1 << 112
+    try:
+        return sign * math.ldexp(fraction, max(exponent, 1) - 16383 - (63 if is_x87 else 112))
+    except OverflowError:
+        return sign * math.inf
+
+
+_Words = tuple[tuple[str, int], ...]  # where the words of a register stand in the struct, the lowest first
+
+
+@lru_cache(maxsize=len(TARGETS))
+def _files(number: int) -> dict[str, tuple[int, _Words]]:
+    """The registers of a target by their names: how many bits each has, and where."""
+    found: dict[str, tuple[int, _Words]] = {}
+    for k in range(32):
+        found[_register(number, _GENERAL, k)] = 64, (("general", k),)
+        found[_register(number, _FLOATING, k)] = 64, (("floating", k),)
+    for k in range(8):
+        if (name := _register(number, _FLOATING, k)).startswith("v"):
+            found[name] = 128, (("floating", k), ("upper", k))
+    for k in range(2):
+        found[_register(number, _X87, k)] = 80, (("floating", 16 + 2 * k), ("floating", 17 + 2 * k))
+    return {name: words for name, words in found.items() if name}
 
 
 def _named_registers(number: int, values: Mapping[str, int], sp: int) -> _Registers:
     """The registers of a target by their names; those that are not named hold 0."""
-    files = {_register(number, place, k): (place, k) for place in (_GENERAL, _FLOATING) for k in range(32)}
-    found = _Registers(sp=_word(sp, "sp"))
+    files, found = _files(number), _Registers(sp=_word(sp, "sp"))
     for name, value in values.items():
-        if name not in files or not name:
+        if name not in files:
             raise KeyError(f"no register {name}")
-        place, k = files[name]
-        (found.general if place == _GENERAL else found.floating)[k] = _word(value, name)
+        bits, words = files[name]
+        for i, (file, k) in enumerate(words):
+            getattr(found, file)[k] = _word(value, name, bits) >> 64 * i & _MOST_64
     return found
 
 
@@ -592,10 +652,10 @@ def arguments(target: str, declaration: str | bytes, registers: Mapping[str, int
               stack: bytes = b"") -> list[tuple[Scalar, ...]]:
     """The arguments that a function was called with, from what the machine held at its first instruction.
 
-    registers has 64 bits for each name, of floating registers the lowest; those that are not named hold 0. stack has
-    the bytes of memory from sp on. Each argument is the tuple of its scalars, a pointer an int. Raises ShortStack
+    registers has 64 bits for each name, of floating registers the lowest, but of v0 to v7 of 64-bit Arm 128 and of st0
+    and st1 80; those that are not named hold 0. stack has the bytes of memory from sp on. Each argument is the tuple of its scalars, a pointer an int. Raises ShortStack
     where the stack has too few bytes and NotInStack where an address points elsewhere, both LookupError; KeyError where
-    a name is no register, ValueError where a register holds more than 64 bits; otherwise as place does.
+    a name is no register, ValueError where a register holds more bits than it has; otherwise as place does.
     """
     number, text, told = _target(target), _bytes_of(declaration), _Arguments()
     held, stack = _named_registers(number, registers, sp), bytes(memoryview(stack))
@@ -614,7 +674,7 @@ def arguments(target: str, declaration: str | bytes, registers: Mapping[str, int
         _refuse(status, told.fault)
     values, start = [], 0
     for i in range(told.arguments):
-        kind = layout(declaration, i)
+        kind = layout(declaration, i, target)
         values.append(scalars(kind.leaves, found[start:start + kind.size]))
         start += -(-kind.size // 8) * 8
     return values
@@ -688,7 +748,7 @@ def result(target: str, declaration: str | bytes, registers: Mapping[str, int], 
     text = _bytes_of(declaration)
     found = _returned(target, registers, sp, stack, lambda number, *given: _library.ffi3_result(
         number, text, len(text), *given))
-    return scalars(layout(declaration).leaves, found)
+    return scalars(layout(declaration, target=target).leaves, found)
 
 
 def result_nodes(target: str, nodes: Iterable[Node], registers: Mapping[str, int], sp: int = 0, stack: bytes = b"",
@@ -704,16 +764,15 @@ def result_nodes(target: str, nodes: Iterable[Node], registers: Mapping[str, int
 
 def _held(target: int, registers: _Registers) -> dict[str, int]:
     """What the registers of a target hold, by their names."""
-    files = ((_GENERAL, registers.general), (_FLOATING, registers.floating))
-    named = ((_register(target, place, k), file[k]) for place, file in files for k in range(32))
-    return {name: value for name, value in named if name}
+    return {name: sum(getattr(registers, file)[k] << 64 * i for i, (file, k) in enumerate(words))
+            for name, (_, words) in _files(target).items()}
 
 
 class Interface:
     """The interface of a function, by a target's standard, whose nodes are as place_nodes has them: prepared once.
 
-    sizes has its sizes. Values are bytes, one argument after another, each from a multiple of 8 on. registers has 64
-    bits for each name, and 0 for those that are not named; stack has the bytes of memory from sp on, or as many zeros
+    sizes has its sizes. Values are bytes, one argument after another, each from a multiple of 8 on. registers has the
+    bits of each name, as arguments has them, and 0 for those that are not named; stack has the bytes of memory from sp on, or as many zeros
     as the call takes. Raises as place_nodes does; ValueError where values, result or stack have not the bytes that
     they take, and NotInStack where an address points past the stack. One thread at a time has it: see share.
     """

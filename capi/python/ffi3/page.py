@@ -12,7 +12,7 @@ from collections.abc import Iterable, Mapping, Sequence
 from pathlib import Path
 
 from . import rules
-from .drawing import COLOURS, RESULT_COLOUR, counted, hidden_first, ink, label, stack_rows
+from .drawing import COLOURS, RESULT_COLOUR, counted, ink, label, register_rows, stack_rows
 from .headers import Entry, Function
 from .library import HIDDEN, RESULT, TARGETS, Part, Piece
 
@@ -27,11 +27,9 @@ def _box(piece: Piece, first: int, count: int, at: int, rule: str) -> list:
 
 
 def _registers(pieces: Sequence[Piece], rule: Mapping[Part, str]) -> list:
-    rows: dict[str, list] = {}
-    for piece in hidden_first(pieces):
-        if piece.place != "stack":
-            rows.setdefault(piece.place, []).append(_box(piece, piece.offset, piece.length, 0, rule[piece.part]))
-    return list(rows.items())
+    return [(f"{name} high" if first else name,
+             [_box(piece, value, count, 0, rule[piece.part]) for piece, count, value in boxes])
+            for name, rows in register_rows(pieces).items() for first, boxes in enumerate(rows)]
 
 
 def _stack(rows: Mapping[int, Sequence[tuple[int, int, Piece, int]]], rule: Mapping[Part, str]) -> list:

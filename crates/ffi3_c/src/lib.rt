@@ -4,13 +4,14 @@
 
 ghost use Rattle.std.specs.Prelude.{◌≡◌, ◌⊎◌, None, length};
 ghost use Rattle.ffi3_capi.specs.Chars.{char_sign, layout_sign};
-ghost use Rattle.ffi3_capi.specs.Faults.{Declares, IsFaultOf};
+ghost use Rattle.ffi3_capi.specs.Faults.{Declares, DeclaresIn, IsFaultIn, IsFaultOf};
 ghost use Rattle.ffi3_capi.specs.CheckedText.{ChecksText};
-ghost use Rattle.ffi3_capi.specs.ByNodes.{AreNodesOf, IsFaultOfNodes};
+ghost use Rattle.ffi3_capi.specs.ByNodes.{AreNodesIn, IsFaultOfNodesIn};
+ghost use Rattle.ffi3_capi.specs.Formats.{long_double_on};
 ghost use Rattle.ffi3_capi.specs.Placed.{Places};
-ghost use Rattle.ffi3_capi.specs.Laid.{LaysOut};
-ghost use Rattle.ffi3_capi.specs.WholeType.{LaysOutNodes, TellsOffsets};
-ghost use Rattle.ffi3_capi.specs.NaturalLayout.{ChecksLayout};
+ghost use Rattle.ffi3_capi.specs.Laid.{LaysOut, LaysOutFor};
+ghost use Rattle.ffi3_capi.specs.WholeType.{LaysOutNodes, LaysOutNodesFor, TellsOffsets, TellsOffsetsFor};
+ghost use Rattle.ffi3_capi.specs.NaturalLayout.{ChecksLayout, ChecksLayoutFor};
 ghost use Rattle.ffi3_transfer.specs.Stored.{image_in};
 ghost use Rattle.ffi3_capi.specs.Entry.{Reads};
 ghost use Rattle.ffi3_capi.specs.Each.{ReadsEach};
@@ -41,7 +42,7 @@ pub extern "C" fn ffi3_place(
     call: &mut PlacedCall,
     pieces: &mut [PlacedPiece],
 ) -> u32
-    ensures { Places (Declares (char_sign target) text.now) (IsFaultOf (char_sign target) text.now) target pieces.old result call.new pieces.new }
+    ensures { Places (DeclaresIn (long_double_on target) (char_sign target) text.now) (IsFaultIn (long_double_on target) (char_sign target) text.now) target pieces.old result call.new pieces.new }
 {
     ffi3_capi::place(alloc, target, Declaration::Text(text), call, pieces)
 }
@@ -56,7 +57,7 @@ pub extern "C" fn ffi3_place_nodes(
     call: &mut PlacedCall,
     pieces: &mut [PlacedPiece],
 ) -> u32
-    ensures { Places (AreNodesOf nodes.now fixed) (IsFaultOfNodes nodes.now fixed) target pieces.old result call.new pieces.new }
+    ensures { Places (AreNodesIn (long_double_on target) nodes.now fixed) (IsFaultOfNodesIn (long_double_on target) nodes.now fixed) target pieces.old result call.new pieces.new }
 {
     ffi3_capi::place(
         alloc,
@@ -79,6 +80,28 @@ pub extern "C" fn ffi3_layout(
     ensures { LaysOut (Declares layout_sign text.now) (IsFaultOf layout_sign text.now) value leaves.old result layout.new leaves.new }
 {
     ffi3_capi::layout(alloc, Declaration::Text(text), value, layout, leaves)
+}
+
+/// The same for a target, in whose format long doubles are.
+#[unsafe(no_mangle)]
+pub extern "C" fn ffi3_layout_for(
+    alloc: Global,
+    target: u32,
+    text: &[u8],
+    value: u32,
+    layout: &mut LaidType,
+    leaves: &mut [LaidLeaf],
+) -> u32
+    ensures { LaysOutFor (DeclaresIn (long_double_on target) (char_sign target) text.now) (IsFaultIn (long_double_on target) (char_sign target) text.now) target value leaves.old result layout.new leaves.new }
+{
+    ffi3_capi::layout_for(
+        alloc,
+        target,
+        Declaration::Text(text),
+        value,
+        layout,
+        leaves,
+    )
 }
 
 /// Whether the text declares a function, and what is told of a place that is unexpected.
@@ -120,6 +143,34 @@ pub extern "C" fn ffi3_offsets_nodes(
     ffi3_capi::offsets_nodes(alloc, nodes, told, offsets)
 }
 
+/// The layout of the type that the nodes are on a target, and its leaves.
+#[unsafe(no_mangle)]
+pub extern "C" fn ffi3_layout_nodes_for(
+    alloc: Global,
+    target: u32,
+    nodes: &[Node],
+    told: &mut WholeType,
+    leaves: &mut [LaidLeaf],
+) -> u32
+    ensures { LaysOutNodesFor target nodes.now leaves.old result told.new leaves.new }
+{
+    ffi3_capi::layout_nodes_for(alloc, target, nodes, told, leaves)
+}
+
+/// The layout of the type that the nodes are on a target, and where its members start.
+#[unsafe(no_mangle)]
+pub extern "C" fn ffi3_offsets_for(
+    alloc: Global,
+    target: u32,
+    nodes: &[Node],
+    told: &mut WholeType,
+    offsets: &mut [usize],
+) -> u32
+    ensures { TellsOffsetsFor target nodes.now offsets.old result told.new offsets.new }
+{
+    ffi3_capi::offsets_for(alloc, target, nodes, told, offsets)
+}
+
 /// Whether the type that the nodes are has this size, this alignment and members that start there.
 #[unsafe(no_mangle)]
 pub extern "C" fn ffi3_check_layout(
@@ -135,6 +186,22 @@ pub extern "C" fn ffi3_check_layout(
     ffi3_capi::check_layout(alloc, nodes, size, align, offsets, fault)
 }
 
+/// The same of the type that the nodes are on a target.
+#[unsafe(no_mangle)]
+pub extern "C" fn ffi3_check_for(
+    alloc: Global,
+    target: u32,
+    nodes: &[Node],
+    size: usize,
+    align: usize,
+    offsets: &[usize],
+    fault: &mut TextFault,
+) -> u32
+    ensures { ChecksLayoutFor target nodes.now size align offsets.now result fault.new }
+{
+    ffi3_capi::check_layout_for(alloc, target, nodes, size, align, offsets, fault)
+}
+
 /// The arguments of the function that the text declares, as registers and stack have them where it begins.
 #[unsafe(no_mangle)]
 pub extern "C" fn ffi3_arguments(
@@ -146,7 +213,7 @@ pub extern "C" fn ffi3_arguments(
     found: &mut EntryArguments,
     values: &mut [u8],
 ) -> u32
-    ensures { Reads (Declares (char_sign target) text.now) (IsFaultOf (char_sign target) text.now) target (image_in registers.now stack.now) values.old result found.new values.new }
+    ensures { Reads (DeclaresIn (long_double_on target) (char_sign target) text.now) (IsFaultIn (long_double_on target) (char_sign target) text.now) target (image_in registers.now stack.now) values.old result found.new values.new }
 {
     ffi3_capi::arguments(
         alloc,
@@ -171,7 +238,7 @@ pub extern "C" fn ffi3_arguments_each(
     each: &mut [EachArgument],
     values: &mut [u8],
 ) -> u32
-    ensures { ReadsEach (Declares (char_sign target) text.now) (IsFaultOf (char_sign target) text.now) target (image_in registers.now stack.now) each.old values.old result found.new each.new values.new }
+    ensures { ReadsEach (DeclaresIn (long_double_on target) (char_sign target) text.now) (IsFaultIn (long_double_on target) (char_sign target) text.now) target (image_in registers.now stack.now) each.old values.old result found.new each.new values.new }
 {
     let declaration = Declaration::Text(text);
     ffi3_capi::tell_each(
@@ -199,7 +266,7 @@ pub extern "C" fn ffi3_arguments_nodes(
     each: &mut [EachArgument],
     values: &mut [u8],
 ) -> u32
-    ensures { ReadsEach (AreNodesOf nodes.now fixed) (IsFaultOfNodes nodes.now fixed) target (image_in registers.now stack.now) each.old values.old result found.new each.new values.new }
+    ensures { ReadsEach (AreNodesIn (long_double_on target) nodes.now fixed) (IsFaultOfNodesIn (long_double_on target) nodes.now fixed) target (image_in registers.now stack.now) each.old values.old result found.new each.new values.new }
 {
     let declaration = Declaration::Nodes(nodes, fixed);
     ffi3_capi::tell_each(
@@ -225,7 +292,7 @@ pub extern "C" fn ffi3_result(
     found: &mut ReturnedResult,
     value: &mut [u8],
 ) -> u32
-    ensures { ReadsResult (Declares (char_sign target) text.now) (IsFaultOf (char_sign target) text.now) target (image_in registers.now stack.now) value.old result found.new value.new }
+    ensures { ReadsResult (DeclaresIn (long_double_on target) (char_sign target) text.now) (IsFaultIn (long_double_on target) (char_sign target) text.now) target (image_in registers.now stack.now) value.old result found.new value.new }
 {
     ffi3_capi::tell_result(
         alloc,
@@ -250,7 +317,7 @@ pub extern "C" fn ffi3_result_nodes(
     found: &mut ReturnedResult,
     value: &mut [u8],
 ) -> u32
-    ensures { ReadsResult (AreNodesOf nodes.now fixed) (IsFaultOfNodes nodes.now fixed) target (image_in registers.now stack.now) value.old result found.new value.new }
+    ensures { ReadsResult (AreNodesIn (long_double_on target) nodes.now fixed) (IsFaultOfNodesIn (long_double_on target) nodes.now fixed) target (image_in registers.now stack.now) value.old result found.new value.new }
 {
     let declaration = Declaration::Nodes(nodes, fixed);
     ffi3_capi::tell_result(alloc, target, declaration, registers, stack, found, value)
@@ -266,7 +333,7 @@ pub extern "C" fn ffi3_prepare(
     interface: &mut Handle,
     fault: &mut TextFault,
 ) -> u32
-    ensures { Prepares (AreNodesOf nodes.now fixed) (IsFaultOfNodes nodes.now fixed) target interface.old.kept result fault.new interface.new.kept }
+    ensures { Prepares (AreNodesIn (long_double_on target) nodes.now fixed) (IsFaultOfNodesIn (long_double_on target) nodes.now fixed) target interface.old.kept result fault.new interface.new.kept }
 {
     let declaration = Declaration::Nodes(nodes, fixed);
     ffi3_interface::prepare(alloc, target, declaration, interface, fault)
@@ -403,7 +470,7 @@ pub extern "C" fn ffi3_register_name(target: u32, place: u32, number: u32, name:
 /// The library's version: of 1.2.3, 10203.
 #[unsafe(no_mangle)]
 pub extern "C" fn ffi3_version() -> u32
-    ensures { result ≡ 200 }
+    ensures { result ≡ 300 }
 {
-    200
+    300
 }

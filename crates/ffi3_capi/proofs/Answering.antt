@@ -1,5 +1,5 @@
 -- What is answered to C.
-use Rattle.std.specs.Prelude.{Some, slice_get}
+use Rattle.std.specs.Prelude.{Some, None, Option, slice_get}
 use Rattle.std.proofs.Common.{◌≡◌, ℕ, List, Bool, sym, subst, ap, ◌∙◌}
 use Rattle.ffi3_type_rules.specs.declared.Target.{Target}
 use Rattle.ffi3_type_rules.specs.Tree.{Tree}
@@ -20,12 +20,13 @@ use Rattle.ffi3_capi.specs.declared.entry.Found.{Found}
 use Rattle.ffi3_capi.specs.declared.entry.Unread.{Unread}
 use Rattle.ffi3_capi.specs.declared.entry.Unread.TheVariants.{Call, ShortStack, NotInStack}
 use Rattle.ffi3_capi.specs.declared.whole.WholeType.{WholeType}
-use Rattle.ffi3_capi.specs.ByNodes.{AreNodesOfType}
-use Rattle.ffi3_capi.specs.WholeType.{whole_type, no_whole_type, IsTypeRefusal, TellsType, told as told_type, refused as no_type_told}
+use Rattle.ffi3_capi.specs.WholeType.{whole_type, no_whole_type, AreNodesOfTypeBy, IsTypeRefusal, TellsType, told as told_type, refused as no_type_told}
 use Rattle.ffi3_capi.specs.Filled.{has_room, filled, room_status}
 use Rattle.ffi3_capi.specs.Refused.{status_of, fault_in, count_in}
 use Rattle.ffi3_explain_rules.specs.Standards.{standard_of}
 use Rattle.ffi3_capi.specs.Placed.{targets, IsPlacement, IsPlaceRefusal, no_call, Places, placed, refused}
+use Rattle.ffi3_capi.specs.OnTarget.{OnTarget, unknown}
+use Rattle.ffi3_format_rules.specs.declared.Format.{Format}
 use Rattle.ffi3_capi.specs.Laid.{IsLaid, IsLayoutRefusal, no_type, LaysOut, laid_out, refused as no_layout}
 use Rattle.ffi3_capi.specs.Entry.{AreFound, AreFoundBy, AreNotRead, AreNotReadBy, Reads, read, unread, unread_status, no_arguments}
 
@@ -51,16 +52,23 @@ refuses_layout declares is_fault value old r layout count fault status is counte
 
 -- ---- the type that nodes are
 
-pub tells : {A : Type 0} (ns : List Node) (items : Tree → List A) (t : Tree) (old new got : List A) (whole : WholeType) (fits : Bool) (status : ℕ) → AreNodesOfType ns t → got ≡ items t → whole ≡ whole_type t → fits ≡ has_room got old → status ≡ room_status fits → new ≡ filled got old → TellsType ns items old status whole new
-tells {A = A} ns items t old new got whole fits status is all told room answered wrote =
+pub tells : {A : Type 0} (o : Option Format) (ns : List Node) (items : Tree → List A) (t : Tree) (old new got : List A) (whole : WholeType) (fits : Bool) (status : ℕ) → AreNodesOfTypeBy o ns t → got ≡ items t → whole ≡ whole_type t → fits ≡ has_room got old → status ≡ room_status fits → new ≡ filled got old → TellsType o ns items old status whole new
+tells {A = A} o ns items t old new got whole fits status is all told room answered wrote =
     let number : status ≡ room_status (has_room (items t) old) = answered ∙ ap room_status room ∙ ap (λ (g : List A). room_status (has_room g old)) all in
     let array : new ≡ filled (items t) old = wrote ∙ ap (λ (g : List A). filled g old) all in
-    subst (λ (n : ℕ). TellsType ns items old n whole new) (sym number) (subst (λ (w : WholeType). TellsType ns items old (room_status (has_room (items t) old)) w new) (sym told) (subst (λ (l : List A). TellsType ns items old (room_status (has_room (items t) old)) (whole_type t) l) (sym array) (told_type t is)))
+    subst (λ (n : ℕ). TellsType o ns items old n whole new) (sym number) (subst (λ (w : WholeType). TellsType o ns items old (room_status (has_room (items t) old)) w new) (sym told) (subst (λ (l : List A). TellsType o ns items old (room_status (has_room (items t) old)) (whole_type t) l) (sym array) (told_type t is)))
 
-pub tells_none : {A : Type 0} (ns : List Node) (items : Tree → List A) (old : List A) (r : Refusal) (whole : WholeType) (fault : TextFault) (status : ℕ) → IsTypeRefusal ns r → fault ≡ fault_in r → whole ≡ no_whole_type fault → status ≡ status_of r → TellsType ns items old status whole old
-tells_none ns items old r whole fault status is why wrote answered =
+pub tells_none : {A : Type 0} (o : Option Format) (ns : List Node) (items : Tree → List A) (old : List A) (r : Refusal) (whole : WholeType) (fault : TextFault) (status : ℕ) → IsTypeRefusal o ns r → fault ≡ fault_in r → whole ≡ no_whole_type fault → status ≡ status_of r → TellsType o ns items old status whole old
+tells_none o ns items old r whole fault status is why wrote answered =
     let same : whole ≡ no_whole_type (fault_in r) = wrote ∙ ap no_whole_type why in
-    subst (λ (n : ℕ). TellsType ns items old n whole old) (sym answered) (subst (λ (w : WholeType). TellsType ns items old (status_of r) w old) (sym same) (no_type_told r is))
+    subst (λ (n : ℕ). TellsType o ns items old n whole old) (sym answered) (subst (λ (w : WholeType). TellsType o ns items old (status_of r) w old) (sym same) (no_type_told r is))
+
+-- ---- for a target
+
+-- no standard has the number
+pub on_no_target : {A B : Type 0} (target : ℕ) (says : ℕ → A → B → Type 0) (nothing : A) (old : B) (status : ℕ) (whole : A) → slice_get targets target ≡ None → status ≡ status_of NoSuchTarget → whole ≡ nothing → OnTarget target says nothing old status whole old
+on_no_target {A = A} target says nothing old status whole none answered wrote =
+    subst (λ (n : ℕ). OnTarget target says nothing old n whole old) (sym answered) (subst (λ (w : A). OnTarget target says nothing old (status_of NoSuchTarget) w old) (sym wrote) (unknown none))
 
 -- ---- arguments
 

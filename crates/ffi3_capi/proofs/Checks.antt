@@ -8,6 +8,7 @@ use Rattle.ffi3_cdecl_rules.specs.Tokens.{wide, Sign}
 use Rattle.ffi3_cdecl_rules.specs.Reading.{bad_token, unexpected, bad_number, bad_signature, IsReadingIn}
 use Rattle.ffi3_cdecl_rules.specs.Reasons.{Told, IsTold}
 use Rattle.ffi3_cdecl_rules.specs.Telling.{tell}
+use Rattle.ffi3_cdecl.specs.ReadingFor.{IsReadingFor}
 use Rattle.ffi3_diagnostics.specs.declared.expected.Expected.{Expected}
 use Rattle.ffi3_diagnostics.specs.ToldOf.{expected_of, kinds_of}
 use Rattle.ffi3_capi.specs.declared.codes.TheConstants.{DONE, NOT_DECLARED}
@@ -17,7 +18,8 @@ use Rattle.ffi3_capi.specs.declared.fault.FaultKind.TheVariants.{NoFault, NotUtf
 use Rattle.ffi3_capi.specs.declared.status.Refusal.{Refusal}
 use Rattle.ffi3_capi.specs.declared.status.Refusal.TheVariants.{NoSuchTarget, Fault, NoMemory}
 use Rattle.ffi3_capi.specs.Chars.{char_sign}
-use Rattle.ffi3_capi.specs.Faults.{kind_number, fault_with, fault_at, signature_fault, left_out_kind, IsFaultOf, misread, not_text, Declares}
+use Rattle.ffi3_capi.specs.Faults.{kind_number, fault_with, fault_at, signature_fault, left_out_kind, IsFaultIn, misread_in, no_text as bad_bytes, DeclaresIn}
+use Rattle.ffi3_capi.specs.Formats.{long_double_on}
 use Rattle.ffi3_capi.specs.Placed.{targets}
 use Rattle.ffi3_capi.specs.Refused.{status_of, fault_in}
 use Rattle.ffi3_capi.specs.CheckedText.{expected_number, told_at, nothing_beside, IsUnexpectedIn, IsCheckRefusal, ChecksText, declares, is_unexpected, refused}
@@ -67,25 +69,25 @@ module _ (target : ℕ) (text : List ℕ) where
   pub place_told : (u : CheckedText) → IsSome (slice_get targets target) → IsUnexpectedIn (char_sign target) text u → ChecksText target text NOT_DECLARED u
   place_told u some there = is_unexpected u some there
 
-  pub declares_told : (s : Signature) (f : TextFault) (u : CheckedText) → f ≡ fault_with NoFault → u ≡ nothing_beside f → IsSome (slice_get targets target) → Declares (char_sign target) text s → ChecksText target text DONE u
+  pub declares_told : (s : Signature) (f : TextFault) (u : CheckedText) → f ≡ fault_with NoFault → u ≡ nothing_beside f → IsSome (slice_get targets target) → DeclaresIn (long_double_on target) (char_sign target) text s → ChecksText target text DONE u
   declares_told s f u e g some is =
       subst (λ v. ChecksText target text DONE v) (sym (g ∙ ap nothing_beside e)) (declares s some is)
 
-  other_fault : (f g : TextFault) (n : ℕ) (u : CheckedText) → f ≡ g → (g.kind ≡ kind_number Unexpected → ⊥) → n ≡ status_of (Fault f) → u ≡ nothing_beside (fault_in (Fault f)) → IsSome (slice_get targets target) → IsFaultOf (char_sign target) text g → ChecksText target text n u
+  other_fault : (f g : TextFault) (n : ℕ) (u : CheckedText) → f ≡ g → (g.kind ≡ kind_number Unexpected → ⊥) → n ≡ status_of (Fault f) → u ≡ nothing_beside (fault_in (Fault f)) → IsSome (slice_get targets target) → IsFaultIn (long_double_on target) (char_sign target) text g → ChecksText target text n u
   other_fault f g n u same other e h some is =
       is_refused (Fault g) n u e (h ∙ ap nothing_beside same) (some, is, other)
 
   pub no_text : (f : TextFault) (n : ℕ) (u : CheckedText) → f ≡ fault_with NotUtf8 → n ≡ status_of (Fault f) → u ≡ nothing_beside (fault_in (Fault f)) → IsSome (slice_get targets target) → (¬ IsUtf8 text) → ChecksText target text n u
   no_text f n u same e h some none =
-      other_fault f (fault_with NotUtf8) n u same (λ is. cc) e h some (not_text none)
+      other_fault f (fault_with NotUtf8) n u same (λ is. cc) e h some (bad_bytes none)
 
-  pub bad_token_told : (at : ℕ) (f : TextFault) (n : ℕ) (u : CheckedText) → f ≡ fault_at BadToken at → n ≡ status_of (Fault f) → u ≡ nothing_beside (fault_in (Fault f)) → IsUtf8 text → IsSome (slice_get targets target) → IsReadingIn wide (char_sign target) text (bad_token at) → ChecksText target text n u
+  pub bad_token_told : (at : ℕ) (f : TextFault) (n : ℕ) (u : CheckedText) → f ≡ fault_at BadToken at → n ≡ status_of (Fault f) → u ≡ nothing_beside (fault_in (Fault f)) → IsUtf8 text → IsSome (slice_get targets target) → IsReadingFor (long_double_on target) (char_sign target) text (bad_token at) → ChecksText target text n u
   bad_token_told at f n u same e h utf8 some is =
-      other_fault f (fault_at BadToken at) n u same (λ is. cc) e h some (misread (bad_token at) (fault_at BadToken at) utf8 is refl)
+      other_fault f (fault_at BadToken at) n u same (λ is. cc) e h some (misread_in (bad_token at) (fault_at BadToken at) utf8 is refl)
 
-  pub bad_number_told : (at : ℕ) (f : TextFault) (n : ℕ) (u : CheckedText) → f ≡ fault_at BadNumber at → n ≡ status_of (Fault f) → u ≡ nothing_beside (fault_in (Fault f)) → IsUtf8 text → IsSome (slice_get targets target) → IsReadingIn wide (char_sign target) text (bad_number at) → ChecksText target text n u
+  pub bad_number_told : (at : ℕ) (f : TextFault) (n : ℕ) (u : CheckedText) → f ≡ fault_at BadNumber at → n ≡ status_of (Fault f) → u ≡ nothing_beside (fault_in (Fault f)) → IsUtf8 text → IsSome (slice_get targets target) → IsReadingFor (long_double_on target) (char_sign target) text (bad_number at) → ChecksText target text n u
   bad_number_told at f n u same e h utf8 some is =
-      other_fault f (fault_at BadNumber at) n u same (λ is. cc) e h some (misread (bad_number at) (fault_at BadNumber at) utf8 is refl)
+      other_fault f (fault_at BadNumber at) n u same (λ is. cc) e h some (misread_in (bad_number at) (fault_at BadNumber at) utf8 is refl)
 
   left_out_is_other : (t : Tree) → kind_number (left_out_kind t) ≡ kind_number Unexpected → ⊥
   left_out_is_other void e = cc
@@ -105,6 +107,6 @@ module _ (target : ℕ) (text : List ℕ) where
   signature_is_other (bad_fixed fixed n) e = cc
   signature_is_other (bad_argument_type i) e = cc
 
-  pub signature_told : (g : SignatureFault) (f : TextFault) (n : ℕ) (u : CheckedText) → f ≡ signature_fault g → n ≡ status_of (Fault f) → u ≡ nothing_beside (fault_in (Fault f)) → IsUtf8 text → IsSome (slice_get targets target) → IsReadingIn wide (char_sign target) text (bad_signature g) → ChecksText target text n u
+  pub signature_told : (g : SignatureFault) (f : TextFault) (n : ℕ) (u : CheckedText) → f ≡ signature_fault g → n ≡ status_of (Fault f) → u ≡ nothing_beside (fault_in (Fault f)) → IsUtf8 text → IsSome (slice_get targets target) → IsReadingFor (long_double_on target) (char_sign target) text (bad_signature g) → ChecksText target text n u
   signature_told g f n u same e h utf8 some is =
-      other_fault f (signature_fault g) n u same (signature_is_other g) e h some (misread (bad_signature g) (signature_fault g) utf8 is refl)
+      other_fault f (signature_fault g) n u same (signature_is_other g) e h some (misread_in (bad_signature g) (signature_fault g) utf8 is refl)

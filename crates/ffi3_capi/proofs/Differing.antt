@@ -1,6 +1,6 @@
 -- The first item at which two lists differ, and what is told of a layout.
 use Rattle.std.proofs.Common.{◌≡◌, ℕ, ◌+◌, ◌<◌, ◌≤◌, List, [], ◌∷◌, ◌++◌, length, get_or, take, ap, sym, subst, ◌∙◌, refl, arith}
-use Rattle.std.specs.Prelude.{Some, None, slice_get}
+use Rattle.std.specs.Prelude.{Option, Some, None, slice_get}
 use Rattle.std.proofs.lemmas.List.{take_all, take_more}
 use Rattle.std.proofs.lemmas.Option.{slice_get_past, slice_get_read, slice_get-get_or}
 use Rattle.ffi3_type_rules.specs.Tree.{Tree}
@@ -10,11 +10,13 @@ use Rattle.ffi3_capi.specs.declared.codes.TheConstants.{DONE, NOT_DECLARED}
 use Rattle.ffi3_capi.specs.declared.fault.TextFault.{TextFault}
 use Rattle.ffi3_capi.specs.declared.fault.FaultKind.TheVariants.{NoFault, LaidOutOtherwise}
 use Rattle.ffi3_capi.specs.declared.status.Refusal.{Refusal}
-use Rattle.ffi3_capi.specs.ByNodes.{AreNodesOfType}
+use Rattle.ffi3_capi.specs.declared.status.Refusal.TheVariants.{NoSuchTarget}
+use Rattle.ffi3_format_rules.specs.declared.Format.{Format}
 use Rattle.ffi3_capi.specs.Faults.{fault_with, fault_of_value}
+use Rattle.ffi3_capi.specs.Placed.{targets}
 use Rattle.ffi3_capi.specs.Refused.{status_of, fault_in}
-use Rattle.ffi3_capi.specs.WholeType.{offsets_of, IsTypeRefusal}
-use Rattle.ffi3_capi.specs.NaturalLayout.{DifferFirst, IsNatural, IsAnother, member, whole, ChecksLayout, natural, another, refused}
+use Rattle.ffi3_capi.specs.WholeType.{offsets_of, AreNodesOfTypeBy, IsTypeRefusal}
+use Rattle.ffi3_capi.specs.NaturalLayout.{DifferFirst, IsNatural, IsAnother, member, whole, ChecksType, ChecksLayoutFor, unknown, natural, another, refused}
 
 some_same : (a b : ℕ) → Some a ≡ Some b → a ≡ b
 some_same a b e = cc
@@ -70,14 +72,18 @@ another_whole t size align offsets own j all alike other same =
 
 -- ---- what is told
 
-pub checks_natural : (ns : List Node) (t : Tree) (size align : ℕ) (offsets : List ℕ) (fault : TextFault) → AreNodesOfType ns t → IsNatural t size align offsets → fault ≡ fault_with NoFault → ChecksLayout ns size align offsets DONE fault
-checks_natural ns t size align offsets fault is right told =
-    subst (λ (f : TextFault). ChecksLayout ns size align offsets DONE f) (sym told) (natural t is right)
+pub checks_natural : (o : Option Format) (ns : List Node) (t : Tree) (size align : ℕ) (offsets : List ℕ) (fault : TextFault) → AreNodesOfTypeBy o ns t → IsNatural t size align offsets → fault ≡ fault_with NoFault → ChecksType o ns size align offsets DONE fault
+checks_natural o ns t size align offsets fault is right told =
+    subst (λ (f : TextFault). ChecksType o ns size align offsets DONE f) (sym told) (natural t is right)
 
-pub checks_another : (ns : List Node) (t : Tree) (size align : ℕ) (offsets : List ℕ) (i : ℕ) (fault : TextFault) → AreNodesOfType ns t → IsAnother t size align offsets i → fault ≡ fault_of_value 0 LaidOutOtherwise i → ChecksLayout ns size align offsets NOT_DECLARED fault
-checks_another ns t size align offsets i fault is wrong told =
-    subst (λ (f : TextFault). ChecksLayout ns size align offsets NOT_DECLARED f) (sym told) (another t i is wrong)
+pub checks_another : (o : Option Format) (ns : List Node) (t : Tree) (size align : ℕ) (offsets : List ℕ) (i : ℕ) (fault : TextFault) → AreNodesOfTypeBy o ns t → IsAnother t size align offsets i → fault ≡ fault_of_value 0 LaidOutOtherwise i → ChecksType o ns size align offsets NOT_DECLARED fault
+checks_another o ns t size align offsets i fault is wrong told =
+    subst (λ (f : TextFault). ChecksType o ns size align offsets NOT_DECLARED f) (sym told) (another t i is wrong)
 
-pub checks_none : (ns : List Node) (size align : ℕ) (offsets : List ℕ) (r : Refusal) (fault : TextFault) (status : ℕ) → IsTypeRefusal ns r → fault ≡ fault_in r → status ≡ status_of r → ChecksLayout ns size align offsets status fault
-checks_none ns size align offsets r fault status is why answered =
-    subst (λ (n : ℕ). ChecksLayout ns size align offsets n fault) (sym answered) (subst (λ (f : TextFault). ChecksLayout ns size align offsets (status_of r) f) (sym why) (refused r is))
+pub checks_none : (o : Option Format) (ns : List Node) (size align : ℕ) (offsets : List ℕ) (r : Refusal) (fault : TextFault) (status : ℕ) → IsTypeRefusal o ns r → fault ≡ fault_in r → status ≡ status_of r → ChecksType o ns size align offsets status fault
+checks_none o ns size align offsets r fault status is why answered =
+    subst (λ (n : ℕ). ChecksType o ns size align offsets n fault) (sym answered) (subst (λ (f : TextFault). ChecksType o ns size align offsets (status_of r) f) (sym why) (refused r is))
+
+pub checks_on_no_target : (target : ℕ) (ns : List Node) (size align : ℕ) (offsets : List ℕ) (fault : TextFault) (status : ℕ) → slice_get targets target ≡ None → status ≡ status_of NoSuchTarget → fault ≡ fault_in NoSuchTarget → ChecksLayoutFor target ns size align offsets status fault
+checks_on_no_target target ns size align offsets fault status none answered why =
+    subst (λ (n : ℕ). ChecksLayoutFor target ns size align offsets n fault) (sym answered) (subst (λ (f : TextFault). ChecksLayoutFor target ns size align offsets (status_of NoSuchTarget) f) (sym why) (unknown none))

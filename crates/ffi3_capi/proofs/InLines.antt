@@ -7,12 +7,14 @@ use Rattle.ffi3_cdecl_rules.specs.Tokens.{wide}
 use Rattle.ffi3_cdecl_rules.specs.Reading.{bad_token, unexpected, bad_number, bad_signature, IsReadingIn}
 use Rattle.ffi3_cdecl_rules.specs.Reasons.{Told, IsTold}
 use Rattle.ffi3_cdecl_rules.specs.Telling.{tell}
+use Rattle.ffi3_cdecl.specs.ReadingFor.{IsReadingFor}
 use Rattle.ffi3_diagnostics_rules.specs.Positions.{placed_words}
 use Rattle.ffi3_diagnostics_rules.specs.ToldText.{told_words, lines_at}
 use Rattle.ffi3_capi.specs.declared.fault.TextFault.{TextFault}
 use Rattle.ffi3_capi.specs.declared.fault.FaultKind.TheVariants.{NotUtf8}
 use Rattle.ffi3_capi.specs.Chars.{char_sign}
-use Rattle.ffi3_capi.specs.Faults.{fault_with, signature_fault, Declares}
+use Rattle.ffi3_capi.specs.Faults.{fault_with, signature_fault, DeclaresIn}
+use Rattle.ffi3_capi.specs.Formats.{long_double_on}
 use Rattle.ffi3_capi.specs.FaultText.{fault_text}
 use Rattle.ffi3_capi.specs.Filled.{filled, with_end}
 use Rattle.ffi3_capi.specs.Placed.{targets}
@@ -47,11 +49,11 @@ module _ (target : ℕ) (text : List ℕ) where
   lines_bad_number ls at e utf8 some is =
       told_lines ls (place_line at (codes "bad number") ++ lines_at text at) e (at_bad_number at some utf8 is)
 
-  pub lines_of_signature : (ls : List ℕ) (g : SignatureFault) → ls ≡ fault_line g → IsUtf8 text → IsSome (slice_get targets target) → IsReadingIn wide (char_sign target) text (bad_signature g) → AreFaultLines target text ls
+  pub lines_of_signature : (ls : List ℕ) (g : SignatureFault) → ls ≡ fault_line g → IsUtf8 text → IsSome (slice_get targets target) → IsReadingFor (long_double_on target) (char_sign target) text (bad_signature g) → AreFaultLines target text ls
   lines_of_signature ls g e utf8 some is =
       told_lines ls (fault_line g) e (of_signature g some utf8 is)
 
-  pub no_lines : (ls : List ℕ) (s : Signature) → ls ≡ [] → IsSome (slice_get targets target) → Declares (char_sign target) text s → AreFaultLines target text ls
+  pub no_lines : (ls : List ℕ) (s : Signature) → ls ≡ [] → IsSome (slice_get targets target) → DeclaresIn (long_double_on target) (char_sign target) text s → AreFaultLines target text ls
   no_lines ls s e some is = told_lines ls [] e (no_fault s some is)
 
   pub no_lines_of_none : (ls : List ℕ) → ls ≡ [] → slice_get targets target ≡ None → AreFaultLines target text ls

@@ -1,5 +1,6 @@
 pub mod Declared
 pub mod Within
+pub mod Carried
 pub mod Filling
 pub mod Answering
 pub mod Values

@@ -14,7 +14,7 @@ use Rattle.ffi3_place_rules.specs.Sound.{PlaceHasAll}
 use Rattle.ffi3_explain_rules.specs.declared.Outside.{Outside}
 use Rattle.ffi3_explain_rules.specs.Arguments.{first_outside, least_stack, or_later, outside_of, value_by_standard, values_by_standard}
 use Rattle.ffi3_explain_rules.specs.Standards.{standard_of}
-use Rattle.ffi3_explain.specs.Places.{ArgumentIsThere, ArgumentsAreReady}
+use Rattle.ffi3_transfer.specs.Places.{ArgumentIsThere, ArgumentsAreReady}
 use Rattle.ffi3_explain.proofs.Standing.{told_values}
 use Rattle.ffi3_capi.specs.declared.each.EachArgument.{EachArgument}
 use Rattle.ffi3_capi.specs.declared.each.Seen.{Seen}

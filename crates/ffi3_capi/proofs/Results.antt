@@ -16,12 +16,13 @@ use Rattle.ffi3_place_rules.specs.Isa.{to_list}
 use Rattle.ffi3_place_rules.specs.Standard.{Standard, plan_of}
 use Rattle.ffi3_place_rules.specs.Holds.{OwnResult, OwnsResult, RegisterHolds}
 use Rattle.ffi3_place_rules.specs.Sound.{IsSound, LiesIn, ResultHasAll}
+use Rattle.ffi3_place_rules.proofs.Further.{each_stands}
 use Rattle.ffi3_explain_rules.specs.Arguments.{is_in_image}
 use Rattle.ffi3_explain_rules.proofs.Pieces.{stood_is_read}
 use Rattle.ffi3_explain_rules.specs.Explain.{first_bytes}
 use Rattle.ffi3_explain_rules.specs.Standards.{standard_of}
-use Rattle.ffi3_explain.specs.Places.{HasPlace}
-use Rattle.ffi3_explain.proofs.Ready.{places_there}
+use Rattle.ffi3_transfer.specs.Places.{HasPlace}
+use Rattle.ffi3_transfer.proofs.Ready.{places_there}
 use Rattle.ffi3_capi.specs.declared.fault.TextFault.{TextFault}
 use Rattle.ffi3_capi.specs.declared.fault.FaultKind.TheVariants.{NoFault}
 use Rattle.ffi3_capi.specs.Faults.{fault_with}
@@ -42,7 +43,7 @@ by_place std s m r is = ap (result_by std m s.result_type) is
 pub address_there : (std : Standard) (m : Image) (at : Option Loc) → AllByRecursion (LiesIn (isa_of std.target) 0) (to_list std.returned_address) → at ≡ std.returned_address → AllByRecursion (HasPlace m 0) (to_list at)
 address_there std m at lie is =
     subst (λ (o : Option Loc). AllByRecursion (HasPlace m 0) (to_list o)) (sym is)
-    (places_there m 0 (isa_of std.target) 0 (to_list std.returned_address) (omega arith) lie)
+    (places_there m 0 (isa_of std.target) 0 (to_list std.returned_address) (omega arith) (each_stands (isa_of std.target) 0 (to_list std.returned_address) lie))
 
 -- ---- where the address points
 

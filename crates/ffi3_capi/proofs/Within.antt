@@ -5,9 +5,11 @@ use Rattle.ffi3_type_rules.specs.Tree.{Tree, tree_at}
 use Rattle.ffi3_type_rules.specs.Layout.{size_of}
 use Rattle.ffi3_place_rules.specs.declared.Place.{Place}
 use Rattle.ffi3_place_rules.specs.declared.Place.TheVariants.{Direct, ByRef}
-use Rattle.ffi3_place_rules.specs.Sound.{IsPieceOf, PlaceHasAll, PlacesHaveAll}
+use Rattle.ffi3_place_rules.specs.declared.Res.{Res}
+use Rattle.ffi3_place_rules.specs.declared.Res.TheVariants.{Nothing, Direct as DirectRes, Hidden}
+use Rattle.ffi3_place_rules.specs.Sound.{IsPieceOf, PlaceHasAll, PlacesHaveAll, ResultHasAll}
 use Rattle.ffi3_place_rules.proofs.Tests.{each_weaker}
-use Rattle.ffi3_capi.specs.Within.{EndsWithin, PlaceEndsWithin}
+use Rattle.ffi3_capi.specs.Within.{EndsWithin, PlaceEndsWithin, ResultEndsWithin}
 
 pub places_end : (size : ℕ) (ts : List Tree) (ps : List Place) → ((k : ℕ) → k < length ts → size_of (tree_at ts k) ≤ size) → PlacesHaveAll ts ps → AllByRecursion (PlaceEndsWithin size) ps
 places_end size [] [] small h = tt
@@ -23,3 +25,9 @@ places_end size (t ∷ ts) (p ∷ ps) small h =
     place_ends (Direct pieces) all =
         each_weaker (IsPieceOf t) (EndsWithin size) (λ p e. omega (arith, e.within, first)) pieces all.each
     place_ends (ByRef at copy) all = tt
+
+pub result_ends : (size : ℕ) (t : Tree) (r : Res) → size_of t ≤ size → ResultHasAll t r → ResultEndsWithin size r
+result_ends size t Nothing small all = tt
+result_ends size t (DirectRes pieces) small all =
+    each_weaker (IsPieceOf t) (EndsWithin size) (λ p e. omega (arith, e.within, small)) pieces all.each
+result_ends size t (Hidden at buffer) small all = tt

@@ -1,13 +1,15 @@
 -- What nodes declare, or which type they are, and why they are none, as C sees it.
-use Rattle.std.specs.Prelude.{◌≡◌, ℕ, ◌<◌, ◌≤◌, ◌^◌, ◌==◌, cond, List, length, Option, Some, None}
+use Rattle.std.specs.Prelude.{◌≡◌, ℕ, ◌+◌, ◌<◌, ◌≤◌, ◌^◌, ◌==◌, cond, List, [], length, Option, Some, None}
 use Rattle.ffi3_type_rules.specs.declared.Role.TheVariants.{AsResult}
 use Rattle.ffi3_type_rules.specs.Tree.{Tree}
 use Rattle.ffi3_type_rules.specs.Fault.{Fault, IsFirstFault, IsResultType}
 use Rattle.ffi3_type_rules.specs.Signature.{Signature, SignatureFault, SignatureHasNoFault, IsFirstSignatureFault}
+use Rattle.ffi3_type_rules.specs.Signature.{SignatureIsPlaced, IsFirstFaultFor, for_places}
+use Rattle.ffi3_format_rules.specs.declared.Format.{Format}
 use Rattle.ffi3_nodes.specs.declared.Node.{Node}
 use Rattle.ffi3_nodes.specs.Nodes.{IsWritten, AreWritten, IsSignatureOf}
 use Rattle.ffi3_nodes.specs.Faults.{NodeFault, ended, unknown_kind, bad_count, too_deep, first_node_fault}
-use Rattle.ffi3_nodes.specs.Read.{AreNodesOfTypes, HasNoResultType}
+use Rattle.ffi3_nodes.specs.Read.{AreNodesOfTypes, HasNoResultType, IsSignatureFor, HasNoPlaced}
 use Rattle.ffi3_capi.specs.declared.codes.TheConstants.{RESULT_PART, NOT_VARIADIC}
 use Rattle.ffi3_capi.specs.declared.fault.TextFault.{TextFault}
 use Rattle.ffi3_capi.specs.declared.fault.FaultKind.TheVariants.{NodesEnded, UnknownKind, BadCount, NodesTooDeep}
@@ -49,6 +51,39 @@ pub data IsFaultOfNodes (ns : List Node) (fixed : ℕ) : TextFault → Type 0 wh
       → IsFirstSignatureFault s f
       → ((other : Signature) → IsSignatureOf ns (fixed_of fixed) other → IsFirstSignatureFault other f)
       → IsFaultOfNodes ns fixed (signature_fault f)
+
+-- ---- for calls on a target, whose long doubles have a format
+
+-- WHAT NODES DECLARE there: a function of the one signature that they are where long doubles have that format
+pub record AreNodesIn (f : Format) (ns : List Node) (fixed : ℕ) (s : Signature) : Type 0 where
+  pub written : IsSignatureFor f ns (fixed_of fixed) s
+  pub only : (other : Signature) → IsSignatureFor f ns (fixed_of fixed) other → other ≡ s
+  pub faultless : SignatureIsPlaced s
+
+-- WHY NODES DECLARE NO FUNCTION there: they are too many, or have a fault as nodes, and in both cases no signature that can be placed has them; or each signature that has them, and one does, has a fault, whose first is told
+pub data IsFaultOfNodesIn (f : Format) (ns : List Node) (fixed : ℕ) : TextFault → Type 0 where
+  so_many : 2 ^ 32 ≤ length ns → HasNoPlaced f ns (fixed_of fixed)
+      → IsFaultOfNodesIn f ns fixed (fault_of_value 0 TooManyNodes (length ns))
+  no_signature : (g : NodeFault) → length ns < 2 ^ 32 → first_node_fault ns ≡ Some g
+      → HasNoPlaced f ns (fixed_of fixed) → IsFaultOfNodesIn f ns fixed (node_fault (length ns) g)
+  not_placed : AreNodesOfTypes ns → (s : Signature) (g : SignatureFault) → IsSignatureFor f ns (fixed_of fixed) s
+      → IsFirstFaultFor for_places s g
+      → ((other : Signature) → IsSignatureFor f ns (fixed_of fixed) other → IsFirstFaultFor for_places other g)
+      → IsFaultOfNodesIn f ns fixed (signature_fault g)
+
+-- a function of no arguments that gives such a value back
+abbrev pub giving : Tree → Signature
+giving t = record { result_type = t; arguments = []; fixed = None }
+
+-- WHICH TYPE NODES ARE there: that of the result of the function of no arguments that they declare
+abbrev pub AreNodesOfTypeIn : Format → List Node → Tree → Type 0
+AreNodesOfTypeIn f ns t = AreNodesIn f ns NOT_VARIADIC (giving t)
+
+-- WHY NODES ARE NO TYPE there: they declare no function, or one of arguments
+pub data IsFaultOfTypeIn (f : Format) (ns : List Node) : TextFault → Type 0 where
+  no_function : (g : TextFault) → IsFaultOfNodesIn f ns NOT_VARIADIC g → IsFaultOfTypeIn f ns g
+  of_arguments : (s : Signature) → AreNodesIn f ns NOT_VARIADIC s → 1 ≤ length s.arguments
+      → IsFaultOfTypeIn f ns (fault_of_value 0 NotOneType (length s.arguments + 1))
 
 -- WHY NODES ARE NO TYPE: they are too many, none of types, those of several, or of one that has a fault as a result's; and then no type that can be a result has them
 pub data IsFaultOfType (ns : List Node) : TextFault → Type 0 where

@@ -17,7 +17,8 @@ use Rattle.ffi3_capi.specs.declared.fault.FaultKind.TheVariants.{NoFault, Unexpe
 use Rattle.ffi3_capi.specs.declared.status.Refusal.{Refusal}
 use Rattle.ffi3_capi.specs.declared.status.Refusal.TheVariants.{NoSuchTarget, NoSuchValue, Fault, NoMemory}
 use Rattle.ffi3_capi.specs.Chars.{char_sign}
-use Rattle.ffi3_capi.specs.Faults.{fault_with, fault_at, kind_number, Declares, IsFaultOf}
+use Rattle.ffi3_capi.specs.Faults.{fault_with, fault_at, kind_number, DeclaresIn, IsFaultIn}
+use Rattle.ffi3_capi.specs.Formats.{long_double_on}
 use Rattle.ffi3_capi.specs.Placed.{targets}
 use Rattle.ffi3_capi.specs.Refused.{status_of, fault_in}
 
@@ -94,12 +95,14 @@ abbrev pub IsCheckRefusal : ℕ → List ℕ → Refusal → Type 0
 IsCheckRefusal target text NoSuchTarget = slice_get targets target ≡ None
 IsCheckRefusal target text (NoSuchValue count) = ⊥
 IsCheckRefusal target text (Fault f) =
-    IsSome (slice_get targets target) × IsFaultOf (char_sign target) text f × (f.kind ≡ kind_number Unexpected → ⊥)
+    IsSome (slice_get targets target) × IsFaultIn (long_double_on target) (char_sign target) text f
+    × (f.kind ≡ kind_number Unexpected → ⊥)
 IsCheckRefusal target text NoMemory = Unit {0}
 
 -- WHAT ffi3_check_text ANSWERS, and what it writes into the caller's struct
 pub data ChecksText (target : ℕ) (text : List ℕ) : ℕ → CheckedText → Type 0 where
-  declares : (s : Signature) → IsSome (slice_get targets target) → Declares (char_sign target) text s
+  declares : (s : Signature) → IsSome (slice_get targets target)
+      → DeclaresIn (long_double_on target) (char_sign target) text s
       → ChecksText target text DONE (nothing_beside (fault_with NoFault))
   is_unexpected : (u : CheckedText) → IsSome (slice_get targets target) → IsUnexpectedIn (char_sign target) text u
       → ChecksText target text NOT_DECLARED u

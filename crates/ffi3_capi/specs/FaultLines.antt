@@ -6,11 +6,13 @@ use Rattle.ffi3_cdecl_rules.specs.Tokens.{wide}
 use Rattle.ffi3_cdecl_rules.specs.Reading.{bad_token, unexpected, bad_number, bad_signature, IsReadingIn}
 use Rattle.ffi3_cdecl_rules.specs.Reasons.{IsTold}
 use Rattle.ffi3_cdecl_rules.specs.Telling.{tell}
+use Rattle.ffi3_cdecl.specs.ReadingFor.{IsReadingFor}
 use Rattle.ffi3_diagnostics_rules.specs.Positions.{placed_words}
 use Rattle.ffi3_diagnostics_rules.specs.ToldText.{told_words, lines_at}
 use Rattle.ffi3_capi.specs.declared.fault.FaultKind.TheVariants.{NotUtf8}
 use Rattle.ffi3_capi.specs.Chars.{char_sign}
-use Rattle.ffi3_capi.specs.Faults.{fault_with, signature_fault, Declares}
+use Rattle.ffi3_capi.specs.Faults.{fault_with, signature_fault, DeclaresIn}
+use Rattle.ffi3_capi.specs.Formats.{long_double_on}
 use Rattle.ffi3_capi.specs.FaultText.{fault_text}
 use Rattle.ffi3_capi.specs.Filled.{filled, with_end}
 use Rattle.ffi3_capi.specs.Placed.{targets}
@@ -27,7 +29,8 @@ fault_line f = placed_words f (fault_text (signature_fault f)) ++ 10 ∷ []
 -- THE LINES of a text's fault. What is no declaration for a known target has some.
 pub data AreFaultLines (target : ℕ) (text : List ℕ) : List ℕ → Type 0 where
   no_target : slice_get targets target ≡ None → AreFaultLines target text []
-  no_fault : (s : Signature) → IsSome (slice_get targets target) → Declares (char_sign target) text s
+  no_fault : (s : Signature) → IsSome (slice_get targets target)
+      → DeclaresIn (long_double_on target) (char_sign target) text s
       → AreFaultLines target text []
   no_text : IsSome (slice_get targets target) → (¬ IsUtf8 text)
       → AreFaultLines target text (fault_text (fault_with NotUtf8) ++ 10 ∷ [])
@@ -42,7 +45,7 @@ pub data AreFaultLines (target : ℕ) (text : List ℕ) : List ℕ → Type 0 wh
       → IsReadingIn wide (char_sign target) text (bad_number at)
       → AreFaultLines target text (place_line at (codes "bad number") ++ lines_at text at)
   of_signature : (f : SignatureFault) → IsSome (slice_get targets target) → IsUtf8 text
-      → IsReadingIn wide (char_sign target) text (bad_signature f)
+      → IsReadingFor (long_double_on target) (char_sign target) text (bad_signature f)
       → AreFaultLines target text (fault_line f)
 
 -- WHAT ffi3_fault_lines ANSWERS, and what it writes into the caller's array. Memory alone is free: where it was refused, 0 is answered, and nothing is written.

@@ -6,6 +6,8 @@ use Rattle.ffi3_type_rules.specs.Signature.{Signature, Position, at_result, at_a
 use Rattle.ffi3_type_rules.specs.Signature.{bad_type, bad_fixed, bad_argument_type}
 use Rattle.ffi3_cdecl_rules.specs.Reading.{Outcome, reads, bad_token, unexpected, bad_number, bad_signature, IsReadingIn}
 use Rattle.ffi3_cdecl_rules.specs.Tokens.{wide, Sign}
+use Rattle.ffi3_format_rules.specs.declared.Format.{Format}
+use Rattle.ffi3_cdecl.specs.ReadingFor.{IsReadingFor}
 use Rattle.ffi3_capi.specs.declared.codes.TheConstants.{RESULT_PART}
 use Rattle.ffi3_capi.specs.declared.fault.TextFault.{TextFault}
 use Rattle.ffi3_capi.specs.declared.fault.FaultKind.{FaultKind}
@@ -103,3 +105,16 @@ pub data IsFaultOf (c : Sign) (text : List ℕ) : TextFault → Type 0 where
 abbrev pub Declares : Sign → List ℕ → Signature → Type 0
 Declares c text s =
     IsUtf8 text × (called : List ℕ) × IsReadingIn wide c text (reads (record { called = called; signature = s }))
+
+-- ---- for calls on a target, whose long doubles have a format
+
+-- WHY BYTES DECLARE NO FUNCTION that can be called there
+pub data IsFaultIn (f : Format) (c : Sign) (text : List ℕ) : TextFault → Type 0 where
+  no_text : (¬ IsUtf8 text) → IsFaultIn f c text (fault_with NotUtf8)
+  misread_in : (o : Outcome) (g : TextFault) → IsUtf8 text → IsReadingFor f c text o → outcome_fault o ≡ Some g
+      → IsFaultIn f c text g
+
+-- WHAT BYTES DECLARE there: a function of some name and of this signature, in which long doubles have that format
+abbrev pub DeclaresIn : Format → Sign → List ℕ → Signature → Type 0
+DeclaresIn f c text s =
+    IsUtf8 text × (called : List ℕ) × IsReadingFor f c text (reads (record { called = called; signature = s }))

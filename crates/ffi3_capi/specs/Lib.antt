@@ -6,6 +6,7 @@ pub mod FaultText
 pub mod Filled
 pub mod Within
 pub mod Pieces
+pub mod Carried
 pub mod Placed
 pub mod Laid
 pub mod WholeType
@@ -16,5 +17,7 @@ pub mod Entry
 pub mod Returned
 pub mod Each
 pub mod Chars
+pub mod Formats
+pub mod OnTarget
 pub mod CheckedText
 pub mod FaultLines

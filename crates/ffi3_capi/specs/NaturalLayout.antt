@@ -1,16 +1,18 @@
 -- What `ffi3_check_layout` answers, and what it writes: whether a type is laid out as its client has it.
-use Rattle.std.specs.Prelude.{◌≡◌, ℕ, List, take, length, slice_get}
+use Rattle.std.specs.Prelude.{◌≡◌, ℕ, List, take, length, Option, Some, None, IsSome, slice_get}
 use Rattle.ffi3_type_rules.specs.Tree.{Tree}
 use Rattle.ffi3_type_rules.specs.Layout.{size_of, align_of}
 use Rattle.ffi3_nodes.specs.declared.Node.{Node}
-use Rattle.ffi3_capi.specs.declared.codes.TheConstants.{DONE, NOT_DECLARED}
+use Rattle.ffi3_capi.specs.declared.codes.TheConstants.{DONE, NOT_DECLARED, UNKNOWN_TARGET}
 use Rattle.ffi3_capi.specs.declared.fault.TextFault.{TextFault}
 use Rattle.ffi3_capi.specs.declared.fault.FaultKind.TheVariants.{NoFault, LaidOutOtherwise}
 use Rattle.ffi3_capi.specs.declared.status.Refusal.{Refusal}
-use Rattle.ffi3_capi.specs.ByNodes.{AreNodesOfType}
+use Rattle.ffi3_format_rules.specs.declared.Format.{Format}
 use Rattle.ffi3_capi.specs.Faults.{fault_with, fault_of_value}
+use Rattle.ffi3_capi.specs.Formats.{long_double_on}
+use Rattle.ffi3_capi.specs.Placed.{targets}
 use Rattle.ffi3_capi.specs.Refused.{status_of, fault_in}
-use Rattle.ffi3_capi.specs.WholeType.{offsets_of, IsTypeRefusal}
+use Rattle.ffi3_capi.specs.WholeType.{offsets_of, AreNodesOfTypeBy, IsTypeRefusal}
 
 -- THE NATURAL LAYOUT, told by size, alignment and where each member starts
 pub record IsNatural (t : Tree) (size align : ℕ) (offsets : List ℕ) : Type 0 where
@@ -29,10 +31,22 @@ pub data IsAnother (t : Tree) (size align : ℕ) (offsets : List ℕ) : ℕ → 
   whole : offsets ≡ offsets_of t → (size ≡ size_of t → align ≡ align_of t → ⊥)
       → IsAnother t size align offsets (length offsets)
 
--- WHAT ffi3_check_layout ANSWERS, and what it writes into the caller's struct
-pub data ChecksLayout (ns : List Node) (size align : ℕ) (offsets : List ℕ) : ℕ → TextFault → Type 0 where
-  natural : (t : Tree) → AreNodesOfType ns t → IsNatural t size align offsets
-      → ChecksLayout ns size align offsets DONE (fault_with NoFault)
-  another : (t : Tree) (i : ℕ) → AreNodesOfType ns t → IsAnother t size align offsets i
-      → ChecksLayout ns size align offsets NOT_DECLARED (fault_of_value 0 LaidOutOtherwise i)
-  refused : (r : Refusal) → IsTypeRefusal ns r → ChecksLayout ns size align offsets (status_of r) (fault_in r)
+-- what is answered of the type that nodes are, where long doubles have this format, if any; and what is written into the caller's struct
+pub data ChecksType (o : Option Format) (ns : List Node) (size align : ℕ) (offsets : List ℕ) : ℕ → TextFault → Type 0 where
+  natural : (t : Tree) → AreNodesOfTypeBy o ns t → IsNatural t size align offsets
+      → ChecksType o ns size align offsets DONE (fault_with NoFault)
+  another : (t : Tree) (i : ℕ) → AreNodesOfTypeBy o ns t → IsAnother t size align offsets i
+      → ChecksType o ns size align offsets NOT_DECLARED (fault_of_value 0 LaidOutOtherwise i)
+  refused : (r : Refusal) → IsTypeRefusal o ns r → ChecksType o ns size align offsets (status_of r) (fault_in r)
+
+-- WHAT ffi3_check_layout ANSWERS, and what it writes
+abbrev pub ChecksLayout : List Node → ℕ → ℕ → List ℕ → ℕ → TextFault → Type 0
+ChecksLayout ns = ChecksType None ns
+
+-- WHAT ffi3_check_for ANSWERS, and what it writes: the same for a target, where that is known
+pub data ChecksLayoutFor (target : ℕ) (ns : List Node) (size align : ℕ) (offsets : List ℕ) : ℕ → TextFault → Type 0 where
+  known : (status : ℕ) (fault : TextFault) → IsSome (slice_get targets target)
+      → ChecksType (Some (long_double_on target)) ns size align offsets status fault
+      → ChecksLayoutFor target ns size align offsets status fault
+  unknown : slice_get targets target ≡ None
+      → ChecksLayoutFor target ns size align offsets UNKNOWN_TARGET (fault_with NoFault)

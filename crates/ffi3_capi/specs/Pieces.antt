@@ -10,10 +10,11 @@ use Rattle.ffi3_place_rules.specs.declared.Place.{Place}
 use Rattle.ffi3_place_rules.specs.declared.Place.TheVariants.{Direct, ByRef}
 use Rattle.ffi3_place_rules.specs.declared.Res.{Res}
 use Rattle.ffi3_place_rules.specs.declared.Res.TheVariants.{Nothing, Direct as DirectRes, Hidden}
+use Rattle.ffi3_place_rules.specs.Isa.{significand, sign_and_exponent, upper_half}
 use Rattle.ffi3_place_rules.specs.Locs.{place_size}
 use Rattle.ffi3_place_rules.specs.Standard.{Standard, plan_of}
 use Rattle.ffi3_capi.specs.declared.codes.TheConstants.{RESULT_PART, HIDDEN_PART, HOLDS_BYTES, HOLDS_ADDRESS}
-use Rattle.ffi3_capi.specs.declared.codes.TheConstants.{IN_GENERAL, IN_FLOATING, ON_STACK, REST_FREE, REST_EXTENDED}
+use Rattle.ffi3_capi.specs.declared.codes.TheConstants.{IN_GENERAL, IN_FLOATING, ON_STACK, IN_X87, REST_FREE, REST_EXTENDED}
 use Rattle.ffi3_capi.specs.declared.codes.TheConstants.{REST_EXTENDED_BY_32, REST_ONES, REST_NONE, ADDRESS_BYTES}
 use Rattle.ffi3_capi.specs.declared.pieces.PlacedPiece.{PlacedPiece}
 
@@ -66,7 +67,7 @@ address_piece part at frame = record {
   rest = REST_FREE;
 }
 
--- ---- bytes on the stack, in as few pieces as they make
+-- ---- the bytes of one register, and bytes on the stack, in as few pieces as they make
 
 -- the second stands on the stack right behind the first, and has the bytes of the value that follow
 abbrev pub goes_on : PlacedPiece → PlacedPiece → Bool
@@ -78,10 +79,38 @@ goes_on p n =
 abbrev pub longer : PlacedPiece → PlacedPiece → PlacedPiece
 longer p n = record p { length = p.length + n.length; rest = n.rest }
 
+-- both stand in the floating file, and the second has the bytes of the value that follow the first's eight
+abbrev pub is_above : PlacedPiece → PlacedPiece → Bool
+is_above p n =
+    (p.place == IN_FLOATING) && (n.place == IN_FLOATING) && (p.length == 8) && (p.offset + 8 == n.offset)
+
+-- the first has the lower half of a vector register, and the second its upper half
+abbrev pub is_upper_half : PlacedPiece → PlacedPiece → Bool
+is_upper_half p n =
+    is_above p n && (n.length == 8) && (n.number == number_of (upper_half p.number))
+
+-- the whole vector register, by the number of its lower half
+abbrev pub whole_vector : PlacedPiece → PlacedPiece → PlacedPiece
+whole_vector p n = record p { length = 16; rest = n.rest }
+
+-- the first has the significand of the x87 register with this number, and the second its sign and exponent
+abbrev pub is_x87 : ℕ → PlacedPiece → PlacedPiece → Bool
+is_x87 k p n =
+    is_above p n && (n.length == 2) && (p.number == number_of (significand k))
+    && (n.number == number_of (sign_and_exponent k))
+
+-- the whole x87 register
+abbrev pub whole_x87 : ℕ → PlacedPiece → PlacedPiece → PlacedPiece
+whole_x87 k p n = record p { place = IN_X87; number = k; length = 10; rest = n.rest }
+
 -- a piece, and those behind it
 abbrev pub joined_to : PlacedPiece → List PlacedPiece → List PlacedPiece
 joined_to p [] = p ∷ []
-joined_to p (n ∷ ns) = cond (goes_on p n) (joined_to (longer p n) ns) (p ∷ joined_to n ns)
+joined_to p (n ∷ ns) =
+    cond (goes_on p n) (joined_to (longer p n) ns)
+    (cond (is_upper_half p n) (joined_to (whole_vector p n) ns)
+    (cond (is_x87 0 p n) (joined_to (whole_x87 0 p n) ns)
+    (cond (is_x87 1 p n) (joined_to (whole_x87 1 p n) ns) (p ∷ joined_to n ns))))
 
 abbrev pub joined : List PlacedPiece → List PlacedPiece
 joined [] = []
@@ -111,7 +140,7 @@ returned_address (Some at) buffer = address_piece RESULT_PART at buffer ∷ []
 
 abbrev pub returned_pieces : Option Loc → Res → List PlacedPiece
 returned_pieces register Nothing = []
-returned_pieces register (DirectRes pieces) = map (value_piece RESULT_PART) pieces
+returned_pieces register (DirectRes pieces) = joined (map (value_piece RESULT_PART) pieces)
 returned_pieces register (Hidden at buffer) = returned_address register buffer
 
 -- WHAT A CALLER PASSES: arguments by their numbers, then the address of the result's buffer

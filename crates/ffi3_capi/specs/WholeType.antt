@@ -1,5 +1,5 @@
--- What `ffi3_layout_nodes` and `ffi3_offsets_nodes` answer, and what they write.
-use Rattle.std.specs.Prelude.{ℕ, List, [], map, length, replicate}
+-- What `ffi3_layout_nodes` and `ffi3_offsets_nodes` answer, and what they write; and the same for a target.
+use Rattle.std.specs.Prelude.{ℕ, List, [], map, length, replicate, Option, Some, None}
 use Rattle.std.specs.List.{range_with_len}
 use Rattle.ffi3_type_rules.specs.Tree.{Tree, void, scalar, left_out, structure, array, list_of}
 use Rattle.ffi3_type_rules.specs.Layout.{size_of, align_of, offset_of}
@@ -10,9 +10,12 @@ use Rattle.ffi3_capi.specs.declared.layouts.LaidLeaf.{LaidLeaf}
 use Rattle.ffi3_capi.specs.declared.whole.WholeType.{WholeType}
 use Rattle.ffi3_capi.specs.declared.status.Refusal.{Refusal}
 use Rattle.ffi3_capi.specs.declared.status.Refusal.TheVariants.{NoSuchTarget, NoSuchValue, Fault, NoMemory}
-use Rattle.ffi3_capi.specs.ByNodes.{AreNodesOfType, IsFaultOfType}
+use Rattle.ffi3_format_rules.specs.declared.Format.{Format}
+use Rattle.ffi3_capi.specs.ByNodes.{AreNodesOfType, AreNodesOfTypeIn, IsFaultOfType, IsFaultOfTypeIn}
 use Rattle.ffi3_capi.specs.Faults.{fault_with}
 use Rattle.ffi3_capi.specs.Filled.{has_room, filled, room_status}
+use Rattle.ffi3_capi.specs.Formats.{long_double_on}
+use Rattle.ffi3_capi.specs.OnTarget.{OnTarget}
 use Rattle.ffi3_capi.specs.Laid.{laid_leaves}
 use Rattle.ffi3_capi.specs.Refused.{status_of, fault_in}
 
@@ -43,24 +46,47 @@ abbrev pub no_whole_type : TextFault → WholeType
 no_whole_type fault =
     record { size = 0; align = 0; members = 0; leaves = 0; reserved = replicate 2 0; fault = fault }
 
+-- the type that nodes are where long doubles have this format, if any
+abbrev pub AreNodesOfTypeBy : Option Format → List Node → Tree → Type 0
+AreNodesOfTypeBy None ns t = AreNodesOfType ns t
+AreNodesOfTypeBy (Some f) ns t = AreNodesOfTypeIn f ns t
+
+abbrev pub IsFaultOfTypeBy : Option Format → List Node → TextFault → Type 0
+IsFaultOfTypeBy None ns g = IsFaultOfType ns g
+IsFaultOfTypeBy (Some f) ns g = IsFaultOfTypeIn f ns g
+
 -- WHY THERE IS NONE. Memory alone is free.
-abbrev pub IsTypeRefusal : List Node → Refusal → Type 0
-IsTypeRefusal ns NoSuchTarget = ⊥
-IsTypeRefusal ns (NoSuchValue count) = ⊥
-IsTypeRefusal ns (Fault f) = IsFaultOfType ns f
-IsTypeRefusal ns NoMemory = Unit {0}
+abbrev pub IsTypeRefusal : Option Format → List Node → Refusal → Type 0
+IsTypeRefusal o ns NoSuchTarget = ⊥
+IsTypeRefusal o ns (NoSuchValue count) = ⊥
+IsTypeRefusal o ns (Fault f) = IsFaultOfTypeBy o ns f
+IsTypeRefusal o ns NoMemory = Unit {0}
 
 -- what is answered of the type that nodes are, and of some items that it has, and what is written into the caller's struct and array
-pub data TellsType {A : Type 0} (ns : List Node) (items : Tree → List A) (old : List A)
+pub data TellsType {A : Type 0} (o : Option Format) (ns : List Node) (items : Tree → List A) (old : List A)
     : ℕ → WholeType → List A → Type 0 where
-  told : (t : Tree) → AreNodesOfType ns t
-      → TellsType ns items old (room_status (has_room (items t) old)) (whole_type t) (filled (items t) old)
-  refused : (r : Refusal) → IsTypeRefusal ns r → TellsType ns items old (status_of r) (no_whole_type (fault_in r)) old
+  told : (t : Tree) → AreNodesOfTypeBy o ns t
+      → TellsType o ns items old (room_status (has_room (items t) old)) (whole_type t) (filled (items t) old)
+  refused : (r : Refusal) → IsTypeRefusal o ns r
+      → TellsType o ns items old (status_of r) (no_whole_type (fault_in r)) old
 
 -- WHAT ffi3_layout_nodes ANSWERS, and what it writes
 abbrev pub LaysOutNodes : List Node → List LaidLeaf → ℕ → WholeType → List LaidLeaf → Type 0
-LaysOutNodes ns = TellsType ns laid_leaves
+LaysOutNodes ns = TellsType None ns laid_leaves
 
 -- WHAT ffi3_offsets_nodes ANSWERS, and what it writes
 abbrev pub TellsOffsets : List Node → List ℕ → ℕ → WholeType → List ℕ → Type 0
-TellsOffsets ns = TellsType ns offsets_of
+TellsOffsets ns = TellsType None ns offsets_of
+
+-- the same for a target, where that is known
+abbrev pub TellsTypeOn : {A : Type 0} → ℕ → List Node → (Tree → List A) → List A → ℕ → WholeType → List A → Type 0
+TellsTypeOn target ns items old =
+    OnTarget target (TellsType (Some (long_double_on target)) ns items old) (no_whole_type (fault_with NoFault)) old
+
+-- WHAT ffi3_layout_nodes_for ANSWERS, and what it writes
+abbrev pub LaysOutNodesFor : ℕ → List Node → List LaidLeaf → ℕ → WholeType → List LaidLeaf → Type 0
+LaysOutNodesFor target ns = TellsTypeOn target ns laid_leaves
+
+-- WHAT ffi3_offsets_for ANSWERS, and what it writes
+abbrev pub TellsOffsetsFor : ℕ → List Node → List ℕ → ℕ → WholeType → List ℕ → Type 0
+TellsOffsetsFor target ns = TellsTypeOn target ns offsets_of

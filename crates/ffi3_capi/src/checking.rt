@@ -3,19 +3,21 @@ ghost use Rattle.std.specs.Prelude.{◌≡◌, ◌≤◌, IfOk, IsSome, IsUtf8, 
 ghost use Rattle.ffi3_cdecl_rules.specs.Tokens.{wide};
 ghost use Rattle.ffi3_cdecl_rules.specs.Reading.{IsReadingIn, unexpected};
 ghost use Rattle.ffi3_cdecl.specs.TokenOf.{sign_of};
+ghost use Rattle.ffi3_cdecl.specs.ReadingFor.{IsReadingFor};
 ghost use Rattle.ffi3_cdecl.specs.Tells.{Tells};
 ghost use Rattle.ffi3_diagnostics.specs.ToldOf.{expected_of, kinds_of, base_of, reason_or_not, told_of};
 ghost use Rattle.ffi3_capi.specs.Chars.{char_sign};
+ghost use Rattle.ffi3_capi.specs.Formats.{long_double_on};
 ghost use Rattle.ffi3_capi.specs.Placed.{targets};
 ghost use Rattle.ffi3_capi.specs.Refused.{status_of, fault_in};
 ghost use Rattle.ffi3_capi.specs.CheckedText.{expected_number, reason_number, base_number, four_numbers, told_at, nothing_beside, IsUnexpectedIn, ChecksText};
 
 use crate::codes::{DONE, NOT_DECLARED};
-use crate::declaration::char_sign;
+use crate::declaration::{char_sign, long_double_on};
 use crate::fault::{FaultKind, TextFault, fault_at, fault_with, signature_fault};
 use crate::placing::target_numbered;
 use crate::status::Refusal;
-use ffi3_cdecl::{DeclFault, Sign, read_wide_decl};
+use ffi3_cdecl::{DeclFault, Sign, read_decl_for};
 use ffi3_diagnostics::{Base, Expected, Reason, Told, tell};
 use ffi3_types::NoMemory;
 use std::alloc::Global;
@@ -186,7 +188,7 @@ fn tell_fault(
     fault: DeclFault,
     told: &mut CheckedText,
 ) -> u32
-    ensures { IsUtf8 text.now → IsSome (slice_get targets target) → Tells (IsReadingIn wide (char_sign target) text.now) fault → ChecksText target text.now result told.new }
+    ensures { IsUtf8 text.now → IsSome (slice_get targets target) → Tells (IsReadingFor (long_double_on target) (char_sign target) text.now) fault → ChecksText target text.now result told.new }
 {
     match fault {
         DeclFault::BadToken { at } => {
@@ -205,7 +207,7 @@ fn tell_fault(
 fn check(alloc: Global, target: u32, text: &str, told: &mut CheckedText) -> u32
     ensures { IsUtf8 text.now → IsSome (slice_get targets target) → ChecksText target text.now result told.new }
 {
-    match read_wide_decl(alloc, char_sign(target), text) {
+    match read_decl_for(alloc, long_double_on(target), char_sign(target), text) {
         Ok(declaration) => {
             mem::drop(declaration);
             *told = nothing_beside(fault_with(FaultKind::NoFault));

@@ -40,10 +40,12 @@ pub const HOLDS_ADDRESS: u32 = 1;
 
 /// `FFI3_GENERAL`: a general register.
 pub const IN_GENERAL: u32 = 0;
-/// `FFI3_FLOATING`: a floating register.
+/// `FFI3_FLOATING`: a floating or vector register.
 pub const IN_FLOATING: u32 = 1;
 /// `FFI3_STACK`: the stack, by the offset from the first stack argument.
 pub const ON_STACK: u32 = 2;
+/// `FFI3_X87`: an x87 register, of ten bytes.
+pub const IN_X87: u32 = 3;
 
 /// `FFI3_REST_FREE`: anything.
 pub const REST_FREE: u32 = 0;
@@ -55,6 +57,11 @@ pub const REST_EXTENDED_BY_32: u32 = 2;
 pub const REST_ONES: u32 = 3;
 /// `FFI3_REST_NONE`: there is none, and what stands behind on the stack is another argument's.
 pub const REST_NONE: u32 = 4;
+
+/// `FFI3_LEAF_X87`: the kind of a scalar that is a long double in x87's extended format.
+pub const LEAF_X87: u32 = 21;
+/// `FFI3_LEAF_BINARY128`: the same in IEEE 754's binary128.
+pub const LEAF_BINARY128: u32 = 22;
 
 /// The addresses of an argument's copy and of a result's buffer have so many bytes.
 pub const ADDRESS_BYTES: u32 = 8;

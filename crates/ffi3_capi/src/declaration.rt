@@ -1,16 +1,18 @@
 // What declares a function: a text, or nodes.
 ghost use Rattle.std.specs.Prelude.{◌≡◌, IfOk, IfErr, Some};
-ghost use Rattle.ffi3_type_rules.specs.Signature.{SignatureHasNoFault};
+ghost use Rattle.ffi3_type_rules.specs.Signature.{SignatureHasNoFault, SignatureIsPlaced};
 ghost use Rattle.ffi3_capi.specs.declared.fault.TextFault.{TextFault};
 ghost use Rattle.ffi3_cdecl.specs.TokenOf.{sign_of};
 ghost use Rattle.ffi3_capi.specs.Chars.{char_sign};
-ghost use Rattle.ffi3_capi.specs.DeclaredBy.{IsDeclaredBy, IsFaultBy};
+ghost use Rattle.ffi3_capi.specs.DeclaredBy.{IsDeclaredBy, IsDeclaredOn, IsFaultBy, IsFaultOn};
+ghost use Rattle.ffi3_capi.specs.Formats.{long_double_on};
 
 use crate::fault::TextFault;
-use crate::nodes::declared_by_nodes;
+use crate::nodes::{declared_by_nodes, declared_by_nodes_in};
 use crate::placing::target_numbered;
-use crate::reading::declared_by_text;
+use crate::reading::{declared_by_text, declared_by_text_in};
 use ffi3_cdecl::Sign;
+use ffi3_format::{Format, format_of};
 use ffi3_nodes::Node;
 use ffi3_types::{Sig, Target};
 use std::alloc::Global;
@@ -24,8 +26,8 @@ pub enum Declaration<'a> {
     Nodes(&'a [Node], u32),
 }
 
-/// The signature of the function that is declared, where a `char` without a sign has this one; otherwise the fault, or
-/// None for a want of memory.
+/// The signature of the function that is declared, where a `char` without a sign has this one, and no long double has a
+/// format; otherwise the fault, or None for a want of memory.
 pub fn declared(
     alloc: Global,
     sign: Sign,
@@ -55,15 +57,30 @@ pub(crate) fn char_sign(target: u32) -> Sign
     }
 }
 
-/// What is declared for a call on this target.
+/// The format of a long double on the target of this number.
+pub(crate) fn long_double_on(target: u32) -> Format
+    ensures { result ≡ long_double_on target }
+{
+    match target_numbered(target) {
+        Some(to) => format_of(to),
+        None => Format::Double,
+    }
+}
+
+/// The signature of the function that is declared for a call on this target, in which long doubles have the target's
+/// format; otherwise the fault, or None for a want of memory.
 pub fn declared_on(
     alloc: Global,
     target: u32,
     declaration: Declaration<'_>,
 ) -> Result<Sig, Option<TextFault>>
-    ensures ok { IfOk result (λ s. IsDeclaredBy (char_sign target) declaration.entry s) }
-    ensures faultless { IfOk result (λ s. SignatureHasNoFault s) }
-    ensures err { IfErr result (λ e. (f : TextFault) → e ≡ Some f → IsFaultBy (char_sign target) declaration.entry f) }
+    ensures ok { IfOk result (λ s. IsDeclaredOn target declaration.entry s) }
+    ensures faultless { IfOk result (λ s. SignatureIsPlaced s) }
+    ensures err { IfErr result (λ e. (f : TextFault) → e ≡ Some f → IsFaultOn target declaration.entry f) }
 {
-    declared(alloc, char_sign(target), declaration)
+    let format = long_double_on(target);
+    match declaration {
+        Declaration::Text(text) => declared_by_text_in(alloc, format, char_sign(target), text),
+        Declaration::Nodes(nodes, fixed) => declared_by_nodes_in(alloc, format, nodes, fixed),
+    }
 }

@@ -1,15 +1,14 @@
 // The arguments of a function, each by itself, from registers and stack where it begins.
 ghost use Rattle.std.specs.Prelude.{◌≡◌, ◌+◌, ◌≤◌, IfErr, IfOk, None, OnOk, [], ◌++◌, length, replicate};
 ghost use Rattle.ffi3_type_rules.specs.declared.limits.TheConstants.{LARGEST_TYPE};
-ghost use Rattle.ffi3_type_rules.specs.Signature.{SignatureHasNoFault};
+ghost use Rattle.ffi3_type_rules.specs.Signature.{SignatureIsPlaced};
 ghost use Rattle.ffi3_place_rules.specs.Standard.{plan_of};
 ghost use Rattle.ffi3_place_rules.specs.Sound.{PlaceHasAll};
-ghost use Rattle.ffi3_explain.specs.Places.{ArgumentIsThere};
+ghost use Rattle.ffi3_transfer.specs.Places.{ArgumentIsThere};
 ghost use Rattle.ffi3_explain_rules.specs.Arguments.{least_stack, outside_of, value_by_standard};
 ghost use Rattle.ffi3_explain_rules.specs.Standards.{standard_of};
 ghost use Rattle.ffi3_transfer.specs.Stored.{image_in};
-ghost use Rattle.ffi3_capi.specs.Chars.{char_sign};
-ghost use Rattle.ffi3_capi.specs.DeclaredBy.{IsDeclaredBy, IsFaultBy};
+ghost use Rattle.ffi3_capi.specs.DeclaredBy.{IsDeclaredOn, IsFaultOn};
 ghost use Rattle.ffi3_capi.specs.Entry.{HasOneMore};
 ghost use Rattle.ffi3_capi.specs.Each.{AreSeen, AreSeenBy, AreUnseen, AreUnseenBy, AreSeenOf, IsSeen, ReadsEach, each_argument};
 
@@ -24,15 +23,15 @@ use crate::status::Refusal;
 use ffi3_aapcs64::Aapcs64;
 use ffi3_amd64::Amd64;
 use ffi3_apple::Apple;
-use ffi3_cif::Cif;
-use ffi3_explain::{Outside, least_stack};
+use ffi3_cif::Placed;
+use ffi3_explain::{Outside, least_stack_of};
 use ffi3_place::{Abi, Place};
 use ffi3_place_rules::Listed;
 use ffi3_riscv::Riscv;
 use ffi3_transfer::{Registers, outside_of, read_argument};
 use ffi3_type_rules::limits::LARGEST_TYPE;
 use ffi3_type_rules::round_up;
-use ffi3_types::{Bytes, CheckedSig, CheckedType, NoMemory, Sig, Target};
+use ffi3_types::{Bytes, CheckedType, NoMemory, PlacedSig, Sig, Target};
 use ffi3_values::value_from_bytes;
 use ffi3_win64::Win64;
 use std::alloc::Global;
@@ -149,14 +148,14 @@ fn see_argument(
 /// What is told of all arguments, and their bytes.
 pub(crate) fn see_arguments<A: Abi>(
     alloc: Global,
-    cif: &Cif<A>,
+    placed: &Placed<A>,
     registers: &Registers,
     stack: &[u8],
 ) -> Result<(EachArguments, Bytes), NoMemory>
-    requires { least_stack A.standard cif.now ≤ length stack.now }
-    ensures { IfOk result (λ r. AreSeen (image_in registers.now stack.now) A.standard.link 0 cif.now.arguments (plan_of A.standard cif.now).places [] r.1 r.0) }
+    requires { least_stack A.standard placed.now ≤ length stack.now }
+    ensures { IfOk result (λ r. AreSeen (image_in registers.now stack.now) A.standard.link 0 placed.now.arguments (plan_of A.standard placed.now).places [] r.1 r.0) }
 {
-    let sig = cif.checked_sig();
+    let sig = placed.placed_sig();
     let base = A::LINK;
     let count = sig.count();
     let mut each = Listed::new(alloc);
@@ -169,7 +168,7 @@ pub(crate) fn see_arguments<A: Abi>(
             base,
             i,
             &sig.arg(i),
-            cif.place(i),
+            placed.place(i),
             &mut bytes,
         )?;
         each.push(one)?;
@@ -184,22 +183,22 @@ fn see_by<A: Abi>(
     registers: &Registers,
     stack: &[u8],
 ) -> Result<Seen, Unread>
-    requires { SignatureHasNoFault sig }
+    requires { SignatureIsPlaced sig }
     ensures seen { IfOk result (λ f. AreSeenBy A.standard sig (image_in registers.now stack.now) f) }
     ensures unseen { IfErr result (λ u. AreUnseenBy A.standard sig (image_in registers.now stack.now) u) }
 {
-    let arguments = CheckedSig::of(&sig).count() as usize;
-    let Ok(cif) = Cif::<A>::prepare(alloc, sig) else {
+    let arguments = PlacedSig::of(&sig).count() as usize;
+    let Ok(placed) = Placed::<A>::prepare(alloc, sig) else {
         return Err(Unread::Call(Refusal::NoMemory));
     };
-    let wanted = least_stack(&cif) as usize;
+    let wanted = least_stack_of(&placed) as usize;
     if stack.len() < wanted {
         return Err(Unread::ShortStack {
             arguments,
             stack: wanted,
         });
     }
-    let Ok((each, bytes)) = see_arguments(alloc, &cif, registers, stack) else {
+    let Ok((each, bytes)) = see_arguments(alloc, &placed, registers, stack) else {
         return Err(Unread::Call(Refusal::NoMemory));
     };
     Ok(Seen {
@@ -222,7 +221,7 @@ fn see_on(
     registers: &Registers,
     stack: &[u8],
 ) -> Result<Seen, Unread>
-    requires { SignatureHasNoFault sig }
+    requires { SignatureIsPlaced sig }
     ensures seen { IfOk result (λ f. AreSeenBy (standard_of target) sig (image_in registers.now stack.now) f) }
     ensures unseen { IfErr result (λ u. AreUnseenBy (standard_of target) sig (image_in registers.now stack.now) u) }
 {
@@ -244,8 +243,8 @@ pub fn see(
     registers: &Registers,
     stack: &[u8],
 ) -> Result<Seen, Unread>
-    ensures seen { IfOk result (λ f. AreSeenOf (IsDeclaredBy (char_sign target) declaration.entry) target (image_in registers.now stack.now) f) }
-    ensures unseen { IfErr result (λ u. AreUnseen (IsDeclaredBy (char_sign target) declaration.entry) (IsFaultBy (char_sign target) declaration.entry) target (image_in registers.now stack.now) u) }
+    ensures seen { IfOk result (λ f. AreSeenOf (IsDeclaredOn target declaration.entry) target (image_in registers.now stack.now) f) }
+    ensures unseen { IfErr result (λ u. AreUnseen (IsDeclaredOn target declaration.entry) (IsFaultOn target declaration.entry) target (image_in registers.now stack.now) u) }
 {
     let Some(to) = target_numbered(target) else {
         return Err(Unread::Call(Refusal::NoSuchTarget));
@@ -272,7 +271,7 @@ pub fn tell_each(
     each: &mut [EachArgument],
     values: &mut [u8],
 ) -> u32
-    ensures { ReadsEach (IsDeclaredBy (char_sign target) declaration.entry) (IsFaultBy (char_sign target) declaration.entry) target (image_in registers.now stack.now) each.old values.old result told.new each.new values.new }
+    ensures { ReadsEach (IsDeclaredOn target declaration.entry) (IsFaultOn target declaration.entry) target (image_in registers.now stack.now) each.old values.old result told.new each.new values.new }
 {
     match see(alloc, target, declaration, registers, stack) {
         Ok(seen) => {

@@ -1,10 +1,9 @@
 // The arguments of a function, from registers and stack where it begins.
 ghost use Rattle.std.specs.Prelude.{◌≡◌, IfOk, IfErr};
-ghost use Rattle.ffi3_type_rules.specs.Signature.{SignatureHasNoFault};
+ghost use Rattle.ffi3_type_rules.specs.Signature.{SignatureIsPlaced};
 ghost use Rattle.ffi3_explain_rules.specs.Standards.{standard_of};
 ghost use Rattle.ffi3_transfer.specs.Stored.{image_in};
-ghost use Rattle.ffi3_capi.specs.Chars.{char_sign};
-ghost use Rattle.ffi3_capi.specs.DeclaredBy.{IsDeclaredBy, IsFaultBy};
+ghost use Rattle.ffi3_capi.specs.DeclaredBy.{IsDeclaredOn, IsFaultOn};
 ghost use Rattle.ffi3_capi.specs.Entry.{AreFoundBy, AreNotReadBy, AreFound, AreNotRead, Reads, arguments_of, no_arguments, unread_status};
 
 use crate::codes::{NOT_IN_STACK, SHORT_STACK};
@@ -17,12 +16,12 @@ use crate::status::Refusal;
 use ffi3_aapcs64::Aapcs64;
 use ffi3_amd64::Amd64;
 use ffi3_apple::Apple;
-use ffi3_cif::Cif;
-use ffi3_explain::least_stack;
+use ffi3_cif::Placed;
+use ffi3_explain::least_stack_of;
 use ffi3_place::Abi;
 use ffi3_riscv::Riscv;
 use ffi3_transfer::{Registers, first_outside};
-use ffi3_types::{Bytes, CheckedSig, Sig, Target};
+use ffi3_types::{Bytes, PlacedSig, Sig, Target};
 use ffi3_win64::Win64;
 use std::alloc::Global;
 
@@ -128,22 +127,22 @@ fn read_by<A: Abi>(
     registers: &Registers,
     stack: &[u8],
 ) -> Result<Found, Unread>
-    requires { SignatureHasNoFault sig }
+    requires { SignatureIsPlaced sig }
     ensures found { IfOk result (λ f. AreFoundBy A.standard sig (image_in registers.now stack.now) f) }
     ensures unread { IfErr result (λ u. AreNotReadBy A.standard sig (image_in registers.now stack.now) u) }
 {
-    let arguments = CheckedSig::of(&sig).count() as usize;
-    let Ok(cif) = Cif::<A>::prepare(alloc, sig) else {
+    let arguments = PlacedSig::of(&sig).count() as usize;
+    let Ok(placed) = Placed::<A>::prepare(alloc, sig) else {
         return Err(Unread::Call(Refusal::NoMemory));
     };
-    let wanted = least_stack(&cif) as usize;
+    let wanted = least_stack_of(&placed) as usize;
     if stack.len() < wanted {
         return Err(Unread::ShortStack {
             arguments,
             stack: wanted,
         });
     }
-    match first_outside(&cif, registers, stack) {
+    match first_outside(&placed, registers, stack) {
         Some(outside) => {
             return Err(Unread::NotInStack {
                 arguments,
@@ -154,7 +153,7 @@ fn read_by<A: Abi>(
         }
         None => {}
     }
-    let Ok((_each, bytes)) = see_arguments(alloc, &cif, registers, stack) else {
+    let Ok((_each, bytes)) = see_arguments(alloc, &placed, registers, stack) else {
         return Err(Unread::Call(Refusal::NoMemory));
     };
     Ok(Found {
@@ -176,7 +175,7 @@ fn read_on(
     registers: &Registers,
     stack: &[u8],
 ) -> Result<Found, Unread>
-    requires { SignatureHasNoFault sig }
+    requires { SignatureIsPlaced sig }
     ensures found { IfOk result (λ f. AreFoundBy (standard_of target) sig (image_in registers.now stack.now) f) }
     ensures unread { IfErr result (λ u. AreNotReadBy (standard_of target) sig (image_in registers.now stack.now) u) }
 {
@@ -199,8 +198,8 @@ pub fn find_arguments(
     registers: &Registers,
     stack: &[u8],
 ) -> Result<Found, Unread>
-    ensures found { IfOk result (λ f. AreFound (IsDeclaredBy (char_sign target) declaration.entry) target (image_in registers.now stack.now) f) }
-    ensures unread { IfErr result (λ u. AreNotRead (IsDeclaredBy (char_sign target) declaration.entry) (IsFaultBy (char_sign target) declaration.entry) target (image_in registers.now stack.now) u) }
+    ensures found { IfOk result (λ f. AreFound (IsDeclaredOn target declaration.entry) target (image_in registers.now stack.now) f) }
+    ensures unread { IfErr result (λ u. AreNotRead (IsDeclaredOn target declaration.entry) (IsFaultOn target declaration.entry) target (image_in registers.now stack.now) u) }
 {
     let Some(to) = target_numbered(target) else {
         return Err(Unread::Call(Refusal::NoSuchTarget));
@@ -227,7 +226,7 @@ pub fn arguments(
     told: &mut EntryArguments,
     values: &mut [u8],
 ) -> u32
-    ensures { Reads (IsDeclaredBy (char_sign target) declaration.entry) (IsFaultBy (char_sign target) declaration.entry) target (image_in registers.now stack.now) values.old result told.new values.new }
+    ensures { Reads (IsDeclaredOn target declaration.entry) (IsFaultOn target declaration.entry) target (image_in registers.now stack.now) values.old result told.new values.new }
 {
     match find_arguments(alloc, target, declaration, registers, stack) {
         Ok(found) => {

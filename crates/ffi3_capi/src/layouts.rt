@@ -1,20 +1,21 @@
 // The layout of the types of the function that is declared.
 ghost use Rattle.std.specs.Prelude.{◌≡◌, IfOk, IfErr};
-ghost use Rattle.ffi3_type_rules.specs.Tree.{Scalar, scalar, scalar_number};
+ghost use Rattle.ffi3_type_rules.specs.Tree.{Scalar, scalar};
 ghost use Rattle.ffi3_type_rules.specs.Layout.{scalar_size};
 ghost use Rattle.ffi3_types.specs.TreeOf.{tree_of};
 ghost use Rattle.ffi3_capi.specs.Chars.{layout_sign};
-ghost use Rattle.ffi3_capi.specs.DeclaredBy.{IsDeclaredBy, IsFaultBy};
-ghost use Rattle.ffi3_capi.specs.Laid.{laid_leaf, laid_leaves, laid_of, no_type, IsLaid, IsLayoutRefusal, LaysOut};
+ghost use Rattle.ffi3_capi.specs.DeclaredBy.{IsDeclaredBy, IsDeclaredOn, IsFaultBy, IsFaultOn};
+ghost use Rattle.ffi3_capi.specs.Laid.{leaf_kind, laid_leaf, laid_leaves, laid_of, no_type, IsLaid, IsLayoutRefusal, LaysOut, LaysOutFor};
 
-use crate::codes::RESULT_PART;
-use crate::declaration::{Declaration, declared};
+use crate::codes::{LEAF_BINARY128, LEAF_X87, RESULT_PART};
+use crate::declaration::{Declaration, declared, declared_on};
 use crate::fault::{FaultKind, TextFault, fault_with};
 use crate::fill::{fill, room_status};
+use crate::placing::target_numbered;
 use crate::status::Refusal;
 use ffi3_cdecl::Sign;
 use ffi3_place_rules::Listed;
-use ffi3_types::{CheckedSig, CheckedType, FfiType, Leaf, NoMemory};
+use ffi3_types::{CheckedSig, CheckedType, FfiType, Leaf, NoMemory, PlacedSig};
 use std::alloc::Global;
 
 /// A scalar of a type: C's `struct ffi3_leaf`.
@@ -63,8 +64,8 @@ fn no_type(count: usize, fault: TextFault) -> LaidType
 }
 
 /// The number of a scalar.
-fn scalar_number(kind: &FfiType) -> u32
-    ensures { (s : Scalar) → tree_of kind.now ≡ scalar s → result ≡ scalar_number s }
+fn leaf_kind(kind: &FfiType) -> u32
+    ensures { (s : Scalar) → tree_of kind.now ≡ scalar s → result ≡ leaf_kind s }
 {
     match kind {
         FfiType::U8 => 0,
@@ -80,8 +81,8 @@ fn scalar_number(kind: &FfiType) -> u32
         FfiType::Float => 10,
         FfiType::Double => 11,
         FfiType::Pointer => 12,
-        FfiType::X87 => 16,
-        FfiType::Binary128 => 17,
+        FfiType::X87 => LEAF_X87,
+        FfiType::Binary128 => LEAF_BINARY128,
         FfiType::Void => 13,
         FfiType::Struct(_) | FfiType::Array(_, _) => 13,
         FfiType::LongDouble | FfiType::Complex | FfiType::Vector => 13,
@@ -97,8 +98,8 @@ fn scalar_size(kind: &FfiType) -> u32
         FfiType::U16 | FfiType::S16 => 2,
         FfiType::U32 | FfiType::S32 | FfiType::Float => 4,
         FfiType::U64 | FfiType::S64 | FfiType::Double | FfiType::Pointer => 8,
-        FfiType::U128 | FfiType::S128 | FfiType::Binary128 => 16,
         FfiType::X87 => 10,
+        FfiType::U128 | FfiType::S128 | FfiType::Binary128 => 16,
         FfiType::Void | FfiType::Struct(_) | FfiType::Array(_, _) => 0,
         FfiType::LongDouble | FfiType::Complex | FfiType::Vector => 0,
     }
@@ -108,7 +109,7 @@ fn laid_leaf(leaf: &Leaf) -> LaidLeaf
     ensures { (s : Scalar) → tree_of leaf.now.kind ≡ scalar s → result ≡ laid_leaf (record { at = leaf.now.at; kind = s }) }
 {
     LaidLeaf {
-        kind: scalar_number(&leaf.kind),
+        kind: leaf_kind(&leaf.kind),
         size: scalar_size(&leaf.kind),
         offset: leaf.at as usize,
     }
@@ -144,7 +145,22 @@ fn laid_type(alloc: Global, count: usize, ty: &CheckedType<'_>) -> Result<Laid, 
     Ok(Laid { layout, leaves })
 }
 
-/// The layout of an argument, or of the result, of the function that is declared.
+/// The layout of an argument of a function, or of its result.
+fn layout_of(alloc: Global, sig: &PlacedSig<'_>, value: u32) -> Result<Laid, Refusal>
+    ensures ok { IfOk result (λ l. IsLaid (λ s. s ≡ sig.now) value l) }
+    ensures err { IfErr result (λ r. IsLayoutRefusal (λ s. s ≡ sig.now) (λ f. ⊥) value r) }
+{
+    let count = sig.count();
+    if value == RESULT_PART {
+        return laid_type(alloc, count as usize, &sig.ret());
+    }
+    if value >= count {
+        return Err(Refusal::NoSuchValue(count as usize));
+    }
+    laid_type(alloc, count as usize, &sig.arg(value))
+}
+
+/// The layout of an argument, or of the result, of the function that is declared, no long double among them.
 pub fn find_layout(alloc: Global, declaration: Declaration<'_>, value: u32) -> Result<Laid, Refusal>
     ensures ok { IfOk result (λ l. IsLaid (IsDeclaredBy layout_sign declaration.entry) value l) }
     ensures err { IfErr result (λ r. IsLayoutRefusal (IsDeclaredBy layout_sign declaration.entry) (IsFaultBy layout_sign declaration.entry) value r) }
@@ -154,15 +170,25 @@ pub fn find_layout(alloc: Global, declaration: Declaration<'_>, value: u32) -> R
         Err(Some(fault)) => return Err(Refusal::Fault(fault)),
         Err(None) => return Err(Refusal::NoMemory),
     };
-    let checked = CheckedSig::of(&sig);
-    let count = checked.count();
-    if value == RESULT_PART {
-        return laid_type(alloc, count as usize, &checked.ret());
-    }
-    if value >= count {
-        return Err(Refusal::NoSuchValue(count as usize));
-    }
-    laid_type(alloc, count as usize, &checked.arg(value))
+    layout_of(alloc, &CheckedSig::of(&sig).placed(), value)
+}
+
+/// The same of the function that is declared for a call on the target with this number.
+fn find_layout_on(
+    alloc: Global,
+    target: u32,
+    declaration: Declaration<'_>,
+    value: u32,
+) -> Result<Laid, Refusal>
+    ensures ok { IfOk result (λ l. IsLaid (IsDeclaredOn target declaration.entry) value l) }
+    ensures err { IfErr result (λ r. IsLayoutRefusal (IsDeclaredOn target declaration.entry) (IsFaultOn target declaration.entry) value r) }
+{
+    let sig = match declared_on(alloc, target, declaration) {
+        Ok(sig) => sig,
+        Err(Some(fault)) => return Err(Refusal::Fault(fault)),
+        Err(None) => return Err(Refusal::NoMemory),
+    };
+    layout_of(alloc, &PlacedSig::of(&sig), value)
 }
 
 /// The same for a caller's struct and array. The number tells whether the leaves had room, or why there are none.
@@ -176,6 +202,33 @@ pub fn layout(
     ensures { LaysOut (IsDeclaredBy layout_sign declaration.entry) (IsFaultBy layout_sign declaration.entry) value leaves.old result layout.new leaves.new }
 {
     match find_layout(alloc, declaration, value) {
+        Ok(found) => {
+            *layout = found.layout;
+            room_status(fill(&found.leaves, leaves))
+        }
+        Err(refusal) => {
+            *layout = no_type(refusal.count(), refusal.fault());
+            refusal.status()
+        }
+    }
+}
+
+/// The same for a target by its number.
+pub fn layout_for(
+    alloc: Global,
+    target: u32,
+    declaration: Declaration<'_>,
+    value: u32,
+    layout: &mut LaidType,
+    leaves: &mut [LaidLeaf],
+) -> u32
+    ensures { LaysOutFor (IsDeclaredOn target declaration.entry) (IsFaultOn target declaration.entry) target value leaves.old result layout.new leaves.new }
+{
+    let Some(_) = target_numbered(target) else {
+        *layout = no_type(0, Refusal::NoSuchTarget.fault());
+        return Refusal::NoSuchTarget.status();
+    };
+    match find_layout_on(alloc, target, declaration, value) {
         Ok(found) => {
             *layout = found.layout;
             room_status(fill(&found.leaves, leaves))

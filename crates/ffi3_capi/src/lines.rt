@@ -4,18 +4,20 @@ ghost use Rattle.ffi3_cdecl_rules.specs.Tokens.{wide};
 ghost use Rattle.ffi3_cdecl_rules.specs.Reading.{IsReadingIn, unexpected};
 ghost use Rattle.ffi3_diagnostics_rules.specs.ToldText.{lines_at};
 ghost use Rattle.ffi3_types.specs.SignatureFaultOf.{signature_fault_of};
+ghost use Rattle.ffi3_cdecl.specs.ReadingFor.{IsReadingFor};
 ghost use Rattle.ffi3_cdecl.specs.Tells.{Tells};
 ghost use Rattle.ffi3_capi.specs.Chars.{char_sign};
 ghost use Rattle.ffi3_capi.specs.FaultLines.{place_line, fault_line, AreFaultLines, TellsLines};
 ghost use Rattle.ffi3_capi.specs.FaultText.{fault_text};
+ghost use Rattle.ffi3_capi.specs.Formats.{long_double_on};
 ghost use Rattle.ffi3_capi.specs.Placed.{targets};
 
-use crate::declaration::char_sign;
+use crate::declaration::{char_sign, long_double_on};
 use crate::fault::{FaultKind, TextFault, fault_with, signature_fault};
 use crate::fill::fill_text;
 use crate::placing::target_numbered;
 use crate::text::kind_text;
-use ffi3_cdecl::{DeclFault, read_wide_decl};
+use ffi3_cdecl::{DeclFault, read_decl_for};
 use ffi3_diagnostics::{lines_at, placed_words, tell, told_words};
 use ffi3_types::{Bytes, NoMemory, SigFault};
 use std::alloc::{AllocError, Global};
@@ -83,7 +85,7 @@ fn signature_line(alloc: Global, fault: &SigFault) -> Result<Bytes, NoMemory>
 
 /// The lines of a fault.
 fn lines_of(alloc: Global, target: u32, text: &str, fault: &DeclFault) -> Result<Bytes, NoMemory>
-    ensures { IfOk result (λ lines. IsUtf8 text.now → IsSome (slice_get targets target) → Tells (IsReadingIn wide (char_sign target) text.now) fault.now → AreFaultLines target text.now lines) }
+    ensures { IfOk result (λ lines. IsUtf8 text.now → IsSome (slice_get targets target) → Tells (IsReadingFor (long_double_on target) (char_sign target) text.now) fault.now → AreFaultLines target text.now lines) }
 {
     match fault {
         DeclFault::BadToken { at } => lines_with(alloc, text, *at, "bad token".as_bytes()),
@@ -98,7 +100,7 @@ fn lines_of(alloc: Global, target: u32, text: &str, fault: &DeclFault) -> Result
 fn lines_in(alloc: Global, target: u32, text: &str) -> Result<Bytes, NoMemory>
     ensures { IfOk result (λ lines. IsUtf8 text.now → IsSome (slice_get targets target) → AreFaultLines target text.now lines) }
 {
-    match read_wide_decl(alloc, char_sign(target), text) {
+    match read_decl_for(alloc, long_double_on(target), char_sign(target), text) {
         Ok(declaration) => {
             mem::drop(declaration);
             Ok(Bytes::new(alloc))

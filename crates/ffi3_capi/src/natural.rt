@@ -1,16 +1,18 @@
 // Whether a type is laid out as its client has it.
-ghost use Rattle.std.specs.Prelude.{◌≡◌, ℕ, List, IfOk, IfSome, None, Some};
+ghost use Rattle.std.specs.Prelude.{◌≡◌, ℕ, List, IfOk, IfSome, Option, None, Some};
 ghost use Rattle.ffi3_nodes.specs.declared.Node.{Node};
-ghost use Rattle.ffi3_capi.specs.ByNodes.{AreNodesOfType};
-ghost use Rattle.ffi3_capi.specs.NaturalLayout.{DifferFirst, IsNatural, IsAnother, ChecksLayout};
+ghost use Rattle.ffi3_format_rules.specs.declared.Format.{Format};
+ghost use Rattle.ffi3_capi.specs.WholeType.{AreNodesOfTypeBy};
+ghost use Rattle.ffi3_capi.specs.NaturalLayout.{DifferFirst, IsNatural, IsAnother, ChecksLayout, ChecksLayoutFor, ChecksType};
 
 use crate::codes::{DONE, NOT_DECLARED};
 use crate::fault::{FaultKind, TextFault, fault_of_value, fault_with};
+use crate::placing::target_numbered;
 use crate::status::Refusal;
-use crate::whole::{find_type, offsets as natural_offsets};
+use crate::whole::{find_type, find_type_on, offsets as natural_offsets};
 use ffi3_nodes::Node;
 use ffi3_place_rules::Listed;
-use ffi3_types::{CheckedType, NoMemory};
+use ffi3_types::{CheckedType, NoMemory, PlacedSig};
 use std::alloc::Global;
 
 /// The number of the first item at which two lists differ.
@@ -69,7 +71,7 @@ fn tell_otherwise(
     offsets: &[usize],
     fault: &mut TextFault,
 ) -> u32
-    ensures { (ns : List Node) → AreNodesOfType ns ty.now → ChecksLayout ns size align offsets.now result fault.new }
+    ensures { (o : Option Format) (ns : List Node) → AreNodesOfTypeBy o ns ty.now → ChecksType o ns size align offsets.now result fault.new }
 {
     match first_otherwise(alloc, ty, size, align, offsets) {
         Ok(None) => {
@@ -101,6 +103,38 @@ pub fn check_layout(
 {
     match find_type(alloc, nodes) {
         Ok(ty) => tell_otherwise(alloc, &CheckedType::of(&ty), size, align, offsets, fault),
+        Err(refusal) => {
+            *fault = refusal.fault();
+            refusal.status()
+        }
+    }
+}
+
+/// The same on the target with this number.
+pub fn check_layout_for(
+    alloc: Global,
+    target: u32,
+    nodes: &[Node],
+    size: usize,
+    align: usize,
+    offsets: &[usize],
+    fault: &mut TextFault,
+) -> u32
+    ensures { ChecksLayoutFor target nodes.now size align offsets.now result fault.new }
+{
+    let Some(_) = target_numbered(target) else {
+        *fault = Refusal::NoSuchTarget.fault();
+        return Refusal::NoSuchTarget.status();
+    };
+    match find_type_on(alloc, target, nodes) {
+        Ok(sig) => tell_otherwise(
+            alloc,
+            &PlacedSig::of(&sig).ret(),
+            size,
+            align,
+            offsets,
+            fault,
+        ),
         Err(refusal) => {
             *fault = refusal.fault();
             refusal.status()

@@ -1,16 +1,19 @@
 // What nodes declare, and which type they are.
 ghost use Rattle.std.specs.Prelude.{◌≡◌, IfOk, IfErr, Some};
-ghost use Rattle.ffi3_type_rules.specs.Signature.{SignatureHasNoFault};
+ghost use Rattle.ffi3_type_rules.specs.Signature.{SignatureHasNoFault, SignatureIsPlaced};
 ghost use Rattle.ffi3_type_rules.specs.Fault.{IsResultType};
 ghost use Rattle.ffi3_types.specs.TreeOf.{tree_of};
 ghost use Rattle.ffi3_nodes.specs.Read.{node_fault_of};
 ghost use Rattle.ffi3_capi.specs.declared.fault.TextFault.{TextFault};
-ghost use Rattle.ffi3_capi.specs.ByNodes.{AreNodesOf, AreNodesOfType, IsFaultOfNodes, IsFaultOfType, fixed_of, node_fault};
+ghost use Rattle.ffi3_capi.specs.ByNodes.{AreNodesIn, AreNodesOf, AreNodesOfType, IsFaultOfNodes, IsFaultOfNodesIn, IsFaultOfType, fixed_of, node_fault};
 ghost use Rattle.ffi3_capi.specs.Told.{nodes_told, type_told};
 
 use crate::codes::{NOT_VARIADIC, RESULT_PART};
 use crate::fault::{FaultKind, TextFault, fault_at, fault_of_value, signature_fault, type_fault};
-use ffi3_nodes::{Node, NodeFault, Refused, RefusedType, read_signature, read_type};
+use ffi3_format::Format;
+use ffi3_nodes::{
+    Node, NodeFault, Refused, RefusedType, read_signature, read_signature_for, read_type,
+};
 use ffi3_types::{FfiType, Sig};
 use std::alloc::Global;
 
@@ -73,6 +76,23 @@ pub(crate) fn declared_by_nodes(
     ensures err { IfErr result (λ e. (f : TextFault) → e ≡ Some f → IsFaultOfNodes nodes.now fixed f) }
 {
     match read_signature(alloc, nodes, fixed_of(fixed)) {
+        Ok(sig) => Ok(sig),
+        Err(refused) => Err(nodes_told(nodes.len(), &refused)),
+    }
+}
+
+/// The same, in which long doubles have this format.
+pub(crate) fn declared_by_nodes_in(
+    alloc: Global,
+    format: Format,
+    nodes: &[Node],
+    fixed: u32,
+) -> Result<Sig, Option<TextFault>>
+    ensures ok { IfOk result (λ s. AreNodesIn format nodes.now fixed s) }
+    ensures faultless { IfOk result (λ s. SignatureIsPlaced s) }
+    ensures err { IfErr result (λ e. (f : TextFault) → e ≡ Some f → IsFaultOfNodesIn format nodes.now fixed f) }
+{
+    match read_signature_for(alloc, format, nodes, fixed_of(fixed)) {
         Ok(sig) => Ok(sig),
         Err(refused) => Err(nodes_told(nodes.len(), &refused)),
     }

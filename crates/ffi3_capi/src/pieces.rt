@@ -2,12 +2,12 @@
 ghost use Rattle.std.specs.Prelude.{◌≡◌, ◌+◌, ◌<◌, ◌≤◌, ◌^◌, ◌++◌, ◌∷◌, List, IfOk, OnOk, length, map};
 ghost use Rattle.std.specs.List.{AllByRecursion};
 ghost use Rattle.ffi3_type_rules.specs.declared.limits.TheConstants.{LARGEST_TYPE};
-ghost use Rattle.ffi3_capi.specs.Within.{EndsWithin, PlaceEndsWithin};
-ghost use Rattle.ffi3_capi.specs.Pieces.{place_of, number_of, is_packed, rest_of, value_piece, address_piece, goes_on, joined_to, joined, argument_pieces, arguments_from, hidden_pieces, returned_address, returned_pieces};
+ghost use Rattle.ffi3_capi.specs.Within.{EndsWithin, PlaceEndsWithin, ResultEndsWithin};
+ghost use Rattle.ffi3_capi.specs.Pieces.{place_of, number_of, is_packed, rest_of, value_piece, address_piece, goes_on, is_above, is_upper_half, is_x87, whole_x87, joined_to, joined, argument_pieces, arguments_from, hidden_pieces, returned_address, returned_pieces};
 
 use crate::codes::{
-    ADDRESS_BYTES, HIDDEN_PART, HOLDS_ADDRESS, HOLDS_BYTES, IN_FLOATING, IN_GENERAL, ON_STACK,
-    REST_EXTENDED, REST_EXTENDED_BY_32, REST_FREE, REST_NONE, REST_ONES, RESULT_PART,
+    ADDRESS_BYTES, HIDDEN_PART, HOLDS_ADDRESS, HOLDS_BYTES, IN_FLOATING, IN_GENERAL, IN_X87,
+    ON_STACK, REST_EXTENDED, REST_EXTENDED_BY_32, REST_FREE, REST_NONE, REST_ONES, RESULT_PART,
 };
 use ffi3_place::{Ext, Loc, Piece, Pieces, Place, Places, Res};
 use ffi3_place_rules::Listed;
@@ -21,7 +21,7 @@ pub struct PlacedPiece {
     pub part: u32,
     /// Bytes of the value, or its address.
     pub holds: u32,
-    /// A general register, a floating one, or the stack.
+    /// A general register, a floating one, one of x87, or the stack.
     pub place: u32,
     /// The register's number, or the offset from the first stack argument.
     pub number: u32,
@@ -121,6 +121,47 @@ fn goes_on(piece: PlacedPiece, next: PlacedPiece) -> bool
         && piece.offset as u64 + piece.length as u64 == next.offset as u64
 }
 
+/// Whether both stand in the floating file, and the second has the bytes of the value that follow the first's eight.
+fn is_above(piece: PlacedPiece, next: PlacedPiece) -> bool
+    ensures { result ≡ is_above piece next }
+{
+    piece.place == IN_FLOATING
+        && next.place == IN_FLOATING
+        && piece.length == 8
+        && piece.offset as u64 + 8 == next.offset as u64
+}
+
+/// Whether the first has the lower half of a vector register, and the second its upper half.
+fn is_upper_half(piece: PlacedPiece, next: PlacedPiece) -> bool
+    ensures { result ≡ is_upper_half piece next }
+{
+    is_above(piece, next) && next.length == 8 && next.number as u64 == 32 + piece.number as u64
+}
+
+/// Whether the first has the significand of x87 register `k`, and the second its sign and exponent.
+fn is_x87(k: u32, piece: PlacedPiece, next: PlacedPiece) -> bool
+    requires { k ≤ 1 }
+    ensures { result ≡ is_x87 k piece next }
+{
+    is_above(piece, next)
+        && next.length == 2
+        && piece.number == 16 + 2 * k
+        && next.number == 17 + 2 * k
+}
+
+/// A whole x87 register.
+fn whole_x87(k: u32, piece: PlacedPiece, next: PlacedPiece) -> PlacedPiece
+    ensures { result ≡ whole_x87 k piece next }
+{
+    PlacedPiece {
+        place: IN_X87,
+        number: k,
+        length: 10,
+        rest: next.rest,
+        ..piece
+    }
+}
+
 /// The piece to which more may be added, with the one behind it. What that does not make longer is whole.
 fn with_next(
     pieces: &mut PlacedPieces,
@@ -137,11 +178,24 @@ fn with_next(
             ..piece
         });
     }
+    if is_upper_half(piece, next) {
+        return Ok(PlacedPiece {
+            length: 16,
+            rest: next.rest,
+            ..piece
+        });
+    }
+    if is_x87(0, piece, next) {
+        return Ok(whole_x87(0, piece, next));
+    }
+    if is_x87(1, piece, next) {
+        return Ok(whole_x87(1, piece, next));
+    }
     pieces.push(piece)?;
     Ok(next)
 }
 
-/// The pieces of a value, those on the stack in as few as they make.
+/// The pieces of a value, those of one register and those on the stack in as few as they make.
 fn join(part: u32, from: &Pieces, pieces: &mut PlacedPieces) -> Result<(), NoMemory>
     requires { AllByRecursion (EndsWithin LARGEST_TYPE) from.now }
     ensures { OnOk result (pieces.new ≡ pieces.old ++ joined (map (value_piece part) from.now)) }
@@ -196,22 +250,14 @@ pub(crate) fn put_returned(
     res: &Res,
     pieces: &mut PlacedPieces,
 ) -> Result<(), NoMemory>
+    requires { ResultEndsWithin LARGEST_TYPE res.now }
     ensures { OnOk result (pieces.new ≡ pieces.old ++ returned_pieces register res.now) }
 {
     match res {
         Res::Nothing => Ok(()),
-        Res::Direct(from) => put_result(from, pieces),
+        Res::Direct(from) => join(RESULT_PART, from, pieces),
         Res::Hidden { buffer, .. } => put_address(register, *buffer, pieces),
     }
-}
-
-fn put_result(from: &Pieces, pieces: &mut PlacedPieces) -> Result<(), NoMemory>
-    ensures { OnOk result (pieces.new ≡ pieces.old ++ map (value_piece RESULT_PART) from.now) }
-{
-    for k in 0..from.len() {
-        pieces.push(value_piece(RESULT_PART, from.get(k)))?;
-    }
-    Ok(())
 }
 
 fn put_address(

@@ -1,8 +1,7 @@
 // A call of the function that is declared.
 ghost use Rattle.std.specs.Prelude.{◌≡◌, IfOk, IfErr, slice_get};
 ghost use Rattle.ffi3_explain_rules.specs.Standards.{standard_of};
-ghost use Rattle.ffi3_capi.specs.Chars.{char_sign};
-ghost use Rattle.ffi3_capi.specs.DeclaredBy.{IsDeclaredBy, IsFaultBy};
+ghost use Rattle.ffi3_capi.specs.DeclaredBy.{IsDeclaredOn, IsFaultOn};
 ghost use Rattle.ffi3_capi.specs.Placed.{targets, no_call, placement_of, IsPlacement, IsPlaceRefusal, Places};
 
 use crate::declaration::{Declaration, declared_on};
@@ -15,7 +14,7 @@ use ffi3_amd64::Amd64;
 use ffi3_apple::Apple;
 use ffi3_place::Abi;
 use ffi3_riscv::Riscv;
-use ffi3_types::{CheckedSig, NoMemory, Target};
+use ffi3_types::{NoMemory, PlacedSig, Target};
 use ffi3_win64::Win64;
 use std::alloc::Global;
 
@@ -78,7 +77,7 @@ fn no_call(fault: TextFault) -> PlacedCall
 }
 
 /// Where everything stands by a calling standard.
-fn placed<A: Abi>(alloc: Global, sig: &CheckedSig<'_>) -> Result<Placement, NoMemory>
+fn placed<A: Abi>(alloc: Global, sig: &PlacedSig<'_>) -> Result<Placement, NoMemory>
     ensures { IfOk result (λ p. p ≡ placement_of A.standard sig.now) }
 {
     let count = sig.count();
@@ -102,7 +101,7 @@ fn placed<A: Abi>(alloc: Global, sig: &CheckedSig<'_>) -> Result<Placement, NoMe
 }
 
 /// Where everything stands by the target's calling standard.
-fn placed_on(alloc: Global, target: Target, sig: &CheckedSig<'_>) -> Result<Placement, NoMemory>
+fn placed_on(alloc: Global, target: Target, sig: &PlacedSig<'_>) -> Result<Placement, NoMemory>
     ensures { IfOk result (λ p. p ≡ placement_of (standard_of target) sig.now) }
 {
     match target {
@@ -120,8 +119,8 @@ pub fn find_placement(
     target: u32,
     declaration: Declaration<'_>,
 ) -> Result<Placement, Refusal>
-    ensures ok { IfOk result (λ p. IsPlacement (IsDeclaredBy (char_sign target) declaration.entry) target p) }
-    ensures err { IfErr result (λ r. IsPlaceRefusal (IsFaultBy (char_sign target) declaration.entry) target r) }
+    ensures ok { IfOk result (λ p. IsPlacement (IsDeclaredOn target declaration.entry) target p) }
+    ensures err { IfErr result (λ r. IsPlaceRefusal (IsFaultOn target declaration.entry) target r) }
 {
     let Some(to) = target_numbered(target) else {
         return Err(Refusal::NoSuchTarget);
@@ -131,7 +130,7 @@ pub fn find_placement(
         Err(Some(fault)) => return Err(Refusal::Fault(fault)),
         Err(None) => return Err(Refusal::NoMemory),
     };
-    match placed_on(alloc, to, &CheckedSig::of(&sig)) {
+    match placed_on(alloc, to, &PlacedSig::of(&sig)) {
         Ok(found) => Ok(found),
         Err(_) => Err(Refusal::NoMemory),
     }
@@ -145,7 +144,7 @@ pub fn place(
     call: &mut PlacedCall,
     pieces: &mut [PlacedPiece],
 ) -> u32
-    ensures { Places (IsDeclaredBy (char_sign target) declaration.entry) (IsFaultBy (char_sign target) declaration.entry) target pieces.old result call.new pieces.new }
+    ensures { Places (IsDeclaredOn target declaration.entry) (IsFaultOn target declaration.entry) target pieces.old result call.new pieces.new }
 {
     match find_placement(alloc, target, declaration) {
         Ok(found) => {

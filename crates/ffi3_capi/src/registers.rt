@@ -1,13 +1,24 @@
 // Names of registers.
 ghost use Rattle.std.specs.Prelude.{◌≡◌, [], length, slice_index_or};
 ghost use Rattle.ffi3_capi.specs.Filled.{filled, with_end};
-ghost use Rattle.ffi3_capi.specs.Registers.{names_by, register_name};
+ghost use Rattle.ffi3_capi.specs.Registers.{names_by, register_name, x87_names};
 
-use crate::codes::{IN_FLOATING, IN_GENERAL};
+use crate::codes::{IN_FLOATING, IN_GENERAL, IN_X87};
 use crate::fill::fill_text;
 use crate::placing::target_numbered;
 use ffi3_place::names::{floating_name, general_name};
 use ffi3_type_rules::Isa;
+
+/// The name of an x87 register.
+fn x87_name(isa: Isa, r: u32) -> &'static str
+    ensures { result.now ≡ slice_index_or (x87_names isa) r [] }
+{
+    match isa {
+        Isa::Amd64 if r == 0 => "st0",
+        Isa::Amd64 if r == 1 => "st1",
+        Isa::Amd64 | Isa::Aarch64 | Isa::Riscv => "",
+    }
+}
 
 /// The name of a register of an instruction set.
 fn name_by(place: u32, isa: Isa, r: u32) -> &'static str
@@ -18,6 +29,9 @@ fn name_by(place: u32, isa: Isa, r: u32) -> &'static str
     }
     if place == IN_FLOATING {
         return floating_name(isa, r);
+    }
+    if place == IN_X87 {
+        return x87_name(isa, r);
     }
     ""
 }

@@ -3,15 +3,14 @@ ghost use Rattle.std.specs.Prelude.{◌≡◌, ◌≤◌, IfOk, IfErr, length};
 ghost use Rattle.std.specs.List.{AllByRecursion};
 ghost use Rattle.ffi3_type_rules.specs.declared.limits.TheConstants.{LARGEST_TYPE};
 ghost use Rattle.ffi3_type_rules.specs.Layout.{size_of};
-ghost use Rattle.ffi3_type_rules.specs.Signature.{SignatureHasNoFault};
+ghost use Rattle.ffi3_type_rules.specs.Signature.{SignatureIsPlaced};
 ghost use Rattle.ffi3_place_rules.specs.Isa.{to_list};
 ghost use Rattle.ffi3_place_rules.specs.Sound.{IsWithin};
 ghost use Rattle.ffi3_explain_rules.specs.Explain.{first_bytes};
 ghost use Rattle.ffi3_explain_rules.specs.Standards.{standard_of};
-ghost use Rattle.ffi3_explain.specs.Places.{CanBeRead, HasPlace};
+ghost use Rattle.ffi3_transfer.specs.Places.{CanBeRead, HasPlace};
 ghost use Rattle.ffi3_transfer.specs.Stored.{image_in};
-ghost use Rattle.ffi3_capi.specs.Chars.{char_sign};
-ghost use Rattle.ffi3_capi.specs.DeclaredBy.{IsDeclaredBy, IsFaultBy};
+ghost use Rattle.ffi3_capi.specs.DeclaredBy.{IsDeclaredOn, IsFaultOn};
 ghost use Rattle.ffi3_capi.specs.Returned.{IsFound, IsFoundBy, IsNotFound, IsNotFoundBy, IsUnfound, ReadsResult, are_bytes, no_result, result_behind, result_of, returned_by_standard, unfound_status};
 
 use crate::codes::{NO_ADDRESS, NOT_IN_STACK};
@@ -23,7 +22,7 @@ use crate::status::Refusal;
 use ffi3_aapcs64::Aapcs64;
 use ffi3_amd64::Amd64;
 use ffi3_apple::Apple;
-use ffi3_cif::Cif;
+use ffi3_cif::Placed;
 use ffi3_place::{Abi, Loc, Pieces, Res};
 use ffi3_riscv::Riscv;
 use ffi3_transfer::{Registers, offset_in, place_word, read_pieces};
@@ -151,17 +150,17 @@ fn buffer_bytes(
 /// The bytes of the result of a call by this interface.
 fn read_result<A: Abi>(
     alloc: Global,
-    cif: &Cif<A>,
+    placed: &Placed<A>,
     registers: &Registers,
     stack: &[u8],
 ) -> Result<Bytes, Unfound>
-    ensures bytes { IfOk result (λ b. returned_by_standard A.standard cif.now (image_in registers.now stack.now) ≡ are_bytes b) }
-    ensures sized { IfOk result (λ b. length b ≡ size_of cif.now.result_type) }
-    ensures unfound { IfErr result (λ u. IsUnfound cif.now.result_type (returned_by_standard A.standard cif.now (image_in registers.now stack.now)) u) }
+    ensures bytes { IfOk result (λ b. returned_by_standard A.standard placed.now (image_in registers.now stack.now) ≡ are_bytes b) }
+    ensures sized { IfOk result (λ b. length b ≡ size_of placed.now.result_type) }
+    ensures unfound { IfErr result (λ u. IsUnfound placed.now.result_type (returned_by_standard A.standard placed.now (image_in registers.now stack.now)) u) }
 {
-    let sig = cif.checked_sig();
+    let sig = placed.placed_sig();
     let ty = sig.ret();
-    match cif.result_place() {
+    match placed.result_place() {
         Res::Nothing => Ok(Bytes::new(alloc)),
         Res::Direct(pieces) => {
             match direct_bytes(alloc, registers, stack, pieces, ty.size() as usize) {
@@ -180,14 +179,14 @@ fn find_by<A: Abi>(
     registers: &Registers,
     stack: &[u8],
 ) -> Result<FoundResult, Unfound>
-    requires { SignatureHasNoFault sig }
+    requires { SignatureIsPlaced sig }
     ensures found { IfOk result (λ f. IsFoundBy A.standard sig (image_in registers.now stack.now) f) }
     ensures unfound { IfErr result (λ u. IsNotFoundBy A.standard sig (image_in registers.now stack.now) u) }
 {
-    let Ok(cif) = Cif::<A>::prepare(alloc, sig) else {
+    let Ok(placed) = Placed::<A>::prepare(alloc, sig) else {
         return Err(Unfound::Call(Refusal::NoMemory));
     };
-    match read_result(alloc, &cif, registers, stack) {
+    match read_result(alloc, &placed, registers, stack) {
         Ok(bytes) => Ok(FoundResult {
             told: told(bytes.len(), 0, fault_with(FaultKind::NoFault)),
             bytes,
@@ -204,7 +203,7 @@ fn find_on(
     registers: &Registers,
     stack: &[u8],
 ) -> Result<FoundResult, Unfound>
-    requires { SignatureHasNoFault sig }
+    requires { SignatureIsPlaced sig }
     ensures found { IfOk result (λ f. IsFoundBy (standard_of target) sig (image_in registers.now stack.now) f) }
     ensures unfound { IfErr result (λ u. IsNotFoundBy (standard_of target) sig (image_in registers.now stack.now) u) }
 {
@@ -227,8 +226,8 @@ pub fn find_result(
     registers: &Registers,
     stack: &[u8],
 ) -> Result<FoundResult, Unfound>
-    ensures found { IfOk result (λ f. IsFound (IsDeclaredBy (char_sign target) declaration.entry) target (image_in registers.now stack.now) f) }
-    ensures unfound { IfErr result (λ u. IsNotFound (IsDeclaredBy (char_sign target) declaration.entry) (IsFaultBy (char_sign target) declaration.entry) target (image_in registers.now stack.now) u) }
+    ensures found { IfOk result (λ f. IsFound (IsDeclaredOn target declaration.entry) target (image_in registers.now stack.now) f) }
+    ensures unfound { IfErr result (λ u. IsNotFound (IsDeclaredOn target declaration.entry) (IsFaultOn target declaration.entry) target (image_in registers.now stack.now) u) }
 {
     let Some(to) = target_numbered(target) else {
         return Err(Unfound::Call(Refusal::NoSuchTarget));
@@ -255,7 +254,7 @@ pub fn tell_result(
     told: &mut ReturnedResult,
     value: &mut [u8],
 ) -> u32
-    ensures { ReadsResult (IsDeclaredBy (char_sign target) declaration.entry) (IsFaultBy (char_sign target) declaration.entry) target (image_in registers.now stack.now) value.old result told.new value.new }
+    ensures { ReadsResult (IsDeclaredOn target declaration.entry) (IsFaultOn target declaration.entry) target (image_in registers.now stack.now) value.old result told.new value.new }
 {
     match find_result(alloc, target, declaration, registers, stack) {
         Ok(found) => {

@@ -1,21 +1,28 @@
 // The layout of the one type that nodes are.
-ghost use Rattle.std.specs.Prelude.{◌≡◌, IfOk, IfErr, List, length};
+ghost use Rattle.std.specs.Prelude.{◌≡◌, IfOk, IfErr, List, Option, None, Some, length};
 ghost use Rattle.ffi3_nodes.specs.declared.Node.{Node};
 ghost use Rattle.ffi3_type_rules.specs.Tree.{struct_of};
 ghost use Rattle.ffi3_type_rules.specs.Fault.{IsLaidOut, IsResultType};
+ghost use Rattle.ffi3_type_rules.specs.Signature.{SignatureIsPlaced};
 ghost use Rattle.ffi3_types.specs.TreeOf.{tree_of};
-ghost use Rattle.ffi3_capi.specs.ByNodes.{AreNodesOfType};
-ghost use Rattle.ffi3_capi.specs.WholeType.{members_of, offsets_of, whole_type, no_whole_type, IsTypeRefusal, LaysOutNodes, TellsOffsets};
+ghost use Rattle.ffi3_capi.specs.ByNodes.{AreNodesOfType, AreNodesOfTypeIn};
+ghost use Rattle.ffi3_format_rules.specs.declared.Format.{Format};
+ghost use Rattle.ffi3_capi.specs.WholeType.{members_of, offsets_of, whole_type, no_whole_type, AreNodesOfTypeBy, IsTypeRefusal, TellsType, LaysOutNodes, LaysOutNodesFor, TellsOffsets, TellsOffsetsFor};
+ghost use Rattle.ffi3_capi.specs.Laid.{laid_leaves};
+ghost use Rattle.ffi3_capi.specs.Formats.{long_double_on};
 
-use crate::fault::{FaultKind, TextFault, fault_with};
+use crate::codes::NOT_VARIADIC;
+use crate::declaration::long_double_on;
+use crate::fault::{FaultKind, TextFault, fault_of_value, fault_with};
 use crate::fill::{fill, room_status};
 use crate::layouts::{LaidLeaf, laid_leaves};
-use crate::nodes::type_of_nodes;
+use crate::nodes::{declared_by_nodes_in, type_of_nodes};
+use crate::placing::target_numbered;
 use crate::status::Refusal;
 use ffi3_nodes::Node;
 use ffi3_place_rules::Listed;
 use ffi3_type_rules::round_up;
-use ffi3_types::{CheckedType, FfiType, Fields, NoMemory};
+use ffi3_types::{CheckedType, FfiType, Fields, NoMemory, PlacedSig, Sig};
 use std::alloc::Global;
 
 /// A type as a whole: C's `struct ffi3_type`.
@@ -113,10 +120,30 @@ pub(crate) fn offsets(alloc: Global, ty: &FfiType) -> Result<Listed<usize>, NoMe
 pub(crate) fn find_type(alloc: Global, nodes: &[Node]) -> Result<FfiType, Refusal>
     ensures ok { IfOk result (λ t. AreNodesOfType nodes.now (tree_of t)) }
     ensures faultless { IfOk result (λ t. IsResultType (tree_of t)) }
-    ensures err { IfErr result (λ r. IsTypeRefusal nodes.now r) }
+    ensures err { IfErr result (λ r. IsTypeRefusal None nodes.now r) }
 {
     match type_of_nodes(alloc, nodes) {
         Ok(ty) => Ok(ty),
+        Err(Some(fault)) => Err(Refusal::Fault(fault)),
+        Err(None) => Err(Refusal::NoMemory),
+    }
+}
+
+/// The function of no arguments whose result has the type that the nodes are on the target with this number.
+pub(crate) fn find_type_on(alloc: Global, target: u32, nodes: &[Node]) -> Result<Sig, Refusal>
+    ensures ok { IfOk result (λ s. AreNodesOfTypeIn (long_double_on target) nodes.now s.result_type) }
+    ensures faultless { IfOk result (λ s. SignatureIsPlaced s) }
+    ensures err { IfErr result (λ r. IsTypeRefusal (Some (long_double_on target)) nodes.now r) }
+{
+    match declared_by_nodes_in(alloc, long_double_on(target), nodes, NOT_VARIADIC) {
+        Ok(sig) => {
+            let count = sig.count();
+            if count > 0 {
+                let types = count as usize + 1;
+                return Err(Refusal::Fault(fault_of_value(0, FaultKind::NotOneType, types)));
+            }
+            Ok(sig)
+        }
         Err(Some(fault)) => Err(Refusal::Fault(fault)),
         Err(None) => Err(Refusal::NoMemory),
     }
@@ -129,7 +156,7 @@ fn tell_leaves(
     told: &mut WholeType,
     leaves: &mut [LaidLeaf],
 ) -> u32
-    ensures { (ns : List Node) → AreNodesOfType ns ty.now → LaysOutNodes ns leaves.old result told.new leaves.new }
+    ensures { (o : Option Format) (ns : List Node) → AreNodesOfTypeBy o ns ty.now → TellsType o ns laid_leaves leaves.old result told.new leaves.new }
 {
     match laid_leaves(alloc, ty) {
         Ok(laid) => {
@@ -150,7 +177,7 @@ fn tell_offsets(
     told: &mut WholeType,
     array: &mut [usize],
 ) -> u32
-    ensures { (ns : List Node) → AreNodesOfType ns ty.now → TellsOffsets ns array.old result told.new array.new }
+    ensures { (o : Option Format) (ns : List Node) → AreNodesOfTypeBy o ns ty.now → TellsType o ns offsets_of array.old result told.new array.new }
 {
     match offsets(alloc, ty.as_type()) {
         Ok(starts) => {
@@ -194,6 +221,52 @@ pub fn offsets_nodes(
 {
     match find_type(alloc, nodes) {
         Ok(ty) => tell_offsets(alloc, &CheckedType::of(&ty), told, offsets),
+        Err(refusal) => {
+            *told = no_whole_type(refusal.fault());
+            refusal.status()
+        }
+    }
+}
+
+/// The layout of the type that the nodes are on the target with this number, and its leaves, for a caller's struct and array.
+pub fn layout_nodes_for(
+    alloc: Global,
+    target: u32,
+    nodes: &[Node],
+    told: &mut WholeType,
+    leaves: &mut [LaidLeaf],
+) -> u32
+    ensures { LaysOutNodesFor target nodes.now leaves.old result told.new leaves.new }
+{
+    let Some(_) = target_numbered(target) else {
+        *told = no_whole_type(Refusal::NoSuchTarget.fault());
+        return Refusal::NoSuchTarget.status();
+    };
+    match find_type_on(alloc, target, nodes) {
+        Ok(sig) => tell_leaves(alloc, &PlacedSig::of(&sig).ret(), told, leaves),
+        Err(refusal) => {
+            *told = no_whole_type(refusal.fault());
+            refusal.status()
+        }
+    }
+}
+
+/// The same of where the members of a struct start, for a caller's struct and array.
+pub fn offsets_for(
+    alloc: Global,
+    target: u32,
+    nodes: &[Node],
+    told: &mut WholeType,
+    offsets: &mut [usize],
+) -> u32
+    ensures { TellsOffsetsFor target nodes.now offsets.old result told.new offsets.new }
+{
+    let Some(_) = target_numbered(target) else {
+        *told = no_whole_type(Refusal::NoSuchTarget.fault());
+        return Refusal::NoSuchTarget.status();
+    };
+    match find_type_on(alloc, target, nodes) {
+        Ok(sig) => tell_offsets(alloc, &PlacedSig::of(&sig).ret(), told, offsets),
         Err(refusal) => {
             *told = no_whole_type(refusal.fault());
             refusal.status()

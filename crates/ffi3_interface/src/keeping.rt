@@ -1,8 +1,7 @@
 // Interfaces that handles keep.
 ghost use Rattle.std.specs.Prelude.{◌≡◌, IfOk, IfErr};
-ghost use Rattle.ffi3_type_rules.specs.Signature.{SignatureHasNoFault};
-ghost use Rattle.ffi3_capi.specs.Chars.{char_sign};
-ghost use Rattle.ffi3_capi.specs.DeclaredBy.{IsDeclaredBy, IsFaultBy};
+ghost use Rattle.ffi3_type_rules.specs.Signature.{SignatureIsPlaced};
+ghost use Rattle.ffi3_capi.specs.DeclaredBy.{IsDeclaredOn, IsFaultOn};
 ghost use Rattle.ffi3_capi.specs.Placed.{IsPlaceRefusal};
 ghost use Rattle.ffi3_interface.specs.Keeping.{IsInterface, KeepsOf, Prepares, Shares};
 
@@ -14,9 +13,9 @@ use ffi3_prepared::prepare_signature;
 use ffi3_types::{NoMemory, Sig, Target};
 use std::alloc::Global;
 
-/// An interface of a target, of a function whose signature has no fault, to be kept.
+/// An interface of a target, of a function that can be placed, to be kept.
 fn keep(alloc: Global, to: Target, sig: Sig) -> Result<Box<Kept>, NoMemory>
-    requires { SignatureHasNoFault sig }
+    requires { SignatureIsPlaced sig }
     ensures { IfOk result (λ b. KeepsOf to sig b.value) }
 {
     let Ok(prepared) = prepare_signature(alloc, to, sig) else {
@@ -34,8 +33,8 @@ fn find_interface(
     target: u32,
     declaration: Declaration<'_>,
 ) -> Result<Box<Kept>, Refusal>
-    ensures ok { IfOk result (λ b. IsInterface (IsDeclaredBy (char_sign target) declaration.entry) target b.value) }
-    ensures err { IfErr result (λ r. IsPlaceRefusal (IsFaultBy (char_sign target) declaration.entry) target r) }
+    ensures ok { IfOk result (λ b. IsInterface (IsDeclaredOn target declaration.entry) target b.value) }
+    ensures err { IfErr result (λ r. IsPlaceRefusal (IsFaultOn target declaration.entry) target r) }
 {
     let Some(to) = target_numbered(target) else {
         return Err(Refusal::NoSuchTarget);
@@ -59,7 +58,7 @@ pub fn prepare(
     it: &mut Handle,
     fault: &mut TextFault,
 ) -> u32
-    ensures { Prepares (IsDeclaredBy (char_sign target) declaration.entry) (IsFaultBy (char_sign target) declaration.entry) target it.old.kept result fault.new it.new.kept }
+    ensures { Prepares (IsDeclaredOn target declaration.entry) (IsFaultOn target declaration.entry) target it.old.kept result fault.new it.new.kept }
 {
     match find_interface(alloc, target, declaration) {
         Ok(kept) => {

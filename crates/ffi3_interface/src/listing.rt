@@ -7,7 +7,7 @@ ghost use Rattle.ffi3_capi.specs.Filled.{has_room, room_status};
 ghost use Rattle.ffi3_interface.specs.Listing.{TellsMoves, lists, moves_by};
 
 use ffi3_capi::codes::{DONE, NOT_PREPARED, OUT_OF_MEMORY, TOO_SMALL, UNKNOWN_VALUE};
-use ffi3_cif::Cif;
+use ffi3_cif::Placed;
 use ffi3_handle::{Handle, Kept};
 use ffi3_moves::{
     ToldMove, tell_hidden_move, tell_moves_to_collect, tell_moves_to_give, tell_moves_to_load,
@@ -48,18 +48,18 @@ fn list_numbered(n: u32) -> Option<MoveList>
 
 /// A list by one standard, for the caller's array. Answers how many moves it has; where these have no room, nothing is
 /// written. None where they are 2^64 or more.
-fn tell_by<A: Abi>(cif: &Cif<A>, list: MoveList, array: &mut [ToldMove]) -> Option<usize>
-    ensures count { IfSome result (λ n. n ≡ length (moves_by A.standard cif.now list)) }
-    ensures many { IfNone result (length (moves_by A.standard cif.now list) < 2 ^ 64 → ⊥) }
-    ensures told { OnSome result (array.new ≡ told_in (moves_by A.standard cif.now list) array.old) }
+fn tell_by<A: Abi>(placed: &Placed<A>, list: MoveList, array: &mut [ToldMove]) -> Option<usize>
+    ensures count { IfSome result (λ n. n ≡ length (moves_by A.standard placed.now list)) }
+    ensures many { IfNone result (length (moves_by A.standard placed.now list) < 2 ^ 64 → ⊥) }
+    ensures told { OnSome result (array.new ≡ told_in (moves_by A.standard placed.now list) array.old) }
     ensures untold { result ≡ None → array.new ≡ array.old }
 {
     match list {
-        MoveList::Store => tell_moves_to_store(array, cif),
-        MoveList::Load => Some(tell_moves_to_load(array, cif)),
-        MoveList::Collect => tell_moves_to_collect(array, cif),
-        MoveList::Give => Some(tell_moves_to_give(array, cif)),
-        MoveList::Hidden => Some(tell_hidden_move(array, cif)),
+        MoveList::Store => tell_moves_to_store(array, placed),
+        MoveList::Load => Some(tell_moves_to_load(array, placed)),
+        MoveList::Collect => tell_moves_to_collect(array, placed),
+        MoveList::Give => Some(tell_moves_to_give(array, placed)),
+        MoveList::Hidden => Some(tell_hidden_move(array, placed)),
     }
 }
 
@@ -71,11 +71,11 @@ fn tell_on(p: &Prepared, list: MoveList, array: &mut [ToldMove]) -> Option<usize
     ensures untold { result ≡ None → array.new ≡ array.old }
 {
     match p {
-        Prepared::Amd64(cif) => tell_by(cif, list, array),
-        Prepared::Aapcs64(cif) => tell_by(cif, list, array),
-        Prepared::Riscv(cif) => tell_by(cif, list, array),
-        Prepared::Win64(cif) => tell_by(cif, list, array),
-        Prepared::Apple(cif) => tell_by(cif, list, array),
+        Prepared::Amd64(placed) => tell_by(placed, list, array),
+        Prepared::Aapcs64(placed) => tell_by(placed, list, array),
+        Prepared::Riscv(placed) => tell_by(placed, list, array),
+        Prepared::Win64(placed) => tell_by(placed, list, array),
+        Prepared::Apple(placed) => tell_by(placed, list, array),
     }
 }
 

@@ -44,11 +44,11 @@ fn returned_on(p: &Prepared) -> Option<u64>
     ensures { result ≡ returned_at (standard_in p.now) (signature_in p.now) }
 {
     match p {
-        Prepared::Amd64(cif) => returned_at(cif),
-        Prepared::Aapcs64(cif) => returned_at(cif),
-        Prepared::Riscv(cif) => returned_at(cif),
-        Prepared::Win64(cif) => returned_at(cif),
-        Prepared::Apple(cif) => returned_at(cif),
+        Prepared::Amd64(placed) => returned_at(placed),
+        Prepared::Aapcs64(placed) => returned_at(placed),
+        Prepared::Riscv(placed) => returned_at(placed),
+        Prepared::Win64(placed) => returned_at(placed),
+        Prepared::Apple(placed) => returned_at(placed),
     }
 }
 

@@ -1,6 +1,6 @@
 //! The texts of the program's help.
 
-pub const VERSION: &str = "0.2.0";
+pub const VERSION: &str = "0.3.0";
 
 pub const ABOUT: &str =
     "Show how C values are laid out, passed in calls, and called through closures";

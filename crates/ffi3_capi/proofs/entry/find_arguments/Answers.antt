@@ -1,14 +1,13 @@
 use Rattle.std.proofs.Common.{sym, ◌∙◌}
 use Rattle.ffi3_transfer.specs.Stored.{image_in}
-use Rattle.ffi3_capi.specs.Chars.{char_sign}
-use Rattle.ffi3_capi.specs.DeclaredBy.{IsDeclaredBy, IsFaultBy}
+use Rattle.ffi3_capi.specs.DeclaredBy.{IsDeclaredOn, IsFaultOn}
 use Rattle.ffi3_capi.proofs.Answering.{are_found, are_not_read}
 use Rattle.ffi3_capi.proofs.entry.find_arguments.Goals as goal
 
 pub returns-in-Ok-read_on-clause-found : goal.returns-in-Ok-read_on-clause-found
 returns-in-Ok-read_on-clause-found c =
-    are_found (IsDeclaredBy (char_sign c.args.target) c.args.declaration) c.args.target (image_in c.args.registers.now c.args.stack.now) c.in-Some.to c.in-Ok.sig c.in-Ok-read_on.found (sym c.target_numbered.ensures ∙ c.in-Some.is) c.in-Ok.ensures.ok c.in-Ok-read_on.ensures.found
+    are_found (IsDeclaredOn c.args.target c.args.declaration) c.args.target (image_in c.args.registers.now c.args.stack.now) c.in-Some.to c.in-Ok.sig c.in-Ok-read_on.found (sym c.target_numbered.ensures ∙ c.in-Some.is) c.in-Ok.ensures.ok c.in-Ok-read_on.ensures.found
 
 pub returns-in-Err-clause-unread : goal.returns-in-Err-clause-unread
 returns-in-Err-clause-unread c =
-    are_not_read (IsDeclaredBy (char_sign c.args.target) c.args.declaration) (IsFaultBy (char_sign c.args.target) c.args.declaration) c.args.target (image_in c.args.registers.now c.args.stack.now) c.in-Some.to c.in-Ok.sig c.in-Err.unread (sym c.target_numbered.ensures ∙ c.in-Some.is) c.in-Ok.ensures.ok c.in-Err.ensures.unread
+    are_not_read (IsDeclaredOn c.args.target c.args.declaration) (IsFaultOn c.args.target c.args.declaration) c.args.target (image_in c.args.registers.now c.args.stack.now) c.in-Some.to c.in-Ok.sig c.in-Err.unread (sym c.target_numbered.ensures ∙ c.in-Some.is) c.in-Ok.ensures.ok c.in-Err.ensures.unread

@@ -1,4 +1,5 @@
 use Rattle.std.proofs.Common.{sym, subst}
+use Rattle.std.specs.Prelude.{None}
 use Rattle.ffi3_type_rules.specs.declared.Role.TheVariants.{AsResult}
 use Rattle.ffi3_type_rules.proofs.Faults.{right_anywhere}
 use Rattle.ffi3_types.specs.TreeOf.{tree_of}
@@ -13,8 +14,8 @@ of-requires c =
 
 pub returns-in-Ok : goal.returns-in-Ok
 returns-in-Ok c =
-    c.tell_leaves.ensures c.args.nodes.now (subst (AreNodesOfType c.args.nodes.now) (sym c.of.ensures) c.in-Ok.ensures.ok)
+    c.tell_leaves.ensures None c.args.nodes.now (subst (AreNodesOfType c.args.nodes.now) (sym c.of.ensures) c.in-Ok.ensures.ok)
 
 pub returns-in-Err : goal.returns-in-Err
 returns-in-Err c =
-    tells_none c.args.nodes.now laid_leaves c.args.leaves.now c.in-Err.refusal c.no_whole_type.result c.fault.result c.status.result c.in-Err.ensures.err c.fault.ensures c.no_whole_type.ensures c.status.ensures
+    tells_none None c.args.nodes.now laid_leaves c.args.leaves.now c.in-Err.refusal c.no_whole_type.result c.fault.result c.status.result c.in-Err.ensures.err c.fault.ensures c.no_whole_type.ensures c.status.ensures
