@@ -7,7 +7,7 @@
 
 #define OWN_MOVES (sizeof ((struct told *)NULL)->own_moves / sizeof(struct ffi3_move))
 
-/* The nodes that the library is told for those of a key; answers how many. The room is enough: see has_asked_moves. */
+/* The nodes that the library is told for those of a key; answers how many: no more than those. */
 static size_t told_nodes(const struct key *key, struct ffi3_node *told, uint32_t *fixed)
 {
     size_t count = 0, result_end = type_end(key->nodes, NODES_BEFORE_TYPES);
@@ -18,9 +18,7 @@ static size_t told_nodes(const struct key *key, struct ffi3_node *told, uint32_t
         if (!is_result && position++ == key->fixed)
             *fixed = not_void;
         for (; at < end; at++)
-            if (key->nodes[at].kind == NODE_LONG_DOUBLES)
-                count += host_tell_long_doubles(key->nodes[at].count, is_result, told + count);
-            else if (key->nodes[at].kind != NODE_SIZED && (is_result || key->nodes[at].kind != FFI3_VOID))
+            if (key->nodes[at].kind != NODE_SIZED && (is_result || key->nodes[at].kind != FFI3_VOID))
                 told[count++] = key->nodes[at];
         if (!is_result)
             not_void += key->nodes[end - 1].kind != FFI3_VOID;
@@ -83,7 +81,7 @@ static bool has_asked(const struct key *key, const struct ffi3_node *nodes, size
                       uint32_t lists, uint64_t answer, struct told *told)
 {
     struct ffi3_fault fault;
-    uint32_t target = host_target((ffi_abi)key->nodes[0].count);
+    uint32_t target = host_target(key_abi(key));
     /* The library wants one that is fixed, and libffi none; all of these standards place it as if it were not. */
     if (fixed == 0)
         fixed = length > type_end(nodes, 0) ? 1 : FFI3_NOT_VARIADIC;
@@ -113,12 +111,10 @@ bool has_asked_moves(const struct key *key, uint32_t lists, uint64_t answer, str
     if (!(key->kinds & NODES_OF_OWN))
         return has_asked(key, key->nodes + NODES_BEFORE_TYPES, key->length - NODES_BEFORE_TYPES, fixed, lists, answer,
                          told);
-    if (3 * key->length > sizeof own_nodes / sizeof *own_nodes)
-        nodes = malloc(3 * key->length * sizeof *nodes);
+    if (key->length > sizeof own_nodes / sizeof *own_nodes)
+        nodes = malloc(key->length * sizeof *nodes);
     size_t length = nodes ? told_nodes(key, nodes, &fixed) : 0;
-    bool has = length && has_asked(key, nodes, length, fixed, LISTS_OF_CALLS | LISTS_OF_CLOSURES, 0, told);
-    if (has)
-        host_correct(key, told);
+    bool has = length && has_asked(key, nodes, length, fixed, lists, answer, told);
     if (nodes != own_nodes)
         free(nodes);
     return has;

@@ -62,7 +62,7 @@ struct plan {
     uint32_t index;     /* of the table of plans */
     uint32_t stack;     /* bytes of stack arguments, a multiple of 16 */
     uint32_t frame;     /* these with copies and the result's buffer */
-    uint32_t beside;    /* goes into the exchange */
+    uint32_t beside;    /* goes into the exchange, which says what it counts */
     uint32_t number_at; /* where the caller puts a number: on AMD64, how many vector registers there are */
     uint64_t number;
     uint32_t hidden;    /* the place of the address of the result's buffer, or NO_PLACE */
@@ -88,8 +88,6 @@ struct served {
 
 /* ---- What the proved library told of a signature */
 
-#define MOST_BESIDE 2 /* moves of a result that host_complete adds */
-
 struct moves {
     struct ffi3_move *first;
     size_t count;
@@ -111,19 +109,15 @@ struct told {
     struct ffi3_move own_moves[64];
 };
 
-/* Asks the library for lists of moves of a key, for all of them where a host has a part in it; answers false where it
- * has none, or memory was refused. `answer` is the number of what it answered of this key, or 0. told_end gives memory
- * back. Under library_lock. */
+/* Asks the library for lists of moves of a key; answers false where it has none, or memory was refused. `answer` is the
+ * number of what it answered of this key, or 0. told_end gives memory back. Under library_lock. */
 bool has_asked_moves(const struct key *key, uint32_t lists, uint64_t answer, struct told *told);
 void told_end(struct told *told);
-
-/* Makes the callee's moves of the arguments anew, from the caller's, where a host has placed a long double. */
-void told_mirror(struct told *told);
 
 /* Make a plan, and its callee's part, of what was told, in memory that is kept; or NULL, where malloc gives none. Under
  * library_lock. */
 struct plan *plan_from(const struct key *key, uint64_t word, const struct told *told, const ffi_cif *cif);
-struct served *served_from(const struct key *key, const struct told *told, const ffi_cif *cif);
+struct served *served_from(const struct told *told, const ffi_cif *cif);
 
 /* The plan of an interface, from the table or a new one; or NULL, where there is none or memory was refused. Its types
  * are laid out. `fixed` as in key.h. */

@@ -112,7 +112,7 @@ static struct plan *plan_of_told(const struct key *key, uint64_t word, const str
     struct plan *plan = plan_from(key, word, told, cif);
     if (!plan || !(told->asked & LISTS_OF_CLOSURES))
         return plan;
-    struct served *served = served_from(key, told, cif);
+    struct served *served = served_from(told, cif);
     atomic_store(&plan->served, served);
     if (served)
         return plan;
@@ -157,7 +157,7 @@ static const struct served *serve(struct plan *plan, const struct key *key, cons
     library_enter();
     const struct served *served = atomic_load(&plan->served);
     if (!served && has_asked_moves(key, LISTS_OF_CLOSURES, plan->answer, &told)) {
-        served = served_from(key, &told, cif);
+        served = served_from(&told, cif);
         told_end(&told);
         atomic_store_explicit(&plan->served, served, memory_order_release);
     }
