@@ -17,6 +17,9 @@
 /* The bit of all these kinds, and of arguments that are void: the library is told other nodes than a key has. */
 #define NODES_OF_OWN 0x100u
 
+/* The bit of the kinds of long doubles, and of those that may have them in them. */
+#define NODES_OF_LONG_DOUBLES 0x10u
+
 struct key {
     struct ffi3_node *nodes; /* own_nodes, or malloc's: the two, the result, the arguments, those that are void too */
     size_t length, room;

@@ -68,17 +68,26 @@ static uint64_t stack_of(const struct told *told)
     return (stack + 15) / 16 * 16;
 }
 
-static bool has_told_all(struct ffi3_interface *interface, struct told *told)
+static bool has_told_caller(struct ffi3_interface *interface, struct told *told)
 {
-    bool has = ffi3_sizes(interface, &told->sizes) == FFI3_OK && told->sizes.frame <= INT32_MAX;
-    for (uint32_t list = 0; list < LISTS && has; list++)
-        if (told->asked >> list & 1)
-            has = has_told(interface, list, told);
-    return has;
+    const struct moves *loads = &told->lists[FFI3_MOVES_TO_LOAD];
+    if (ffi3_sizes(interface, &told->sizes) != FFI3_OK || told->sizes.frame > INT32_MAX ||
+        !has_told(interface, FFI3_MOVES_TO_STORE, told) || !has_told(interface, FFI3_MOVES_TO_LOAD, told))
+        return false;
+    /* A hidden result is in the frame. */
+    if (loads->count && loads->first->from >= FRAME_AT && !has_told(interface, FFI3_MOVES_OF_HIDDEN, told))
+        return false;
+    told->stack = stack_of(told);
+    return true;
+}
+
+static bool has_told_callee(struct ffi3_interface *interface, struct told *told)
+{
+    return has_told(interface, FFI3_MOVES_TO_COLLECT, told) && has_told(interface, FFI3_MOVES_TO_GIVE, told);
 }
 
 static bool has_asked(const struct key *key, const struct ffi3_node *nodes, size_t length, uint32_t fixed,
-                      uint32_t lists, uint64_t answer, struct told *told)
+                      bool is_callee, uint64_t answer, struct told *told)
 {
     struct ffi3_fault fault;
     uint32_t target = host_target(key_abi(key));
@@ -87,34 +96,31 @@ static bool has_asked(const struct key *key, const struct ffi3_node *nodes, size
         fixed = length > type_end(nodes, 0) ? 1 : FFI3_NOT_VARIADIC;
     memset(told->lists, 0, sizeof told->lists);
     told->malloced = told->used = 0;
-    told->asked = lists;
     bool has = library_goes_on(answer);
     if (!has) {
         last = (struct ffi3_interface)FFI3_NO_INTERFACE;
         has = ffi3_prepare(target, nodes, length, fixed, &last, &fault) == FFI3_OK;
     }
-    has = has && has_told_all(&last, told);
+    has = has && (is_callee ? has_told_callee(&last, told) : has_told_caller(&last, told));
     told->answer = library_answer();
     if (!told->answer)
         ffi3_release(&last);
-    if (has)
-        told->stack = stack_of(told);
-    else
+    if (!has)
         told_end(told);
     return has;
 }
 
-bool has_asked_moves(const struct key *key, uint32_t lists, uint64_t answer, struct told *told)
+bool has_asked_moves(const struct key *key, bool is_callee, uint64_t answer, struct told *told)
 {
     uint32_t fixed = key->fixed;
     struct ffi3_node own_nodes[96], *nodes = own_nodes;
     if (!(key->kinds & NODES_OF_OWN))
-        return has_asked(key, key->nodes + NODES_BEFORE_TYPES, key->length - NODES_BEFORE_TYPES, fixed, lists, answer,
-                         told);
+        return has_asked(key, key->nodes + NODES_BEFORE_TYPES, key->length - NODES_BEFORE_TYPES, fixed, is_callee,
+                         answer, told);
     if (key->length > sizeof own_nodes / sizeof *own_nodes)
         nodes = malloc(key->length * sizeof *nodes);
     size_t length = nodes ? told_nodes(key, nodes, &fixed) : 0;
-    bool has = length && has_asked(key, nodes, length, fixed, lists, answer, told);
+    bool has = length && has_asked(key, nodes, length, fixed, is_callee, answer, told);
     if (nodes != own_nodes)
         free(nodes);
     return has;

@@ -295,7 +295,7 @@ struct plan *plan_from(const struct key *key, uint64_t word, const struct told *
         return NULL;
     plan->loads = plan->moves + plan->moves_count;
     fill_loads(plan, told, cif->rtype);
-    plan->beside = all_beside(plan);
+    plan->beside = key->kinds & NODES_OF_LONG_DOUBLES ? all_beside(plan) : 0;
     plan->nodes = memcpy(plan->loads + plan->loads_count, key->nodes, nodes * sizeof *plan->nodes);
     kept_take((size_t)((const char *)(plan->nodes + nodes) - (const char *)plan));
     return plan;

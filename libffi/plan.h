@@ -95,23 +95,20 @@ struct moves {
 
 #define LISTS 5 /* FFI3_MOVES_TO_STORE and so on */
 
-#define LISTS_OF_CALLS (1u << FFI3_MOVES_TO_STORE | 1u << FFI3_MOVES_TO_LOAD | 1u << FFI3_MOVES_OF_HIDDEN)
-#define LISTS_OF_CLOSURES (1u << FFI3_MOVES_TO_COLLECT | 1u << FFI3_MOVES_TO_GIVE)
-
 struct told {
-    uint32_t asked;  /* which lists, by bits */
     uint64_t answer; /* the number of the library's answer */
     struct ffi3_sizes sizes;
     uint64_t stack; /* bytes of the frame that are passed on the stack: it begins with them */
-    struct moves lists[LISTS];
+    struct moves lists[LISTS]; /* the caller's, or the callee's; the others are empty */
     uint32_t malloced; /* which lists are not in own_moves, by bits */
     uint32_t used;     /* of own_moves */
     struct ffi3_move own_moves[64];
 };
 
-/* Asks the library for lists of moves of a key; answers false where it has none, or memory was refused. `answer` is the
- * number of what it answered of this key, or 0. told_end gives memory back. Under library_lock. */
-bool has_asked_moves(const struct key *key, uint32_t lists, uint64_t answer, struct told *told);
+/* Asks the library for the moves of a key, the callee's, or the caller's and the sizes; answers false where it has none,
+ * or memory was refused. `answer` is the number of what it answered of this key, or 0. told_end gives memory back. Under
+ * library_lock. */
+bool has_asked_moves(const struct key *key, bool is_callee, uint64_t answer, struct told *told);
 void told_end(struct told *told);
 
 /* Make a plan, and its callee's part, of what was told, in memory that is kept; or NULL, where malloc gives none. Under

@@ -1,6 +1,7 @@
 /* The four stubs, whole, between what a real processor and its stack need beside them. rows.inc has their bytes,
  * whose effect is proved: they find the exchange in x0, x19, x9 and x9, and begin with x17 or x16 := that register.
- * Where a long double is in a register, what moves it stands between the rows of a second Call and a second Exit.
+ * Where a long double is in a register, what moves its high half stands between the rows of a second Call and a second
+ * Exit.
  *
  * What stands below is trusted; docs/TRUSTED.md counts it. Nothing that is still needed stands below sp. */
 
