@@ -30,9 +30,9 @@ pub fn places(alloc: Global, cif: &Cif<Riscv>) -> Result<Bytes, NoMemory>
 {
     let mut text = Bytes::new(alloc);
     for i in 0..cif.sig().count() {
-        text.extend(place_line(alloc, cif, At::Arg(i))?.as_slice())?;
+        text.extend(place_line(alloc, cif.placed(), At::Arg(i))?.as_slice())?;
     }
-    text.extend(place_line(alloc, cif, At::Ret)?.as_slice())?;
+    text.extend(place_line(alloc, cif.placed(), At::Ret)?.as_slice())?;
     Ok(text)
 }
 

@@ -12,7 +12,7 @@ use crate::write::write_made_line;
 use ffi3_aapcs64::Aapcs64;
 use ffi3_amd64::Amd64;
 use ffi3_apple::Apple;
-use ffi3_cif::Cif;
+use ffi3_cif::{Cif, Placed};
 use ffi3_diagnostics::argument_name;
 use ffi3_io::{IoError, Sink};
 use ffi3_names::{Name, name_at};
@@ -87,38 +87,38 @@ fn place_one<A: Abi, O: Sink>(
     ensures { Wrote (concat (named_lines (names_of names.now.items) A.standard number sig.now)) (O.state output.old) (O.state output.new) result }
 {
     let cif: Cif<A> = Cif::prepare_copy(alloc, sig)?;
-    place_of(alloc, number, &cif, names, output)
+    place_of(alloc, number, cif.placed(), names, output)
 }
 
 // The lines of one signature: its frame, the arguments, then the result.
 fn place_of<A: Abi, O: Sink>(
     alloc: Global,
     number: u32,
-    cif: &Cif<A>,
+    placed: &Placed<A>,
     names: &Vec<Name<'_>>,
     output: &mut O,
 ) -> Result<(), IoError>
-    ensures { Wrote (concat (named_lines (names_of names.now.items) A.standard number cif.now)) (O.state output.old) (O.state output.new) result }
+    ensures { Wrote (concat (named_lines (names_of names.now.items) A.standard number placed.now)) (O.state output.old) (O.state output.new) result }
 {
-    write_made_line(output, sig_line(alloc, number, cif))?;
-    for j in 0..cif.sig().count() {
+    write_made_line(output, sig_line(alloc, number, placed))?;
+    for j in 0..placed.sig().count() {
         let name = name_at(names, j as usize);
-        write_made_line(output, argument_line(alloc, cif, j, name))?;
+        write_made_line(output, argument_line(alloc, placed, j, name))?;
     }
-    write_made_line(output, place_line(alloc, cif, At::Ret))
+    write_made_line(output, place_line(alloc, placed, At::Ret))
 }
 
 // The line of an argument, with its name where it has one.
 fn argument_line<A: Abi>(
     alloc: Global,
-    cif: &Cif<A>,
+    placed: &Placed<A>,
     j: u32,
     name: &[u8],
 ) -> Result<Bytes, NoMemory>
-    requires { j < length cif.now.arguments }
-    ensures { IfOk result (λ line. line ≡ argument_line name.now A.standard cif.now j) }
+    requires { j < length placed.now.arguments }
+    ensures { IfOk result (λ line. line ≡ argument_line name.now A.standard placed.now j) }
 {
-    let line = place_line(alloc, cif, At::Arg(j))?;
+    let line = place_line(alloc, placed, At::Arg(j))?;
     if name.is_empty() {
         return Ok(line);
     }

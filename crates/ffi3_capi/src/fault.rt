@@ -179,6 +179,7 @@ fn left_out_kind(kind: &FfiType) -> FaultKind
         FfiType::U32 | FfiType::S32 | FfiType::U64 | FfiType::S64 => FaultKind::LeftOutVector,
         FfiType::U128 | FfiType::S128 | FfiType::Float => FaultKind::LeftOutVector,
         FfiType::Double | FfiType::Pointer => FaultKind::LeftOutVector,
+        FfiType::X87 | FfiType::Binary128 => FaultKind::LeftOutVector,
         FfiType::Struct(_) | FfiType::Array(_, _) => FaultKind::LeftOutVector,
     }
 }

@@ -80,6 +80,8 @@ fn scalar_number(kind: &FfiType) -> u32
         FfiType::Float => 10,
         FfiType::Double => 11,
         FfiType::Pointer => 12,
+        FfiType::X87 => 16,
+        FfiType::Binary128 => 17,
         FfiType::Void => 13,
         FfiType::Struct(_) | FfiType::Array(_, _) => 13,
         FfiType::LongDouble | FfiType::Complex | FfiType::Vector => 13,
@@ -95,7 +97,8 @@ fn scalar_size(kind: &FfiType) -> u32
         FfiType::U16 | FfiType::S16 => 2,
         FfiType::U32 | FfiType::S32 | FfiType::Float => 4,
         FfiType::U64 | FfiType::S64 | FfiType::Double | FfiType::Pointer => 8,
-        FfiType::U128 | FfiType::S128 => 16,
+        FfiType::U128 | FfiType::S128 | FfiType::Binary128 => 16,
+        FfiType::X87 => 10,
         FfiType::Void | FfiType::Struct(_) | FfiType::Array(_, _) => 0,
         FfiType::LongDouble | FfiType::Complex | FfiType::Vector => 0,
     }

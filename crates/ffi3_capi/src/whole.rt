@@ -57,6 +57,7 @@ fn member_count(ty: &FfiType) -> usize
         FfiType::U32 | FfiType::S32 | FfiType::U64 | FfiType::S64 => 0,
         FfiType::U128 | FfiType::S128 | FfiType::Float => 0,
         FfiType::Double | FfiType::Pointer => 0,
+        FfiType::X87 | FfiType::Binary128 => 0,
         FfiType::LongDouble | FfiType::Complex | FfiType::Vector => 0,
     }
 }
@@ -103,6 +104,7 @@ pub(crate) fn offsets(alloc: Global, ty: &FfiType) -> Result<Listed<usize>, NoMe
         FfiType::U32 | FfiType::S32 | FfiType::U64 | FfiType::S64 => Ok(Listed::new(alloc)),
         FfiType::U128 | FfiType::S128 | FfiType::Float => Ok(Listed::new(alloc)),
         FfiType::Double | FfiType::Pointer => Ok(Listed::new(alloc)),
+        FfiType::X87 | FfiType::Binary128 => Ok(Listed::new(alloc)),
         FfiType::LongDouble | FfiType::Complex | FfiType::Vector => Ok(Listed::new(alloc)),
     }
 }

@@ -2,6 +2,8 @@ pub mod Fronts
 pub mod Lists
 pub mod Turns
 pub mod Judging
+pub mod AlikeFor
+pub mod Passes
 pub mod Writing
 pub mod Rounds
 pub mod Saying

@@ -1,41 +1,38 @@
 -- One byte of a pass.
-use Rattle.std.proofs.Common.{◌≡◌, ℕ, zero, suc, ◌+◌, ◌-◌, ◌<◌, List, length, get_or, drop, ap, sym, subst, ◌∙◌, arith}
+use Rattle.std.proofs.Common.{◌≡◌, ℕ, zero, suc, ◌+◌, ◌-◌, ◌<◌, List, length, get_or, drop, Option, Some, None, ap, sym, subst, ◌∙◌, arith}
 use Rattle.std.proofs.lemmas.List.{drop_more, drop_all}
 use Rattle.ffi3_cdecl_rules.specs.Tokens.{Dialect, plain, wide, Sign, signed, Token, Found, blank, skipped, nothing_known, found, found_in}
-use Rattle.ffi3_cdecl_rules.specs.Reading.{Outcome, bad_token, IsReading, IsReadingIn}
+use Rattle.ffi3_cdecl_rules.specs.Reading.{Outcome, IsReading, IsReadingIn}
 use Rattle.ffi3_cdecl_rules.specs.Machine.{read, read_in}
-use Rattle.ffi3_cdecl_rules.specs.OnePass.{Pass, taking, pass_found, pass_from, outcome_at, new_pass}
-use Rattle.ffi3_cdecl_rules.proofs.OnePass.{one_pass_in}
+use Rattle.ffi3_cdecl_rules.specs.OnePass.{Pass, taking}
+use Rattle.ffi3_cdecl.specs.PassOf.{pass_on, pass_over}
 use Rattle.ffi3_cdecl_rules.proofs.Readings.{reading_in}
 
-pub turn_inside : (r : Dialect) (c : Sign) (bs : List ℕ) (at inside : ℕ) (p : Pass) → at < length bs → 0 < inside → pass_from r c at inside p (drop at bs) ≡ pass_from r c (at + 1) (inside - 1) p (drop (at + 1) bs)
+pub turn_inside : (r : Dialect) (c : Sign) (bs : List ℕ) (at inside : ℕ) (p : Pass) → at < length bs → 0 < inside → pass_over r c at inside p (drop at bs) ≡ pass_over r c (at + 1) (inside - 1) p (drop (at + 1) bs)
 turn_inside r c bs at zero p h some = absurd (omega arith)
 turn_inside r c bs at (suc inside) p h some =
     let e : inside ≡ suc inside - 1 = omega arith in
-    ap (λ cs. pass_from r c at (suc inside) p cs) (drop_more bs at 0 h) ∙ ap (λ n. pass_from r c (at + 1) n p (drop (at + 1) bs)) e
+    ap (λ cs. pass_over r c at (suc inside) p cs) (drop_more bs at 0 h) ∙ ap (λ n. pass_over r c (at + 1) n p (drop (at + 1) bs)) e
 
-turn_found : (r : Dialect) (c : Sign) (bs : List ℕ) (at : ℕ) (p : Pass) (f : Found) → at < length bs → f ≡ found_in r c (get_or bs at 0) (drop (at + 1) bs) → pass_from r c at 0 p (drop at bs) ≡ pass_found r f at p (λ inside q. pass_from r c (at + 1) inside q (drop (at + 1) bs))
+turn_found : (r : Dialect) (c : Sign) (bs : List ℕ) (at : ℕ) (p : Pass) (f : Found) → at < length bs → f ≡ found_in r c (get_or bs at 0) (drop (at + 1) bs) → pass_over r c at 0 p (drop at bs) ≡ pass_on r f at p (λ inside q. pass_over r c (at + 1) inside q (drop (at + 1) bs))
 turn_found r c bs at p f h e =
-    ap (λ cs. pass_from r c at 0 p cs) (drop_more bs at 0 h) ∙ ap (λ g. pass_found r g at p (λ inside q. pass_from r c (at + 1) inside q (drop (at + 1) bs))) (sym e)
+    ap (λ cs. pass_over r c at 0 p cs) (drop_more bs at 0 h) ∙ ap (λ g. pass_on r g at p (λ inside q. pass_over r c (at + 1) inside q (drop (at + 1) bs))) (sym e)
 
-pub turn_blank : (r : Dialect) (c : Sign) (bs : List ℕ) (at : ℕ) (p : Pass) → at < length bs → blank ≡ found_in r c (get_or bs at 0) (drop (at + 1) bs) → pass_from r c at 0 p (drop at bs) ≡ pass_from r c (at + 1) 0 p (drop (at + 1) bs)
+pub turn_blank : (r : Dialect) (c : Sign) (bs : List ℕ) (at : ℕ) (p : Pass) → at < length bs → blank ≡ found_in r c (get_or bs at 0) (drop (at + 1) bs) → pass_over r c at 0 p (drop at bs) ≡ pass_over r c (at + 1) 0 p (drop (at + 1) bs)
 turn_blank r c bs at p h e = turn_found r c bs at p blank h e
 
-pub turn_nothing : (r : Dialect) (c : Sign) (bs : List ℕ) (at : ℕ) (p : Pass) → at < length bs → nothing_known ≡ found_in r c (get_or bs at 0) (drop (at + 1) bs) → pass_from r c at 0 p (drop at bs) ≡ bad_token at
+pub turn_nothing : (r : Dialect) (c : Sign) (bs : List ℕ) (at : ℕ) (p : Pass) → at < length bs → nothing_known ≡ found_in r c (get_or bs at 0) (drop (at + 1) bs) → pass_over r c at 0 p (drop at bs) ≡ (p, Some at)
 turn_nothing r c bs at p h e = turn_found r c bs at p nothing_known h e
 
-pub turn_token : (r : Dialect) (c : Sign) (bs : List ℕ) (at : ℕ) (p : Pass) (t : Token) (more : ℕ) → at < length bs → found t more ≡ found_in r c (get_or bs at 0) (drop (at + 1) bs) → pass_from r c at 0 p (drop at bs) ≡ pass_from r c (at + 1) more (taking r p at t) (drop (at + 1) bs)
+pub turn_token : (r : Dialect) (c : Sign) (bs : List ℕ) (at : ℕ) (p : Pass) (t : Token) (more : ℕ) → at < length bs → found t more ≡ found_in r c (get_or bs at 0) (drop (at + 1) bs) → pass_over r c at 0 p (drop at bs) ≡ pass_over r c (at + 1) more (taking r p at t) (drop (at + 1) bs)
 turn_token r c bs at p t more h e = turn_found r c bs at p (found t more) h e
 
-pub pass_end : (r : Dialect) (c : Sign) (bs : List ℕ) (at inside : ℕ) (p : Pass) → at ≡ length bs → pass_from r c at inside p (drop at bs) ≡ outcome_at at p
+pub pass_end : (r : Dialect) (c : Sign) (bs : List ℕ) (at inside : ℕ) (p : Pass) → at ≡ length bs → pass_over r c at inside p (drop at bs) ≡ (p, None)
 pass_end r c bs at inside p h =
-    ap (λ cs. pass_from r c at inside p cs) (drop_all at bs (omega arith))
+    ap (λ cs. pass_over r c at inside p cs) (drop_all at bs (omega arith))
 
-pub turn_skipped : (r : Dialect) (c : Sign) (bs : List ℕ) (at : ℕ) (p : Pass) (more : ℕ) → at < length bs → skipped more ≡ found_in r c (get_or bs at 0) (drop (at + 1) bs) → pass_from r c at 0 p (drop at bs) ≡ pass_from r c (at + 1) more p (drop (at + 1) bs)
+pub turn_skipped : (r : Dialect) (c : Sign) (bs : List ℕ) (at : ℕ) (p : Pass) (more : ℕ) → at < length bs → skipped more ≡ found_in r c (get_or bs at 0) (drop (at + 1) bs) → pass_over r c at 0 p (drop at bs) ≡ pass_over r c (at + 1) more p (drop (at + 1) bs)
 turn_skipped r c bs at p more h e = turn_found r c bs at p (skipped more) h e
-
-pub computed : (r : Dialect) (c : Sign) (text : List ℕ) (o : Outcome) → o ≡ pass_from r c 0 0 new_pass text → o ≡ read_in r c text
-computed r c text o e = e ∙ one_pass_in r c text
 
 pub is_reading : (text : List ℕ) (o : Outcome) → o ≡ read text → IsReading text o
 is_reading text o e = subst (IsReading text) (sym e) (reading_in plain signed text)

@@ -7,3 +7,4 @@ pub mod PassOf
 pub mod Tells
 pub mod Going
 pub mod QuotedOf
+pub mod ReadingFor

@@ -1,7 +1,10 @@
 // A function as it is declared.
-ghost use Rattle.std.specs.Prelude.{◌≡◌};
+ghost use Rattle.std.specs.Prelude.{◌≡◌, IfOk};
+ghost use Rattle.ffi3_cdecl.specs.ReadingFor.{resolved_declaration};
 
-use ffi3_types::{Bytes, Sig};
+use ffi3_format::{Format, resolve};
+use ffi3_types::{Bytes, NoMemory, Sig};
+use std::alloc::Global;
 use std::marker::Model;
 
 /// A function as it is declared: its name and its signature.
@@ -27,6 +30,15 @@ impl Declaration {
         ensures { result ≡ record { called = name; signature = sig } }
     {
         Declaration { name, sig }
+    }
+
+    /// The same function, whose long doubles have this format.
+    pub(crate) fn resolved(self, alloc: Global, format: Format) -> Result<Declaration, NoMemory>
+        ensures { IfOk result (λ d. d ≡ resolved_declaration format self) }
+    {
+        let Declaration { name, sig } = self;
+        let sig = resolve(alloc, format, sig)?;
+        Ok(Declaration { name, sig })
     }
 
     /// The function's name.

@@ -23,7 +23,7 @@ mod words;
 
 /// Whether a byte is a blank between tokens.
 pub use bytes::is_blank;
-pub use decl::{read_decl, read_wide_decl};
+pub use decl::{read_decl, read_decl_everywhere, read_decl_for, read_wide_decl};
 pub use declaration::Declaration;
 pub use fault::DeclFault;
 /// A want of memory: the one answer that no clause ties to a cause.

@@ -1,12 +1,17 @@
 // The machine on its way over the tokens, and what it comes to.
-ghost use Rattle.std.specs.Prelude.{◌≡◌, IfOk};
+ghost use Rattle.std.specs.Prelude.{◌≡◌, IfOk, option_map};
 ghost use Rattle.ffi3_cdecl_rules.specs.Machine.{finish, is_dead, judged, closing, settled};
 ghost use Rattle.ffi3_cdecl_rules.specs.Reading.{is_too_great};
 ghost use Rattle.ffi3_cdecl_rules.specs.OnePass.{keeping, kept, taking, new_pass};
+ghost use Rattle.ffi3_type_rules.specs.FirstFault.{first_fault_for};
+ghost use Rattle.ffi3_type_rules.specs.Signature.{for_places};
+ghost use Rattle.ffi3_types.specs.SignatureFaultOf.{signature_fault_of};
+ghost use Rattle.ffi3_format_rules.specs.Format.{resolved_signature};
+ghost use Rattle.ffi3_cdecl.specs.ReadingFor.{judged_for, every_format, first_fault_by, judged_everywhere};
 ghost use Rattle.ffi3_cdecl.specs.TokenOf.{dialect_of, token_of};
 ghost use Rattle.ffi3_cdecl.specs.RoundOf.{round_of};
 ghost use Rattle.ffi3_cdecl.specs.StateOf.{settled_of, state_of, wide_of};
-ghost use Rattle.ffi3_cdecl.specs.PassOf.{pass_of, outcome_of, outcome_behind};
+ghost use Rattle.ffi3_cdecl.specs.PassOf.{pass_of, outcome_of, judged_by, outcome_behind, unjudged_behind};
 
 use crate::declaration::Declaration;
 use crate::declarator::{
@@ -27,7 +32,8 @@ use crate::step::{
 };
 use crate::token::{Dialect, Token};
 use crate::words::{step_struct_tag, step_tag, step_wide_dots, step_words};
-use ffi3_types::{NoMemory, SigFault, check_sig};
+use ffi3_format::{Format, resolve};
+use ffi3_types::{NoMemory, Sig, SigFault, check_placed, check_sig};
 use std::alloc::Global;
 use std::mem;
 
@@ -181,6 +187,92 @@ fn judged(d: Declaration) -> Outcome
     }
 }
 
+/// The same where long doubles have a format, if its signature can be placed.
+#[tactic(auto, using(crate::proofs::Judging::placed_is_judged, crate::proofs::Judging::placing_fault_is_judged))]
+fn judged_for(alloc: Global, format: Format, d: Declaration) -> Result<Outcome, NoMemory>
+    ensures { IfOk result (λ o. outcome_of o ≡ judged_for format d) }
+{
+    let d = d.resolved(alloc, format)?;
+    Ok(match check_placed(d.sig()) {
+        Ok(()) => Outcome::Reads(d),
+        Err(fault) => Outcome::BadSignature(fault),
+    })
+}
+
+/// The first fault of a signature whose long doubles have a format, in places.
+#[tactic(auto, using(crate::proofs::Judging::none_found, crate::proofs::Judging::found_first))]
+fn fault_for(alloc: Global, format: Format, sig: &Sig) -> Result<Option<SigFault>, NoMemory>
+    ensures { IfOk result (λ f. option_map signature_fault_of f ≡ first_fault_for for_places (resolved_signature format sig.now)) }
+{
+    let resolved = resolve(alloc, format, sig.copy(alloc)?)?;
+    Ok(match check_placed(&resolved) {
+        Ok(()) => None,
+        Err(fault) => Some(fault),
+    })
+}
+
+/// That by the first format by which there is any.
+fn fault_by_any(alloc: Global, sig: &Sig) -> Result<Option<SigFault>, NoMemory>
+    ensures { IfOk result (λ f. option_map signature_fault_of f ≡ first_fault_by every_format sig.now) }
+{
+    if let Some(fault) = fault_for(alloc, Format::X87, sig)? {
+        return Ok(Some(fault));
+    }
+    if let Some(fault) = fault_for(alloc, Format::Binary128, sig)? {
+        return Ok(Some(fault));
+    }
+    fault_for(alloc, Format::Double, sig)
+}
+
+/// A declaration as it is written, if its signature can be placed whatever format long doubles have.
+fn judged_everywhere(alloc: Global, d: Declaration) -> Result<Outcome, NoMemory>
+    ensures { IfOk result (λ o. outcome_of o ≡ judged_everywhere d) }
+{
+    match fault_by_any(alloc, d.sig())? {
+        None => Ok(Outcome::Reads(d)),
+        Some(fault) => Ok(Outcome::BadSignature(fault)),
+    }
+}
+
+/// An outcome whose declaration is judged so.
+pub fn outcome_for(alloc: Global, format: Format, o: Outcome) -> Result<Outcome, NoMemory>
+    ensures { IfOk result (λ r. outcome_of r ≡ judged_by (judged_for format) (outcome_of o)) }
+{
+    match o {
+        Outcome::Reads(d) => judged_for(alloc, format, d),
+        Outcome::BadToken(at) => Ok(Outcome::BadToken(at)),
+        Outcome::Unexpected(at) => Ok(Outcome::Unexpected(at)),
+        Outcome::BadNumber(at) => Ok(Outcome::BadNumber(at)),
+        Outcome::BadSignature(fault) => Ok(Outcome::BadSignature(fault)),
+    }
+}
+
+/// One whose declaration is judged by each format.
+pub fn outcome_everywhere(alloc: Global, o: Outcome) -> Result<Outcome, NoMemory>
+    ensures { IfOk result (λ r. outcome_of r ≡ judged_by judged_everywhere (outcome_of o)) }
+{
+    match o {
+        Outcome::Reads(d) => judged_everywhere(alloc, d),
+        Outcome::BadToken(at) => Ok(Outcome::BadToken(at)),
+        Outcome::Unexpected(at) => Ok(Outcome::Unexpected(at)),
+        Outcome::BadNumber(at) => Ok(Outcome::BadNumber(at)),
+        Outcome::BadSignature(fault) => Ok(Outcome::BadSignature(fault)),
+    }
+}
+
+/// One whose declaration is judged for calls.
+fn outcome_judged(o: Outcome) -> Outcome
+    ensures { outcome_of result ≡ judged_by judged (outcome_of o) }
+{
+    match o {
+        Outcome::Reads(d) => judged(d),
+        Outcome::BadToken(at) => Outcome::BadToken(at),
+        Outcome::Unexpected(at) => Outcome::Unexpected(at),
+        Outcome::BadNumber(at) => Outcome::BadNumber(at),
+        Outcome::BadSignature(fault) => Outcome::BadSignature(fault),
+    }
+}
+
 /// What is declared behind the function's parameters, where no bracket is open.
 #[tactic(auto, using(crate::proofs::Settling::finish_none, crate::proofs::Settling::finish_some, crate::proofs::Settling::finish_star_none, crate::proofs::Settling::finish_star_outside, crate::proofs::Settling::finish_star_inside))]
 fn finished_closing(o: Round, d: Declaration) -> Option<Declaration>
@@ -241,9 +333,9 @@ pub fn finished(state: State) -> Option<Declaration>
     }
 }
 
-/// Behind a pass that stopped there, or at the end of the text.
-pub fn outcome_at(pass: Pass, stop: Option<usize>, end: usize) -> Outcome
-    ensures { outcome_of result ≡ outcome_behind stop end (pass_of pass) }
+/// Behind a pass that stopped there, or at the end of the text: what its text declares is not judged.
+pub fn unjudged_at(pass: Pass, stop: Option<usize>, end: usize) -> Outcome
+    ensures { outcome_of result ≡ unjudged_behind stop end (pass_of pass) }
 {
     let Pass { state, died, great } = pass;
     let declared = finished(state);
@@ -253,8 +345,16 @@ pub fn outcome_at(pass: Pass, stop: Option<usize>, end: usize) -> Outcome
     match declared {
         Some(d) => match great {
             Some(at) => Outcome::BadNumber(at),
-            None => judged(d),
+            None => Outcome::Reads(d),
         },
         None => Outcome::Unexpected(died.unwrap_or(end)),
     }
+}
+
+/// Behind a pass that stopped there, or at the end of the text.
+#[tactic(auto, using(crate::proofs::Passes::behind_judged))]
+pub fn outcome_at(pass: Pass, stop: Option<usize>, end: usize) -> Outcome
+    ensures { outcome_of result ≡ outcome_behind stop end (pass_of pass) }
+{
+    outcome_judged(unjudged_at(pass, stop, end))
 }

@@ -1,9 +1,9 @@
 // The canonical text of a declaration.
 ghost use Rattle.std.specs.Prelude.{◌≡◌, ◌<◌, ◌≤◌, ◌++◌, ◌∷◌, ℕ, length, slice_range, Some, OnOk, IfOk};
-ghost use Rattle.ffi3_type_rules.specs.Tree.{trees_of};
+ghost use Rattle.ffi3_type_rules.specs.Tree.{double, trees_of};
 ghost use Rattle.ffi3_type_rules.specs.Signature.{SignatureHasNoFault};
 ghost use Rattle.ffi3_types.specs.TreeOf.{tree_of};
-ghost use Rattle.ffi3_cdecl_rules.specs.Tokens.{open_square, number, close_square, comma, semicolon};
+ghost use Rattle.ffi3_cdecl_rules.specs.Tokens.{long_word, type_word, open_square, number, close_square, comma, semicolon};
 ghost use Rattle.ffi3_cdecl_rules.specs.Canonical.{hugs, holds, spelled, scalar_word, count_tokens, first_count_tokens, member_name, type_tokens, first_type_tokens, member_tokens, end_tokens, parameter_tokens, declaration_text, FixesAll, IsIdentifier};
 ghost use Rattle.ffi3_cdecl_rules.specs.Prototype.{behind_commas, fixed_tokens, prototype_text};
 ghost use Rattle.ffi3_cdecl_rules.specs.Reading.{IsReading, reads};
@@ -133,6 +133,13 @@ impl Writer {
         self.put(alloc, second)
     }
 
+    /// A long double, whose format is left to the target.
+    fn put_long_double(&mut self, alloc: Global) -> Result<(), NoMemory>
+        ensures { OnOk result (Wrote self.old self.new (λ rest. long_word ∷ type_word double ∷ rest)) }
+    {
+        self.put_two(alloc, Token::Long, Token::Type(TypeWord::Double))
+    }
+
     /// One count of an array.
     fn put_count(&mut self, alloc: Global, count: u32) -> Result<(), NoMemory>
         ensures { OnOk result (Wrote self.old self.new (λ rest. open_square ∷ number count ∷ close_square ∷ rest)) }
@@ -192,7 +199,13 @@ impl Writer {
                 self.put(alloc, Token::CloseCurly)
             }
             FfiType::Array(fields, _) => self.put_first_type(alloc, fields),
-            FfiType::LongDouble | FfiType::Complex | FfiType::Vector => Ok(()),
+            FfiType::LongDouble => self.put_long_double(alloc),
+            FfiType::Complex => {
+                self.put_long_double(alloc)?;
+                self.put(alloc, Token::Complex)
+            }
+            FfiType::Vector => Ok(()),
+            FfiType::X87 | FfiType::Binary128 => Ok(()),
         }
     }
 
@@ -334,9 +347,10 @@ pub fn decl_text(alloc: Global, sig: &Sig, name: &[u8]) -> Result<Bytes, NoMemor
 }
 
 /// The canonical text of a prototype, as `int32_t f(void *, ..., double);`: that of a declaration, with the types that a
-/// call passes behind the dots. Where none stand there it is `decl_text`'s.
+/// call passes behind the dots. Where none stand there it is `decl_text`'s. A long double is written as such, where it has no
+/// format yet.
 pub fn prototype_text(alloc: Global, sig: &Sig, name: &[u8]) -> Result<Bytes, NoMemory>
-    requires { SignatureHasNoFault sig.now }
+    requires { (n : ℕ) → sig.now.fixed ≡ Some n → (0 < n) × (n ≤ length sig.now.arguments) }
     ensures { IfOk result (λ text. text ≡ prototype_text name.now sig.now) }
 {
     let mut writer = Writer {

@@ -41,13 +41,13 @@ pub mapped_none : {A B : Type 0} (f : A → B) (x : Option A) → option_map f x
 mapped_none f None e = refl
 mapped_none f (Some a) e = absurd (cc)
 
-some_none : (f : Found) → Some f ≡ None → ⊥
+pub some_none : (f : Found) → Some f ≡ None → ⊥
 some_none f e = cc
 
-if_same : (b : Bool) (x y : Option Found) (other : Found) → x ≡ y → cond b x (Some other) ≡ cond b y (Some other)
+pub if_same : (b : Bool) (x y : Option Found) (other : Found) → x ≡ y → cond b x (Some other) ≡ cond b y (Some other)
 if_same b x y other e = ap (λ z. cond b z (Some other)) e
 
-if_none : (b : Bool) (x : Option Found) (other : Found) → cond b x (Some other) ≡ None → x ≡ None
+pub if_none : (b : Bool) (x : Option Found) (other : Found) → cond b x (Some other) ≡ None → x ≡ None
 if_none true x other e = e
 if_none false x other e = absurd (cc)
 
@@ -101,7 +101,7 @@ abbrev found_of : Role → ℕ → ℕ → Tree → Option Found
 found_of role n outer t =
     cond (takes role (array_of t n) && not (is_zero n)) (or_else (found_in outer t) (fault_of_size (size_of (array_of t n)))) (Some ([], bad_typedef))
 
-array_fault_is : (n : ℕ) (t : Tree) (outer : ℕ) (role : Role) → first_fault outer role (array_of t n) ≡ cond (nat_lt outer DEEPEST_NESTING) (found_of role n outer t) (Some ([], too_deep))
+pub array_fault_is : (n : ℕ) (t : Tree) (outer : ℕ) (role : Role) → first_fault outer role (array_of t n) ≡ cond (nat_lt outer DEEPEST_NESTING) (found_of role n outer t) (Some ([], too_deep))
 array_fault_is zero t outer role = refl
 array_fault_is (suc n) t outer role = refl
 
@@ -109,7 +109,7 @@ none_in : (outer : ℕ) (t : Tree) → found_in outer t ≡ None → first_fault
 none_in outer t e =
     mapped_none (inside_element 0) (first_fault (outer + 1) AsElement t) (or_else_none _ None e).0
 
-none_of : (role : Role) (n outer : ℕ) (t : Tree) → found_of role n outer t ≡ None → first_fault (outer + 1) AsElement t ≡ None
+pub none_of : (role : Role) (n outer : ℕ) (t : Tree) → found_of role n outer t ≡ None → first_fault (outer + 1) AsElement t ≡ None
 none_of role n outer t e =
     none_in outer t (or_else_none (found_in outer t) (fault_of_size (size_of (array_of t n))) (if_none (takes role (array_of t n) && not (is_zero n)) _ ([], bad_typedef) e)).0
 
@@ -146,7 +146,7 @@ takes_same : (role : Role) (n k : ℕ) (t u : Tree) → first_fault k AsElement 
 takes_same role n k t u e same =
     ap (λ b. takes_array role || (takes_complex role && b)) (complex_same n k t u e same)
 
-of_same : (role : Role) (n outer : ℕ) (t u : Tree) → first_fault (outer + 1) AsElement t ≡ first_fault (outer + 1) AsElement u → (first_fault (outer + 1) AsElement t ≡ None → t ≡ u) → found_of role n outer t ≡ found_of role n outer u
+pub of_same : (role : Role) (n outer : ℕ) (t u : Tree) → first_fault (outer + 1) AsElement t ≡ first_fault (outer + 1) AsElement u → (first_fault (outer + 1) AsElement t ≡ None → t ≡ u) → found_of role n outer t ≡ found_of role n outer u
 of_same role n outer t u e same =
     ap (λ b. cond (b && not (is_zero n)) (or_else (found_in outer t) (fault_of_size (size_of (array_of t n)))) (Some ([], bad_typedef))) (takes_same role n (outer + 1) t u e same)
     ∙ if_same (takes role (array_of u n) && not (is_zero n)) (or_else (found_in outer t) (fault_of_size (size_of (array_of t n)))) (or_else (found_in outer u) (fault_of_size (size_of (array_of u n)))) ([], bad_typedef) (or_else_same (found_in outer t) (found_in outer u) (fault_of_size (size_of (array_of t n))) (fault_of_size (size_of (array_of u n))) (ap (λ f. or_else (option_map (inside_element 0) f) None) e) (λ none. ap (λ v. fault_of_size (size_of (array_of v n))) (same (none_in outer t none))))
@@ -178,7 +178,7 @@ no_level : (t u : Tree) → AlikeDeep 0 t u
 no_level t u =
     record { same_deep = λ outer role some far. absurd (omega arith); is_deep = λ outer role some far e. omega arith }
 
-too_deep_some : (outer : ℕ) (f : Option Found) → DEEPEST_NESTING ≤ outer → cond (nat_lt outer DEEPEST_NESTING) f (Some ([], too_deep)) ≡ Some ([], too_deep)
+pub too_deep_some : (outer : ℕ) (f : Option Found) → DEEPEST_NESTING ≤ outer → cond (nat_lt outer DEEPEST_NESTING) f (Some ([], too_deep)) ≡ Some ([], too_deep)
 too_deep_some outer f deep =
     ap (λ b. cond b f (Some ([], too_deep))) (le-ltb outer DEEPEST_NESTING deep)
 

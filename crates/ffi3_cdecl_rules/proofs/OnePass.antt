@@ -13,7 +13,7 @@ use Rattle.ffi3_cdecl_rules.proofs.Kept.{TakenToken, results, SameState, both_wa
 use Rattle.ffi3_cdecl_rules.proofs.Judged.{IsSmall, AlikeDeclarations, judged_same}
 
 module _ (r : Dialect) (c : Sign) where
-  abbrev all_taken : Pass → List Placed → Pass
+  abbrev pub all_taken : Pass → List Placed → Pass
   all_taken p [] = p
   all_taken p (t ∷ ts) = all_taken (taking r p t.at t.token) ts
 
@@ -42,32 +42,32 @@ module _ (r : Dialect) (c : Sign) where
   -- ---- the pass over the tokens is the machine, but for types that are alike
 
   -- whatever types and counts are
-  abbrev Any : ℕ → Type 0
+  abbrev pub Any : ℕ → Type 0
   Any n = ⊤
 
-  abbrev AnyTypes : Tree → Tree → Type 0
+  abbrev pub AnyTypes : Tree → Tree → Type 0
   AnyTypes t u = ⊤
 
-  abbrev AnyCounts : List ℕ → List ℕ → Type 0
+  abbrev pub AnyCounts : List ℕ → List ℕ → Type 0
   AnyCounts ns ms = ⊤
 
   any_taken : (t : Token) → TakenToken Any t
   any_taken (number n) = tt
   any_taken x = tt
 
-  abbrev SomeStates : State → State → Type 0
+  abbrev pub SomeStates : State → State → Type 0
   SomeStates s t = SameState Any AnyTypes AnyCounts s t
 
   some_step : {s t : State} → SomeStates s t → (x : Token) → SomeStates (step r s x) (keeping r t x)
   some_step h x =
       step_same Any AnyTypes AnyCounts (λ t. tt) (λ ts us all. tt) tt (λ n ns ms taken same. tt) (λ ns ms t u c same. tt) r h x (any_taken x)
 
-  some_states : (p : Pass) (s : State) (ts : List Placed) → SomeStates s p.state → SomeStates (after r s (tokens_of ts)) (all_taken p ts).state
+  pub some_states : (p : Pass) (s : State) (ts : List Placed) → SomeStates s p.state → SomeStates (after r s (tokens_of ts)) (all_taken p ts).state
   some_states p s [] h = h
   some_states p s (t ∷ ts) h =
       some_states (taking r p t.at t.token) (step r s t.token) ts (some_step h t.token)
 
-  abbrev AllSmall : List Placed → Type 0
+  abbrev pub AllSmall : List Placed → Type 0
   AllSmall [] = ⊤
   AllSmall (p ∷ ps) = TakenToken IsSmall p.token × AllSmall ps
 
@@ -79,7 +79,7 @@ module _ (r : Dialect) (c : Sign) where
   small_first true at more none e first rest = absurd (cc)
   small_first false at more none e first rest = (first e, rest none)
 
-  all_small : (ps : List Placed) → first_too_great ps ≡ None → AllSmall ps
+  pub all_small : (ps : List Placed) → first_too_great ps ≡ None → AllSmall ps
   all_small [] e = tt
   all_small (p ∷ ps) e =
       small_first (is_too_great p.token) p.at (first_too_great ps) e refl (λ f. small_token p.token f) (λ none. all_small ps none)
@@ -105,7 +105,7 @@ module _ (r : Dialect) (c : Sign) where
   or_at-none (Some n) = refl
   or_at-none None = refl
 
-  great_is : (p : Pass) (ts : List Placed) → (all_taken p ts).great ≡ or_at p.great (first_too_great ts)
+  pub great_is : (p : Pass) (ts : List Placed) → (all_taken p ts).great ≡ or_at p.great (first_too_great ts)
   great_is p [] = or_at-none p.great
   great_is p (t ∷ ts) =
       great_is (taking r p t.at t.token) ts ∙ or_at-kept p.great (is_too_great t.token) t.at (first_too_great ts)
@@ -123,7 +123,7 @@ module _ (r : Dialect) (c : Sign) where
   died_at-end (Some n) end = refl
   died_at-end None end = refl
 
-  died_is : (end : ℕ) (p : Pass) (s : State) (ts : List Placed) → SomeStates s p.state → unwrap_or (all_taken p ts).died end ≡ died_at p.died (first_dead r end s ts)
+  pub died_is : (end : ℕ) (p : Pass) (s : State) (ts : List Placed) → SomeStates s p.state → unwrap_or (all_taken p ts).died end ≡ died_at p.died (first_dead r end s ts)
   died_is end p s [] h = died_at-end p.died end
   died_is end p s (t ∷ ts) h =
       let same : SomeStates (step r s t.token) (keeping r p.state t.token) = some_step h t.token in

@@ -3,11 +3,11 @@ use Rattle.std.proofs.Common.{◌≡◌, ◌∙◌, ◌⊎◌, ◌<◌, ◌≤�
 use Rattle.std.specs.Prelude.{take, is_some}
 use Rattle.std.proofs.lemmas.Bool.{cases_lt}
 use Rattle.std.proofs.lemmas.List.{take-append-drop, length-take-le, take_all}
-use Rattle.ffi3_type_rules.specs.Tree.{Scalar, u8, s8, u16, s16, u32, s32, u64, s64, u128, s128, float, double, pointer, x87, binary128, Tree, Trees, void, scalar, left_out, structure, array, no_trees, tree}
+use Rattle.ffi3_type_rules.specs.Tree.{Scalar, u8, s8, u16, s16, u32, s32, u64, s64, u128, s128, float, double, pointer, x87, binary128, Tree, Trees, void, scalar, left_out, LeftOutKind, long_double, complex, vector, structure, array, no_trees, tree}
 use Rattle.ffi3_type_rules.specs.Signature.{Signature, SignatureHasNoFault, bad_fixed, fixed_outside}
 use Rattle.ffi3_cdecl_rules.specs.Tokens.{wide, Sign, Token, name, open_round, close_round, close_curly, comma, semicolon, dots, cut_from, tokens}
 use Rattle.ffi3_cdecl_rules.specs.Grammar.{opens_round, IsParameter, without_name, IsParameters, last_parameter, last_before_dots, before_types, next_parameter, IsParameterList, some_parameters, one_semicolon, Declaration, IsDeclarationIn}
-use Rattle.ffi3_cdecl_rules.specs.Canonical.{scalar_tokens, count_tokens, first_count_tokens, member_name, type_tokens, first_type_tokens, member_tokens, more_parameter_tokens, parameter_tokens, declaration_text, IsIdentifier, FixesAll, text_of}
+use Rattle.ffi3_cdecl_rules.specs.Canonical.{left_out_tokens, scalar_tokens, count_tokens, first_count_tokens, member_name, type_tokens, first_type_tokens, member_tokens, more_parameter_tokens, parameter_tokens, declaration_text, IsIdentifier, FixesAll, text_of}
 use Rattle.ffi3_cdecl_rules.specs.Reading.{tokens_of, IsReadingIn, reads, is_read, StaysName, NamesStay}
 use Rattle.ffi3_cdecl_rules.specs.Prototype.{behind_commas, between_commas, fixed_tokens, prototype_tokens, prototype_text}
 use Rattle.ffi3_cdecl_rules.proofs.Spellable.{AreSpellableValues, IsSpellableValue, MayBeVariadic, spellable_result, spellable_arguments}
@@ -82,11 +82,16 @@ mutual
   first_counts_stay no_trees rest h = h
   first_counts_stay (tree t ts) rest h = counts_stay t rest h
 
+left_out_stays : (k : LeftOutKind) (rest : List Token) → NamesStay rest → NamesStay (left_out_tokens k rest)
+left_out_stays long_double rest h = (tt, (tt, h))
+left_out_stays complex rest h = (tt, (tt, (tt, h)))
+left_out_stays vector rest h = h
+
 mutual
   type_stays : (t : Tree) (rest : List Token) → NamesStay rest → NamesStay (type_tokens t rest)
   type_stays void rest h = (tt, h)
   type_stays (scalar s) rest h = scalar_stays s rest h
-  type_stays (left_out k) rest h = h
+  type_stays (left_out k) rest h = left_out_stays k rest h
   type_stays (structure ts) rest h =
       (tt, (tt, members_stay 0 ts (close_curly ∷ rest) (tt, h)))
   type_stays (array ts n) rest h = first_type_stays ts rest h

@@ -12,7 +12,7 @@ use Rattle.ffi3_cdecl_rules.specs.Grammar.{Declaration}
 use Rattle.ffi3_cdecl_rules.specs.Machine.{read_in}
 use Rattle.ffi3_cdecl_rules.specs.Canonical.{FixesAll}
 use Rattle.ffi3_cdecl_rules.specs.Reading.{Outcome, reads, bad_token, unexpected, bad_number, bad_signature, IsReadingIn, IsReading}
-use Rattle.ffi3_cdecl_rules.specs.Prototype.{Prototype, read_as, sign_unsaid, first_other, IsFault, IsPrototype, reads_alike, reads_by_sign, has_fault, has_fault_unsigned, prototype_text, PrototypeLaws}
+use Rattle.ffi3_cdecl_rules.specs.Prototype.{Prototype, read_as, sign_unsaid, first_other, IsFault, IsPrototypeBy, IsPrototype, reads_alike, reads_by_sign, has_fault, has_fault_unsigned, prototype_text, PrototypeLaws}
 use Rattle.ffi3_cdecl_rules.proofs.Readings.{reading_in, one_reading_in}
 use Rattle.ffi3_cdecl_rules.proofs.SpokenTexts.{text_reads}
 use Rattle.ffi3_cdecl_rules.proofs.WideNames.{wide_identifier, wide_name_stays, wide_right}
@@ -77,104 +77,113 @@ no_function (unexpected at) = inr (λ d e. cc)
 no_function (bad_number at) = inr (λ d e. cc)
 no_function (bad_signature f) = inr (λ d e. cc)
 
-pub alike_by : (text : List ℕ) (d : Declaration) → IsReadingIn wide signed text (reads d) → IsReadingIn wide unsigned text (reads d) → (c : Sign) → IsReadingIn wide c text (reads d)
-alike_by text d p q signed = p
-alike_by text d p q unsigned = q
+pub alike_by : (IsRead : Sign → Outcome → Type 0) (d : Declaration) → IsRead signed (reads d) → IsRead unsigned (reads d) → (c : Sign) → IsRead c (reads d)
+alike_by IsRead d p q signed = p
+alike_by IsRead d p q unsigned = q
 
-module _ (text : List ℕ) where
+-- of two readings that each have one outcome, which is computed
+module _ (IsRead : Sign → Outcome → Type 0) (read : Sign → Outcome) (reading : (c : Sign) → IsRead c (read c)) (one_reading : (c : Sign) (o : Outcome) → IsRead c o → o ≡ read c) where
   abbrev Some' : Type 0
-  Some' = (p : Prototype) × IsPrototype text p
+  Some' = (p : Prototype) × IsPrototypeBy IsRead p
 
-  by_both : (d e : Declaration) → IsReadingIn wide signed text (reads d) → IsReadingIn wide unsigned text (reads e) → (d ≡ e) ⊎ ¬ (d ≡ e) → Some'
+  by_both : (d e : Declaration) → IsRead signed (reads d) → IsRead unsigned (reads e) → (d ≡ e) ⊎ ¬ (d ≡ e) → Some'
   by_both d e p q (inl same) =
-      (read_as (reads d), reads_alike (alike_by text d p (subst (λ x. IsReadingIn wide unsigned text (reads x)) (sym same) q)))
+      (read_as (reads d), reads_alike (alike_by IsRead d p (subst (λ x. IsRead unsigned (reads x)) (sym same) q)))
   by_both d e p q (inr other) =
       (sign_unsaid (first_other d.signature e.signature), reads_by_sign p q other)
 
-  by_unsigned : (d : Declaration) (o : Outcome) → IsReadingIn wide signed text (reads d) → IsReadingIn wide unsigned text o → ((e : Declaration) × (o ≡ reads e)) ⊎ IsFault o → Some'
+  by_unsigned : (d : Declaration) (o : Outcome) → IsRead signed (reads d) → IsRead unsigned o → ((e : Declaration) × (o ≡ reads e)) ⊎ IsFault o → Some'
   by_unsigned d o p q (inl (e, is)) =
-      by_both d e p (subst (λ x. IsReadingIn wide unsigned text x) is q) (same_or_not d e)
+      by_both d e p (subst (λ x. IsRead unsigned x) is q) (same_or_not d e)
   by_unsigned d o p q (inr fault) =
       (read_as o, has_fault_unsigned p q fault)
 
-  by_signed : (o : Outcome) → IsReadingIn wide signed text o → ((d : Declaration) × (o ≡ reads d)) ⊎ IsFault o → Some'
+  by_signed : (o : Outcome) → IsRead signed o → ((d : Declaration) × (o ≡ reads d)) ⊎ IsFault o → Some'
   by_signed o p (inl (d, is)) =
-      by_unsigned d (read_in wide unsigned text) (subst (λ x. IsReadingIn wide signed text x) is p) (reading_in wide unsigned text) (no_function (read_in wide unsigned text))
+      by_unsigned d (read unsigned) (subst (λ x. IsRead signed x) is p) (reading unsigned) (no_function (read unsigned))
   by_signed o p (inr fault) = (read_as o, has_fault p fault)
 
-  pub some_prototype : (p : Prototype) × IsPrototype text p
-  some_prototype =
-      by_signed (read_in wide signed text) (reading_in wide signed text) (no_function (read_in wide signed text))
+  pub some_prototype_by : (p : Prototype) × IsPrototypeBy IsRead p
+  some_prototype_by =
+      by_signed (read signed) (reading signed) (no_function (read signed))
 
-  same_read : (c : Sign) (o q : Outcome) → IsReadingIn wide c text o → IsReadingIn wide c text q → o ≡ q
+  same_read : (c : Sign) (o q : Outcome) → IsRead c o → IsRead c q → o ≡ q
   same_read c o q p r =
-      one_reading_in wide c text o p ∙ sym (one_reading_in wide c text q r)
+      one_reading c o p ∙ sym (one_reading c q r)
 
   reads_same : (d e : Declaration) → reads d ≡ reads e → d ≡ e
   reads_same d e h = cc
 
-  pub one_prototype : (p q : Prototype) → IsPrototype text p → IsPrototype text q → p ≡ q
-  one_prototype _ _ (reads_alike {d = d} p) (reads_alike {d = e} q) =
+  pub one_prototype_by : (p q : Prototype) → IsPrototypeBy IsRead p → IsPrototypeBy IsRead q → p ≡ q
+  one_prototype_by _ _ (reads_alike {d = d} p) (reads_alike {d = e} q) =
       ap read_as (same_read signed (reads d) (reads e) (p signed) (q signed))
-  one_prototype _ _ (reads_alike {d = d} p) (reads_by_sign {d = e} {e = f} q r other) =
+  one_prototype_by _ _ (reads_alike {d = d} p) (reads_by_sign {d = e} {e = f} q r other) =
       absurd (other (reads_same e f (same_read signed (reads e) (reads d) q (p signed) ∙ same_read unsigned (reads d) (reads f) (p unsigned) r)))
-  one_prototype _ _ (reads_alike {d = d} p) (has_fault {o = o} q fault) =
+  one_prototype_by _ _ (reads_alike {d = d} p) (has_fault {o = o} q fault) =
       absurd (fault d (same_read signed o (reads d) q (p signed)))
-  one_prototype _ _ (reads_alike {d = d} p) (has_fault_unsigned {o = o} q r fault) =
+  one_prototype_by _ _ (reads_alike {d = d} p) (has_fault_unsigned {o = o} q r fault) =
       absurd (fault d (same_read unsigned o (reads d) r (p unsigned)))
-  one_prototype _ _ (reads_by_sign {d = e} {e = f} q r other) (reads_alike {d = d} p) =
+  one_prototype_by _ _ (reads_by_sign {d = e} {e = f} q r other) (reads_alike {d = d} p) =
       absurd (other (reads_same e f (same_read signed (reads e) (reads d) q (p signed) ∙ same_read unsigned (reads d) (reads f) (p unsigned) r)))
-  one_prototype _ _ (reads_by_sign {d = d} {e = e} p q other) (reads_by_sign {d = f} {e = g} r s others) =
+  one_prototype_by _ _ (reads_by_sign {d = d} {e = e} p q other) (reads_by_sign {d = f} {e = g} r s others) =
       let a = reads_same d f (same_read signed (reads d) (reads f) p r) in
       let b = reads_same e g (same_read unsigned (reads e) (reads g) q s) in
       λ i. sign_unsaid (first_other (a i).signature (b i).signature)
-  one_prototype _ _ (reads_by_sign {d = d} p q other) (has_fault {o = o} r fault) =
+  one_prototype_by _ _ (reads_by_sign {d = d} p q other) (has_fault {o = o} r fault) =
       absurd (fault d (same_read signed o (reads d) r p))
-  one_prototype _ _ (reads_by_sign {e = e} p q other) (has_fault_unsigned {o = o} r s fault) =
+  one_prototype_by _ _ (reads_by_sign {e = e} p q other) (has_fault_unsigned {o = o} r s fault) =
       absurd (fault e (same_read unsigned o (reads e) s q))
-  one_prototype _ _ (has_fault {o = o} q fault) (reads_alike {d = d} p) =
+  one_prototype_by _ _ (has_fault {o = o} q fault) (reads_alike {d = d} p) =
       absurd (fault d (same_read signed o (reads d) q (p signed)))
-  one_prototype _ _ (has_fault {o = o} r fault) (reads_by_sign {d = d} p q other) =
+  one_prototype_by _ _ (has_fault {o = o} r fault) (reads_by_sign {d = d} p q other) =
       absurd (fault d (same_read signed o (reads d) r p))
-  one_prototype _ _ (has_fault {o = o} p fault) (has_fault {o = q} r other) =
+  one_prototype_by _ _ (has_fault {o = o} p fault) (has_fault {o = q} r other) =
       ap read_as (same_read signed o q p r)
-  one_prototype _ _ (has_fault {o = o} p fault) (has_fault_unsigned {d = d} r s other) =
+  one_prototype_by _ _ (has_fault {o = o} p fault) (has_fault_unsigned {d = d} r s other) =
       absurd (fault d (same_read signed o (reads d) p r))
-  one_prototype _ _ (has_fault_unsigned {o = o} q r fault) (reads_alike {d = d} p) =
+  one_prototype_by _ _ (has_fault_unsigned {o = o} q r fault) (reads_alike {d = d} p) =
       absurd (fault d (same_read unsigned o (reads d) r (p unsigned)))
-  one_prototype _ _ (has_fault_unsigned {o = o} r s fault) (reads_by_sign {e = e} p q other) =
+  one_prototype_by _ _ (has_fault_unsigned {o = o} r s fault) (reads_by_sign {e = e} p q other) =
       absurd (fault e (same_read unsigned o (reads e) s q))
-  one_prototype _ _ (has_fault_unsigned {d = d} r s other) (has_fault {o = o} p fault) =
+  one_prototype_by _ _ (has_fault_unsigned {d = d} r s other) (has_fault {o = o} p fault) =
       absurd (fault d (same_read signed o (reads d) p r))
-  one_prototype _ _ (has_fault_unsigned {o = o} p q fault) (has_fault_unsigned {o = x} r s other) =
+  one_prototype_by _ _ (has_fault_unsigned {o = o} p q fault) (has_fault_unsigned {o = x} r s other) =
       ap read_as (same_read unsigned o x q s)
 
 -- what is read, is read whether `char` is signed or not
-pub read_either : (text : List ℕ) (d : Declaration) → IsPrototype text (read_as (reads d)) → (c : Sign) → IsReadingIn wide c text (reads d)
-read_either text d p = reads_of (read_as (reads d)) p refl
+pub read_either : (IsRead : Sign → Outcome → Type 0) (d : Declaration) → IsPrototypeBy IsRead (read_as (reads d)) → (c : Sign) → IsRead c (reads d)
+read_either IsRead d p = reads_of (read_as (reads d)) p refl
   where
     same_outcome : (o : Outcome) → read_as o ≡ read_as (reads d) → o ≡ reads d
     same_outcome o e = cc
 
-    reads_of : (q : Prototype) → IsPrototype text q → q ≡ read_as (reads d) → (c : Sign) → IsReadingIn wide c text (reads d)
+    reads_of : (q : Prototype) → IsPrototypeBy IsRead q → q ≡ read_as (reads d) → (c : Sign) → IsRead c (reads d)
     reads_of _ (reads_alike {d = e} p) is =
-        λ c. subst (λ o. IsReadingIn wide c text o) (same_outcome (reads e) is) (p c)
+        λ c. subst (λ o. IsRead c o) (same_outcome (reads e) is) (p c)
     reads_of _ (reads_by_sign p q other) is = λ c. absurd (cc)
     reads_of _ (has_fault {o = o} p fault) is =
         absurd (fault d (same_outcome o is))
     reads_of _ (has_fault_unsigned {o = o} p q fault) is =
         absurd (fault d (same_outcome o is))
 
+pub some_prototype : (text : List ℕ) → (p : Prototype) × IsPrototype text p
+some_prototype text =
+    some_prototype_by (λ c o. IsReadingIn wide c text o) (λ c. read_in wide c text) (λ c. reading_in wide c text) (λ c o is. one_reading_in wide c text o is)
+
+pub one_prototype : (text : List ℕ) (p q : Prototype) → IsPrototype text p → IsPrototype text q → p ≡ q
+one_prototype text =
+    one_prototype_by (λ c o. IsReadingIn wide c text o) (λ c. read_in wide c text) (λ c. reading_in wide c text) (λ c o is. one_reading_in wide c text o is)
+
 -- ---- and is written again
 
 written_again : (text : List ℕ) (d : Declaration) → IsPrototype text (read_as (reads d)) → IsPrototype (prototype_text d.called d.signature) (read_as (reads d))
 written_again text d p =
-    let r = read_either text d p signed in
+    let r = read_either (λ c o. IsReadingIn wide c text o) d p signed in
     reads_alike (λ c. prototype_reads c d.called d.signature (wide_identifier signed text d r) (wide_name_stays signed text d r) (wide_right signed text d r))
 
 written_plainly : (text : List ℕ) (d : Declaration) → IsPrototype text (read_as (reads d)) → FixesAll d.signature → IsReading (prototype_text d.called d.signature) (reads d)
 written_plainly text d p all =
-    let r = read_either text d p signed in
+    let r = read_either (λ c o. IsReadingIn wide c text o) d p signed in
     subst (λ t. IsReading t (reads d)) (sym (written_alike d.called d.signature (wide_right signed text d r) all)) (text_reads d.called d.signature (wide_identifier signed text d r) (wide_right signed text d r) all)
 
 pub prototype_laws : PrototypeLaws

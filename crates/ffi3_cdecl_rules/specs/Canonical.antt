@@ -3,6 +3,7 @@ use Rattle.std.specs.Prelude.{◌≡◌, ℕ, ◌+◌, Bool, true, false, List, 
 use Rattle.std.specs.Prelude.{codes, decimal}
 use Rattle.ffi3_type_rules.specs.Tree.{Scalar, u8, s8, u16, s16, u32, s32, u64, s64, u128, s128, float, double, pointer, x87, binary128}
 use Rattle.ffi3_type_rules.specs.Tree.{Tree, Trees, void, scalar, left_out, structure, array, no_trees, tree}
+use Rattle.ffi3_type_rules.specs.Tree.{LeftOutKind, long_double, complex, vector}
 use Rattle.ffi3_cdecl_rules.specs.Tokens.{Token, unsigned, type_word, sign_word, int128_word, void_word, struct_word}
 use Rattle.ffi3_cdecl_rules.specs.Tokens.{name, number, open_round, close_round, open_curly, close_curly, open_square}
 use Rattle.ffi3_cdecl_rules.specs.Tokens.{close_square, comma, semicolon, star, dots, signed, const_word, short_word}
@@ -10,7 +11,7 @@ use Rattle.ffi3_cdecl_rules.specs.Tokens.{int_word, long_word, char_word, union_
 use Rattle.ffi3_cdecl_rules.specs.Tokens.{complex_word, attribute_word, other_keyword, is_letter, goes_on_word, word_of}
 use Rattle.ffi3_type_rules.specs.Signature.{Signature}
 
--- a scalar, in front of other tokens; a long double of 16 bytes has none, as what is left out has none
+-- a scalar, in front of other tokens; a long double of 16 bytes has none: it is spelled where no format is given to it
 abbrev pub scalar_tokens : Scalar → List Token → List Token
 scalar_tokens u128 rest = sign_word unsigned ∷ int128_word ∷ rest
 scalar_tokens s128 rest = int128_word ∷ rest
@@ -37,12 +38,18 @@ abbrev mutual
 abbrev pub member_name : ℕ → Token
 member_name i = name (codes "m" ++ decimal i)
 
+-- a long double, real or complex, whose format is left to the target; a vector has none
+abbrev pub left_out_tokens : LeftOutKind → List Token → List Token
+left_out_tokens long_double rest = long_word ∷ type_word double ∷ rest
+left_out_tokens complex rest = long_word ∷ type_word double ∷ complex_word ∷ rest
+left_out_tokens vector rest = rest
+
 -- a type, and of an array what it is of, in front of other tokens
 abbrev mutual
   pub type_tokens : Tree → List Token → List Token
   type_tokens void rest = void_word ∷ rest
   type_tokens (scalar s) rest = scalar_tokens s rest
-  type_tokens (left_out k) rest = rest
+  type_tokens (left_out k) rest = left_out_tokens k rest
   type_tokens (structure ts) rest =
       struct_word ∷ open_curly ∷ member_tokens 0 ts (close_curly ∷ rest)
   type_tokens (array ts n) rest = first_type_tokens ts rest

@@ -31,17 +31,18 @@ first_other s r =
 abbrev pub IsFault : Outcome → Type 0
 IsFault o = (d : Declaration) → ¬ (o ≡ reads d)
 
--- by both wide readings, of which the first fault is told where one has any
-pub data IsPrototype (text : List ℕ) : Prototype → Type 0 where
-  reads_alike : {d : Declaration} → ((c : Sign) → IsReadingIn wide c text (reads d))
-      → IsPrototype text (read_as (reads d))
-  reads_by_sign : {d e : Declaration}
-      → IsReadingIn wide signed text (reads d) → IsReadingIn wide unsigned text (reads e) → ¬ (d ≡ e)
-      → IsPrototype text (sign_unsaid (first_other d.signature e.signature))
-  has_fault : {o : Outcome} → IsReadingIn wide signed text o → IsFault o → IsPrototype text (read_as o)
-  has_fault_unsigned : {d : Declaration} {o : Outcome}
-      → IsReadingIn wide signed text (reads d) → IsReadingIn wide unsigned text o → IsFault o
-      → IsPrototype text (read_as o)
+-- by two readings, of which the first fault is told where one has any
+pub data IsPrototypeBy (IsRead : Sign → Outcome → Type 0) : Prototype → Type 0 where
+  reads_alike : {d : Declaration} → ((c : Sign) → IsRead c (reads d)) → IsPrototypeBy IsRead (read_as (reads d))
+  reads_by_sign : {d e : Declaration} → IsRead signed (reads d) → IsRead unsigned (reads e) → ¬ (d ≡ e)
+      → IsPrototypeBy IsRead (sign_unsaid (first_other d.signature e.signature))
+  has_fault : {o : Outcome} → IsRead signed o → IsFault o → IsPrototypeBy IsRead (read_as o)
+  has_fault_unsigned : {d : Declaration} {o : Outcome} → IsRead signed (reads d) → IsRead unsigned o → IsFault o
+      → IsPrototypeBy IsRead (read_as o)
+
+-- by both wide readings
+abbrev pub IsPrototype : List ℕ → Prototype → Type 0
+IsPrototype text p = IsPrototypeBy (λ c o. IsReadingIn wide c text o) p
 
 -- ---- its canonical text
 

@@ -23,7 +23,7 @@ pub use ffi3_explain_rules::{Check, Outside, Part};
 use ffi3_place::Abi;
 use ffi3_types::Bytes;
 use ffi3_values::Values;
-pub use reach::least_stack;
+pub use reach::{least_stack, least_stack_of};
 pub use reading::{Unread, arguments};
 use std::alloc::Global;
 use thiserror::Error;

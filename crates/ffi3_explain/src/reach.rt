@@ -5,7 +5,7 @@ ghost use Rattle.ffi3_place_rules.specs.Standard.{plan_of};
 ghost use Rattle.ffi3_place_rules.specs.Sound.{piece_locs, place_locs};
 ghost use Rattle.ffi3_explain_rules.specs.Arguments.{least_stack, stack_end};
 
-use ffi3_cif::Cif;
+use ffi3_cif::{Cif, Placed};
 use ffi3_place::{Abi, Loc, Pieces, Place};
 
 fn greater(a: u64, b: u64) -> u64
@@ -49,15 +49,15 @@ fn place_end(place: &Place) -> u64
 }
 
 // Where the highest of all arguments' places on the stack ends.
-fn arguments_end<A: Abi>(cif: &Cif<A>) -> u64
-    ensures value { result ≡ stack_end (flat_map place_locs (plan_of A.standard cif.now).places) }
+fn arguments_end<A: Abi>(placed: &Placed<A>) -> u64
+    ensures value { result ≡ stack_end (flat_map place_locs (plan_of A.standard placed.now).places) }
     ensures small { result < 2 ^ 33 }
 {
-    let sig = cif.checked_sig();
+    let sig = placed.placed_sig();
     let count = sig.count();
     let mut end = 0;
     for i in 0..count {
-        end = greater(end, place_end(cif.place(i)));
+        end = greater(end, place_end(placed.place(i)));
     }
     end
 }
@@ -67,5 +67,12 @@ fn arguments_end<A: Abi>(cif: &Cif<A>) -> u64
 pub fn least_stack<A: Abi>(cif: &Cif<A>) -> u64
     ensures { result ≡ least_stack A.standard cif.now }
 {
-    A::LINK + arguments_end(cif)
+    least_stack_of(cif.placed())
+}
+
+/// The same of what can be placed.
+pub fn least_stack_of<A: Abi>(placed: &Placed<A>) -> u64
+    ensures { result ≡ least_stack A.standard placed.now }
+{
+    A::LINK + arguments_end(placed)
 }

@@ -8,11 +8,11 @@ use Rattle.ffi3_type_rules.specs.declared.Isa.{Isa}
 use Rattle.ffi3_type_rules.specs.Isa.{isa_of}
 use Rattle.ffi3_type_rules.specs.Tree.{Tree, trees_of, tree_at}
 use Rattle.ffi3_type_rules.specs.Layout.{size_of}
-use Rattle.ffi3_type_rules.specs.Fault.{IsLaidOut, IsArgumentType}
-use Rattle.ffi3_type_rules.specs.Signature.{Signature, SignatureHasNoFault}
+use Rattle.ffi3_type_rules.specs.Fault.{IsLaidOut}
+use Rattle.ffi3_type_rules.specs.Signature.{Signature, SignatureHasNoFault, SignatureIsPlaced}
 use Rattle.ffi3_type_rules.specs.Value.{ValueTree, value_in, values_of, fits, all_fit}
-use Rattle.ffi3_type_rules.proofs.Placed.{faultless_is_plain}
-use Rattle.ffi3_type_rules.proofs.Right.{argument_is_right, argument_is_laid_out}
+use Rattle.ffi3_type_rules.proofs.Placed.{faultless_is_plain, faultless_is_placed}
+use Rattle.ffi3_type_rules.proofs.Right.{argument_is_laid_out}
 use Rattle.ffi3_place_rules.specs.declared.Loc.{Loc}
 use Rattle.ffi3_place_rules.specs.declared.Loc.TheVariants.{G, F, S}
 use Rattle.ffi3_place_rules.specs.declared.Piece.{Piece}
@@ -21,14 +21,15 @@ use Rattle.ffi3_place_rules.specs.declared.Place.TheVariants.{Direct, ByRef}
 use Rattle.ffi3_place_rules.specs.Isa.{to_list}
 use Rattle.ffi3_place_rules.specs.Image.{Image, byte_at, word_at, register}
 use Rattle.ffi3_place_rules.specs.Standard.{Standard, frame_of, plan_of}
-use Rattle.ffi3_place_rules.specs.Sound.{IsNoneOf, IsSound, LiesIn, PlaceHasAll, PlacesHaveAll, piece_locs, place_locs, argument_locs, hidden_locs, copy_locs, buffer_locs, stack_words_for, closed_to_arguments, closed_to_results, Apart}
+use Rattle.ffi3_place_rules.specs.Sound.{IsNoneOf, IsSound, LiesIn, StandsIn, PlaceHasAll, PlacesHaveAll, piece_locs, place_locs, argument_locs, hidden_locs, copy_locs, buffer_locs, stack_words_for, closed_to_arguments, closed_to_results, Apart}
 use Rattle.ffi3_place_rules.specs.Holds.{Own, OwnsArgument, OwnsArguments, SameIn}
+use Rattle.ffi3_place_rules.proofs.Further.{each_lies, frame_not_further}
 use Rattle.ffi3_explain_rules.specs.declared.Outside.{Outside}
 use Rattle.ffi3_explain_rules.specs.Explain.{carries, explained, holds_values, first_byte, first_bytes}
 use Rattle.ffi3_explain_rules.specs.Laws.{HasWords}
 use Rattle.ffi3_explain_rules.specs.Arguments.{is_in_image, value_at_address, value_by_standard, values_by_standard, outside_of, or_later, first_outside, are_values, arguments_by, held_by_standard, stack_end, least_stack}
 use Rattle.ffi3_explain_rules.specs.ArgumentLaws.{ArgumentLaws, AreRead}
-use Rattle.ffi3_explain_rules.proofs.Copies.{bytes_of_right, copy_fits}
+use Rattle.ffi3_explain_rules.proofs.Copies.{bytes_of_placed, copy_fits}
 use Rattle.ffi3_type_rules.proofs.Fitting.{value_fits}
 use Rattle.ffi3_type_rules.proofs.Tests.{and_left, and_right, both}
 use Rattle.ffi3_explain_rules.proofs.Pieces.{first_bytes-length, stood_is_read}
@@ -80,11 +81,11 @@ module _ (m : Image) (base : ℕ) (isa : Isa) (frame : ℕ) (room : base + frame
       let offset : word - m.sp ≡ base + copy = omega (arith, is) in
       (ap (λ n. value_in t (take (size_of t) (drop n m.stack))) offset ∙ stands, in_image m word (size_of t) (omega (arith, is)) (omega (arith, is, fit, room)))
 
-  argument_read : (i : ℕ) (t : Tree) (p : Place) (v : ValueTree) → IsArgumentType t → PlaceHasAll t p → AllByRecursion (LiesIn isa frame) (copy_locs (t ∷ []) (p ∷ [])) → OwnsArgument m base t p v → (value_by_standard m base t p ≡ v) × (outside_of m base i t p ≡ None)
-  argument_read i t (Direct ps) v right have lies own =
+  argument_read : (i : ℕ) (t : Tree) (p : Place) (v : ValueTree) → 1 ≤ size_of t → PlaceHasAll t p → AllByRecursion (LiesIn isa frame) (copy_locs (t ∷ []) (p ∷ [])) → OwnsArgument m base t p v → (value_by_standard m base t p ≡ v) × (outside_of m base i t p ≡ None)
+  argument_read i t (Direct ps) v some have lies own =
       (stood_is_read m base t ps v have own.0 own.1, refl)
-  argument_read i t (ByRef at copy) v right have lies own =
-      let fit = copy_fits isa frame copy t (bytes_of_right t right) (left_part (LiesIn isa frame) (stack_words_for copy t) [] lies) in
+  argument_read i t (ByRef at copy) v some have lies own =
+      let fit = copy_fits isa frame copy t some (left_part (LiesIn isa frame) (stack_words_for copy t) [] lies) in
       let read = copy_read t copy (word_at m base at) v fit own.1 own.2 in
       (read.0, ap (λ b. cond b None (Some (record { argument = i; address = word_at m base at }))) read.1)
 
@@ -95,16 +96,16 @@ module _ (m : Image) (base : ℕ) (isa : Isa) (frame : ℕ) (room : base + frame
     right_part (LiesIn isa frame) (stack_words_for copy t) (copy_locs ts ps) h,
   )
 
-  arguments_read : (i : ℕ) (ts : List Tree) (ps : List Place) (vs : List ValueTree) → ((k : ℕ) → k < length ts → IsArgumentType (tree_at ts k)) → PlacesHaveAll ts ps → AllByRecursion (LiesIn isa frame) (copy_locs ts ps) → OwnsArguments m base ts ps vs → (values_by_standard m base ts ps ≡ vs) × (first_outside m base i ts ps ≡ None)
-  arguments_read i [] [] [] right have lies own = (refl, refl)
-  arguments_read i [] [] (v ∷ vs) right have lies own = absurd own
-  arguments_read i [] (p ∷ ps) vs right have lies own = absurd have
-  arguments_read i (t ∷ ts) [] vs right have lies own = absurd have
-  arguments_read i (t ∷ ts) (p ∷ ps) [] right have lies own = absurd own
-  arguments_read i (t ∷ ts) (p ∷ ps) (v ∷ vs) right have lies own =
+  arguments_read : (i : ℕ) (ts : List Tree) (ps : List Place) (vs : List ValueTree) → ((k : ℕ) → k < length ts → 1 ≤ size_of (tree_at ts k)) → PlacesHaveAll ts ps → AllByRecursion (LiesIn isa frame) (copy_locs ts ps) → OwnsArguments m base ts ps vs → (values_by_standard m base ts ps ≡ vs) × (first_outside m base i ts ps ≡ None)
+  arguments_read i [] [] [] some have lies own = (refl, refl)
+  arguments_read i [] [] (v ∷ vs) some have lies own = absurd own
+  arguments_read i [] (p ∷ ps) vs some have lies own = absurd have
+  arguments_read i (t ∷ ts) [] vs some have lies own = absurd have
+  arguments_read i (t ∷ ts) (p ∷ ps) [] some have lies own = absurd own
+  arguments_read i (t ∷ ts) (p ∷ ps) (v ∷ vs) some have lies own =
       let copies = one_copy t ts p ps lies in
-      let here = argument_read i t p v (right 0 (omega arith)) have.0 copies.0 own.0 in
-      let later = arguments_read (suc i) ts ps vs (λ k h. right (suc k) (omega (arith, h))) have.1 copies.1 own.1 in
+      let here = argument_read i t p v (some 0 (omega arith)) have.0 copies.0 own.0 in
+      let later = arguments_read (suc i) ts ps vs (λ k h. some (suc k) (omega (arith, h))) have.1 copies.1 own.1 in
       let same : value_by_standard m base t p ∷ values_by_standard m base ts ps ≡ v ∷ vs = λ j. here.0 j ∷ later.0 j in
       (same, ap (λ o. or_later o (first_outside m base (suc i) ts ps)) here.1 ∙ later.1)
 
@@ -229,6 +230,25 @@ end_within isa stack (S n w ∷ ls) lie =
 
 -- ---- the laws
 
+-- no copy is a further word
+copies_in_frame : (std : Standard) (s : Signature) → IsSound std s → AllByRecursion (LiesIn (isa_of std.target) (frame_of std s)) (copy_locs s.arguments (plan_of std s).places)
+copies_in_frame std s sound =
+    let isa = isa_of std.target in
+    let p = plan_of std s in
+    let copies = copy_locs s.arguments p.places in
+    let buffer = buffer_locs s.result_type p.res in
+    left_part (LiesIn isa (frame_of std s)) copies buffer (each_lies isa (frame_of std s) (copies ++ buffer) (right_part (StandsIn isa (frame_of std s)) (argument_locs p) (copies ++ buffer) sound.in_frame) (frame_not_further isa s.arguments p.places s.result_type p.res))
+
+-- an image that owns values has these
+owned_there : (std : Standard) (s : Signature) (m : Image) → IsSound std s → ((k : ℕ) → k < length s.arguments → 1 ≤ size_of (tree_at s.arguments k)) → (vs : List ValueTree) → Own std s vs m → held_by_standard std s m ≡ are_values vs
+owned_there std s m sound some vs own =
+    let found = arguments_read m std.link (isa_of std.target) (frame_of std s) own.reaches 0 s.arguments (plan_of std s).places vs some sound.has_all (copies_in_frame std s sound) own.arguments in
+    ap (arguments_by (values_by_standard m std.link s.arguments (plan_of std s).places)) found.1 ∙ ap are_values found.0
+
+-- also where it is of a signature that can be placed
+pub placed_is_owned : (std : Standard) (s : Signature) (m : Image) → SignatureIsPlaced s → IsSound std s → (vs : List ValueTree) → Own std s vs m → held_by_standard std s m ≡ are_values vs
+placed_is_owned std s m right sound vs own = owned_there std s m sound (bytes_of_placed s right) vs own
+
 module _ (std : Standard) (s : Signature) (m : Image) (right : SignatureHasNoFault s) (sound : IsSound std s) where
   abbrev Lies : Loc → Type 0
   Lies = LiesIn (isa_of std.target) (frame_of std s)
@@ -245,14 +265,8 @@ module _ (std : Standard) (s : Signature) (m : Image) (right : SignatureHasNoFau
   abbrev first : Option Outside
   first = first_outside m std.link 0 s.arguments (plan_of std s).places
 
-  copies_lie : AllByRecursion Lies copies
-  copies_lie =
-      left_part Lies copies buffer (right_part Lies (argument_locs (plan_of std s)) (copies ++ buffer) (sound.on_machine (faultless_is_plain s right)).in_frame)
-
   owned_read : (vs : List ValueTree) → Own std s vs m → held_by_standard std s m ≡ are_values vs
-  owned_read vs own =
-      let found = arguments_read m std.link (isa_of std.target) (frame_of std s) own.reaches 0 s.arguments (plan_of std s).places vs (argument_is_right s right) sound.has_all copies_lie own.arguments in
-      ap (arguments_by read) found.1 ∙ ap are_values found.0
+  owned_read vs own = placed_is_owned std s m (faultless_is_placed s right) sound vs own
 
   explained_read : HasWords m → std.link + frame_of std s ≤ length m.stack → (vs : List ValueTree) → explained std s m ≡ holds_values vs → held_by_standard std s m ≡ are_values vs
   explained_read has reaches vs is =

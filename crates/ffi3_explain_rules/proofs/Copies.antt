@@ -1,14 +1,16 @@
 -- Copies of arguments lie in the frame with all of their bytes.
 use Rattle.std.specs.Prelude.{◌/◌, ◌*◌}
-use Rattle.std.proofs.Common.{◌≡◌, ℕ, zero, suc, ◌+◌, ◌≤◌, false, [], ◌∷◌, length, refl, arith}
+use Rattle.std.proofs.Common.{◌≡◌, ℕ, zero, suc, ◌+◌, ◌<◌, ◌≤◌, false, [], ◌∷◌, length, refl, arith}
 use Rattle.std.specs.List.{AllByRecursion}
 use Rattle.ffi3_type_rules.specs.declared.Isa.{Isa}
 use Rattle.ffi3_type_rules.specs.declared.Role.{Role}
-use Rattle.ffi3_type_rules.specs.declared.Role.TheVariants.{AsArgument, AsElement}
-use Rattle.ffi3_type_rules.specs.Tree.{Tree, void, scalar, left_out, structure, array, no_trees, tree}
+use Rattle.ffi3_type_rules.specs.declared.Role.TheVariants.{AsArgument, AsElement, PlacedArgument}
+use Rattle.ffi3_type_rules.specs.Tree.{Tree, void, scalar, left_out, structure, array, no_trees, tree, tree_at}
 use Rattle.ffi3_type_rules.specs.Layout.{size_of, layouts, align_before, end_before}
 use Rattle.ffi3_type_rules.specs.Fault.{takes_void, HasNoFault, IsArgumentType, bad_typedef, left_out_type, out_of_place, left_out_kind, misshapen}
+use Rattle.ffi3_type_rules.specs.Signature.{Signature, SignatureIsPlaced, bad_type, at_argument, in_argument, of_type}
 use Rattle.ffi3_type_rules.proofs.Faults.{fault_outside}
+use Rattle.ffi3_type_rules.proofs.Right.{right_without_first}
 use Rattle.ffi3_type_rules.proofs.Layouts.{least_multiple-above, scalar_room-bounds, size_le-end}
 use Rattle.ffi3_place_rules.specs.Sound.{LiesIn, stack_words, stack_words_for}
 
@@ -35,6 +37,11 @@ has_bytes outer role (structure (tree t ts)) none right =
 
 pub bytes_of_right : (t : Tree) → IsArgumentType t → 1 ≤ size_of t
 bytes_of_right t right = has_bytes 0 AsArgument t refl right
+
+-- so has an argument that can be placed
+pub bytes_of_placed : (s : Signature) → SignatureIsPlaced s → (i : ℕ) → i < length s.arguments → 1 ≤ size_of (tree_at s.arguments i)
+bytes_of_placed s right i below =
+    has_bytes 0 PlacedArgument (tree_at s.arguments i) refl (right_without_first PlacedArgument (tree_at s.arguments i) (λ path f first. right (bad_type (at_argument i) path f) (in_argument below (of_type first))))
 
 module _ (isa : Isa) (frame : ℕ) where
   words_fit : (at count : ℕ) → AllByRecursion (LiesIn isa frame) (stack_words at (suc count)) → at + 8 * suc count ≤ frame

@@ -3,10 +3,10 @@ use Rattle.std.specs.Prelude.{None}
 use Rattle.std.proofs.Common.{◌≡◌, ℕ, zero, suc, ◌+◌, ◌<◌, ◌⊎◌, inl, inr, List, [], ◌∷◌, length, refl, ap, sym, subst, arith}
 use Rattle.std.specs.List.{AllByRecursion}
 use Rattle.ffi3_type_rules.specs.Tree.{void}
-use Rattle.ffi3_type_rules.specs.Fault.{IsResultType}
-use Rattle.ffi3_type_rules.specs.Signature.{Signature, SignatureHasNoFault, signature_at}
+use Rattle.ffi3_type_rules.specs.declared.Role.TheVariants.{AsResult}
+use Rattle.ffi3_type_rules.specs.Signature.{Signature, SignatureHasNoFault, for_calls, signature_at}
 use Rattle.ffi3_type_rules.proofs.Faults.{void_faults}
-use Rattle.ffi3_type_rules.proofs.Signatures.{right_with_no_fixed}
+use Rattle.ffi3_type_rules.proofs.Signatures.{IsSuited, right_with_no_fixed}
 use Rattle.ffi3_place_rules.specs.Event.{Event}
 use Rattle.ffi3_machine.specs.Recorded.{event_at}
 use Rattle.ffi3_explain_rules.specs.Laws.{HasWords}
@@ -34,12 +34,12 @@ all_events (e ∷ events) each = (each 0 (omega arith), all_events events (λ i 
 
 -- ---- signatures; past the last is one without arguments or result
 
-void_right : IsResultType void
-void_right path f fault = let inside = (void_faults path f fault).2 in cc
+void_suited : IsSuited for_calls AsResult void
+void_suited = record { right = λ path f fault. let inside = (void_faults path f fault).2 in cc; plain = λ _. refl }
 
 past_the_last : SignatureHasNoFault (record { result_type = void; arguments = []; fixed = None })
 past_the_last =
-    right_with_no_fixed (record { result_type = void; arguments = []; fixed = None }) (omega arith) void_right (λ j h. absurd (omega (arith, h))) refl
+    right_with_no_fixed (record { result_type = void; arguments = []; fixed = None }) (omega arith) void_suited (λ j h. absurd (omega (arith, h))) refl
 
 pub all_signatures : (ss : List Signature) → ((k : ℕ) → k < length ss → SignatureHasNoFault (signature_at ss k)) → (k : ℕ) → SignatureHasNoFault (signature_at ss k)
 all_signatures [] each k = past_the_last

@@ -1,5 +1,7 @@
 -- What is kept may go to another thread, and be read by several at once.
-use denote.Param.Send.{IsSend, IsSync, sendable}
+use denote.RattleType.{RattleType}
+use denote.Struct.Declared.{shape}
+use denote.Param.Send.{IsSend, IsSync, sendable, recorded_send, recorded_sync, struct_send, struct_sync, view_send, view_sync}
 use Rattle.std.proofs.Crossing.{crosses}
 use Rattle.std.proofs.option.Option.TheSendSync as option
 use Rattle.std.proofs.marker.PhantomData.TheSendSync as phantom
@@ -9,6 +11,10 @@ use Rattle.ffi3_types.specs.contracts.sig.Sig as sig
 use Rattle.ffi3_types.proofs.Fields.TheLaws.TheKnot as types
 use Rattle.ffi3_place_rules.proofs.Plan.TheSendSync as plan
 use Rattle.ffi3_cif.proofs.runs.AllRuns.TheSendSync as runs
+use Rattle.ffi3_cif.specs.contracts.placed.Placed as placed
+use Rattle.ffi3_cif.specs.contracts.placed.Placed.TheInside as in_placed
+use Rattle.ffi3_cif.specs.contracts.Cif as cif
+use Rattle.ffi3_cif.specs.contracts.Cif.TheInside as in_cif
 use Rattle.ffi3_prepared.specs.contracts.Prepared as prepared
 use Rattle.ffi3_handle.specs.contracts.kept.Kept as kept
 
@@ -30,11 +36,41 @@ sig_send = search (fields_send, type_send, option.the_field_send, sendable) dept
 sig_sync : IsSync (sig.the_field).row
 sig_sync = search (fields_sync, type_sync, option.the_field_sync, sendable) depth 60 fits 20000
 
+-- a signature with its plan, and an interface, by any standard
+module _ (T : RattleType) (g : _) where
+  in_placed_send : IsSend (in_placed.the_row T g)
+  in_placed_send =
+      recorded_send (in_placed.the_field T g).row _ _ (in_placed.the_type T g).to_one (struct_send (shape (in_placed.the_type T g)) (search (sig_send, plan.the_field_send, runs.the_send, phantom.the_field_send, sendable)))
+
+  placed_send : IsSend (placed.the_row T g)
+  placed_send = view_send (in_placed.the_row T g) _ _ (placed.the_view T g) (placed.the_invariant T g) in_placed_send
+
+  in_cif_send : IsSend (in_cif.the_row T g)
+  in_cif_send =
+      recorded_send (in_cif.the_field T g).row _ _ (in_cif.the_type T g).to_one (struct_send (shape (in_cif.the_type T g)) (search (placed_send, sendable)))
+
+  cif_send : IsSend (cif.the_row T g)
+  cif_send = view_send (in_cif.the_row T g) _ _ (cif.the_view T g) (cif.the_invariant T g) in_cif_send
+
+  in_placed_sync : IsSync (in_placed.the_row T g)
+  in_placed_sync =
+      recorded_sync (in_placed.the_field T g).row _ _ (in_placed.the_type T g).to_one (struct_sync (shape (in_placed.the_type T g)) (search (sig_sync, plan.the_field_sync, runs.the_sync, phantom.the_field_sync, sendable)))
+
+  placed_sync : IsSync (placed.the_row T g)
+  placed_sync = view_sync (in_placed.the_row T g) _ _ (placed.the_view T g) (placed.the_invariant T g) in_placed_sync
+
+  in_cif_sync : IsSync (in_cif.the_row T g)
+  in_cif_sync =
+      recorded_sync (in_cif.the_field T g).row _ _ (in_cif.the_type T g).to_one (struct_sync (shape (in_cif.the_type T g)) (search (placed_sync, sendable)))
+
+  cif_sync : IsSync (cif.the_row T g)
+  cif_sync = view_sync (in_cif.the_row T g) _ _ (cif.the_view T g) (cif.the_invariant T g) in_cif_sync
+
 prepared_send : IsSend prepared.the_row
-prepared_send = search (sig_send, plan.the_field_send, runs.the_send, phantom.the_field_send, sendable) depth 60 fits 20000
+prepared_send = search (cif_send, sendable) depth 60 fits 20000
 
 prepared_sync : IsSync prepared.the_row
-prepared_sync = search (sig_sync, plan.the_field_sync, runs.the_sync, phantom.the_field_sync, sendable) depth 60 fits 20000
+prepared_sync = search (cif_sync, sendable) depth 60 fits 20000
 
 pub kept_send : IsSend kept.the_row
 kept_send = search (crosses, prepared_send, prepared_sync, sendable) depth 60 fits 20000

@@ -3,7 +3,7 @@ use Rattle.std.proofs.Common.{◌≡◌, ℕ, ◌+◌, ◌-◌, ◌≤◌, List,
 use Rattle.std.proofs.lemmas.List.{length-append}
 use Rattle.ffi3_type_rules.specs.declared.limits.TheConstants.{STACK, STACK_TOP}
 use Rattle.ffi3_type_rules.specs.Isa.{isa_of}
-use Rattle.ffi3_type_rules.specs.Signature.{Signature}
+use Rattle.ffi3_type_rules.specs.Signature.{Signature, SignatureHasNoFault}
 use Rattle.ffi3_type_rules.specs.Value.{ValueTree}
 use Rattle.ffi3_place_rules.specs.declared.Loc.{Loc}
 use Rattle.ffi3_place_rules.specs.declared.Loc.TheVariants.{G, F, S}
@@ -68,17 +68,17 @@ module _ (std : Standard) (s : Signature) (agrees : AgreesWithMachine std) (m r 
   hidden_is base n (Direct pieces) saved h = tt
   hidden_is base n (Hidden at buffer) saved h = saved ∙ h
 
-  word_is : (vs : List ValueTree) → IsSound std s → STACK ≤ m.sp → OwnsAtEntry std s m vs → (w : SaveWord) (n : ℕ) → IsSaveable 0 w → IsToSave (m.sp + std.link) entered (hidden_of (plan_of std s).res) w n → IsSavedOf std s (image_of (std.link + frame_of std s) m) w n
-  word_is vs sound low own (Register (G k)) n lies saved = saved
-  word_is vs sound low own (Register (F k)) n lies saved = saved
-  word_is vs sound low own (Register (S k w)) n lies saved = absurd (omega (arith, lies.0, lies.1))
-  word_is vs sound low own HiddenWord n lies saved =
-      hidden_is (m.sp + std.link) n (plan_of std s).res saved (address_owned std s entered vs sound low own)
-  word_is vs sound low own Spare n lies saved = tt
+  word_is : (vs : List ValueTree) → IsSound std s → SignatureHasNoFault s → STACK ≤ m.sp → OwnsAtEntry std s m vs → (w : SaveWord) (n : ℕ) → IsSaveable 0 w → IsToSave (m.sp + std.link) entered (hidden_of (plan_of std s).res) w n → IsSavedOf std s (image_of (std.link + frame_of std s) m) w n
+  word_is vs sound right low own (Register (G k)) n lies saved = saved
+  word_is vs sound right low own (Register (F k)) n lies saved = saved
+  word_is vs sound right low own (Register (S k w)) n lies saved = absurd (omega (arith, lies.0, lies.1))
+  word_is vs sound right low own HiddenWord n lies saved =
+      hidden_is (m.sp + std.link) n (plan_of std s).res saved (address_owned std s entered vs sound right low own)
+  word_is vs sound right low own Spare n lies saved = tt
 
   -- THE CALLEE OF AN OPEN CALL RUNS
-  pub in_callee : (vs : List ValueTree) → IsSound std s → m.target ≡ std.target → STACK + std.save + block_bytes s ≤ m.sp → m.sp + std.link + frame_of std s ≤ STACK_TOP → OwnsAtEntry std s m vs → ReservedStay std m r → HasReturnAddress m → 2 ≤ m.spare_events → std.link + frame_of std s + frame_of std s ≤ m.spare_bytes → IsInCallee std (record { signature = s; event = entry_at std s m }) r
-  in_callee vs sound target room frame own stay back events bytes =
+  pub in_callee : (vs : List ValueTree) → IsSound std s → SignatureHasNoFault s → m.target ≡ std.target → STACK + std.save + block_bytes s ≤ m.sp → m.sp + std.link + frame_of std s ≤ STACK_TOP → OwnsAtEntry std s m vs → ReservedStay std m r → HasReturnAddress m → 2 ≤ m.spare_events → std.link + frame_of std s + frame_of std s ≤ m.spare_bytes → IsInCallee std (record { signature = s; event = entry_at std s m }) r
+  in_callee vs sound right target room frame own stay back events bytes =
       let w = received.within in
       let sp = received.sp in
       let low : STACK ≤ m.sp = omega (arith, room) in
@@ -91,7 +91,7 @@ module _ (std : Standard) (s : Signature) (agrees : AgreesWithMachine std) (m r 
           place = received.sp;
           bottom = omega (arith, sp, room);
           top = frame;
-          saved = λ i word below is. word_is vs sound low own word (saved_word (m.sp - std.save) i r) (each_at (IsSaveable 0) std.save_area i word below (sym is) (words_saveable std agrees)) (received.saved i word below is);
+          saved = λ i word below is. word_is vs sound right low own word (saved_word (m.sp - std.save) i r) (each_at (IsSaveable 0) std.save_area i word below (sym is) (words_saveable std agrees)) (received.saved i word below is);
           return_address = return_same (link_register (isa_of std.target)) m.general m.sp m.stack r.stack (λ none. above_stays r.sp m.sp entered (with_journal_of entered r) w m.sp 8 low (omega arith)) at_standard;
           frame = above_stays r.sp m.sp entered (with_journal_of entered r) w m.sp (std.link + frame_of std s) low (omega arith);
         };

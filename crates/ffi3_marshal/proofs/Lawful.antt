@@ -1,6 +1,7 @@
 -- What the laws of a standard give a store of all arguments.
-use Rattle.std.proofs.Common.{◌≡◌, ℕ, zero, suc, ◌+◌, ◌*◌, ◌<◌, ◌≤◌, List, [], ◌∷◌, ◌++◌, false, length, refl, sym, subst, ◌∙◌, arith}
-use Rattle.std.specs.Prelude.{⊤, ◌/◌}
+use Rattle.std.proofs.Common.{◌≡◌, ℕ, zero, suc, ◌+◌, ◌*◌, ◌<◌, ◌≤◌, List, [], ◌∷◌, ◌++◌, true, false, inl, inr, length, refl, sym, subst, ◌∙◌, arith}
+use Rattle.std.specs.Prelude.{⊤, ◌/◌, nat_le, nat_lt}
+use Rattle.std.proofs.lemmas.Bool.Decides.{nat_tests}
 use Rattle.std.specs.List.{AllByRecursion, flat_map}
 use Rattle.ffi3_type_rules.specs.declared.Target.{Target}
 use Rattle.ffi3_type_rules.specs.declared.Isa.{Isa}
@@ -8,24 +9,25 @@ use Rattle.ffi3_type_rules.specs.declared.Isa.TheVariants.{Amd64, Aarch64, Riscv
 use Rattle.ffi3_type_rules.specs.Isa.{isa_of}
 use Rattle.ffi3_type_rules.specs.Tree.{Tree, void, scalar, left_out, structure, array, no_trees, tree, tree_at}
 use Rattle.ffi3_type_rules.specs.Layout.{size_of, layouts, align_before, end_before}
-use Rattle.ffi3_type_rules.specs.Fault.{takes_void, HasNoFault, IsArgumentType, bad_typedef, left_out_type, out_of_place, left_out_kind, misshapen}
-use Rattle.ffi3_type_rules.specs.Signature.{Signature, SignatureHasNoFault}
+use Rattle.ffi3_type_rules.specs.Fault.{takes_void, HasNoFault, bad_typedef, left_out_type, out_of_place, left_out_kind, misshapen}
+use Rattle.ffi3_type_rules.specs.Signature.{Signature, SignatureHasNoFault, SignatureIsPlaced, bad_type, at_argument, in_argument, of_type}
 use Rattle.ffi3_type_rules.specs.declared.Role.{Role}
-use Rattle.ffi3_type_rules.specs.declared.Role.TheVariants.{AsArgument, AsElement}
+use Rattle.ffi3_type_rules.specs.declared.Role.TheVariants.{AsArgument, AsElement, PlacedArgument}
 use Rattle.ffi3_type_rules.proofs.Placed.{faultless_is_plain}
 use Rattle.ffi3_type_rules.proofs.Faults.{fault_outside}
 use Rattle.ffi3_type_rules.proofs.Layouts.{least_multiple-above, scalar_room-bounds, size_le-end}
-use Rattle.ffi3_type_rules.proofs.Right.{argument_is_right}
+use Rattle.ffi3_type_rules.proofs.Right.{argument_is_right, right_without_first}
+use Rattle.ffi3_type_rules.proofs.Tests.{and_right}
 use Rattle.ffi3_place_rules.specs.declared.Loc.{Loc}
 use Rattle.ffi3_place_rules.specs.declared.Loc.TheVariants.{G, F, S}
 use Rattle.ffi3_place_rules.specs.declared.Place.{Place}
 use Rattle.ffi3_place_rules.specs.declared.Place.TheVariants.{Direct, ByRef}
 use Rattle.ffi3_place_rules.specs.Standard.{Standard, plan_of, frame_of}
 use Rattle.ffi3_place_rules.specs.Agrees.{AgreesWithMachine}
-use Rattle.ffi3_place_rules.specs.Sound.{Apart, AreApart, IsNoneOf, IsSound, LiesIn, PlacesHaveAll, place_locs, piece_locs, copy_locs, stack_words, stack_words_for, argument_locs, hidden_locs, buffer_locs, call_locs, closed_to_results, closed_to_arguments}
+use Rattle.ffi3_place_rules.specs.Sound.{Apart, AreApart, IsNoneOf, IsFurther, IsSound, LiesIn, StandsIn, PlacesHaveAll, place_locs, piece_locs, copy_locs, stack_words, stack_words_for, argument_locs, hidden_locs, buffer_locs, call_locs, closed_to_results, closed_to_arguments}
 use Rattle.ffi3_place_rules.specs.Isa.{to_list}
-use Rattle.ffi3_marshal.specs.Stored.{IsPlace, IsWritable}
-use Rattle.ffi3_marshal.specs.Standing.{all_uses, AreReady}
+use Rattle.ffi3_marshal.specs.Stored.{IsPlace, IsPlaceIn, IsWritable}
+use Rattle.ffi3_marshal.specs.Standing.{all_uses, AreReady, AreReadyIn}
 use Rattle.ffi3_marshal.proofs.Composing.{apart_sym}
 
 -- ---- lists
@@ -126,22 +128,22 @@ CopiesFit n _ _ = ⊤
 abbrev HasSomeBytes : Tree → Type 0
 HasSomeBytes t = 1 ≤ size_of t
 
-words_fit : (n at count : ℕ) → AllByRecursion (IsPlace n) (stack_words at (suc count)) → at + 8 * suc count ≤ n
-words_fit n at zero h = omega (arith, h.0)
-words_fit n at (suc count) h = omega (arith, words_fit n (at + 8) count h.1)
+words_fit : (f n at count : ℕ) → AllByRecursion (IsPlaceIn f n) (stack_words at (suc count)) → at + 8 * suc count ≤ n
+words_fit f n at zero h = omega (arith, h.0)
+words_fit f n at (suc count) h = omega (arith, words_fit f n (at + 8) count h.1)
 
-copy_fits : (n copy count size : ℕ) → 1 ≤ size → count ≡ (size + 7) / 8 → AllByRecursion (IsPlace n) (stack_words copy count) → copy + size ≤ n
-copy_fits n copy zero size some is h = absurd (omega (arith, some, is))
-copy_fits n copy (suc count) size some is h = omega (arith, words_fit n copy count h, is)
+copy_fits : (f n copy count size : ℕ) → 1 ≤ size → count ≡ (size + 7) / 8 → AllByRecursion (IsPlaceIn f n) (stack_words copy count) → copy + size ≤ n
+copy_fits f n copy zero size some is h = absurd (omega (arith, some, is))
+copy_fits f n copy (suc count) size some is h = omega (arith, words_fit f n copy count h, is)
 
-copies_fit : (n : ℕ) (ts : List Tree) (ps : List Place) → AllByRecursion HasSomeBytes ts → AllByRecursion (IsPlace n) (copy_locs ts ps) → CopiesFit n ts ps
-copies_fit n [] [] some h = tt
-copies_fit n [] (p ∷ ps) some h = tt
-copies_fit n (t ∷ ts) [] some h = tt
-copies_fit n (t ∷ ts) (Direct pieces ∷ ps) some h = (tt, copies_fit n ts ps some.1 h)
-copies_fit n (t ∷ ts) (ByRef at copy ∷ ps) some h = (
-  copy_fits n copy ((size_of t + 7) / 8) (size_of t) some.0 refl (each_first (IsPlace n) (stack_words_for copy t) (copy_locs ts ps) h),
-  copies_fit n ts ps some.1 (each_rest (IsPlace n) (stack_words_for copy t) (copy_locs ts ps) h),
+copies_fit : (f n : ℕ) (ts : List Tree) (ps : List Place) → AllByRecursion HasSomeBytes ts → AllByRecursion (IsPlaceIn f n) (copy_locs ts ps) → CopiesFit n ts ps
+copies_fit f n [] [] some h = tt
+copies_fit f n [] (p ∷ ps) some h = tt
+copies_fit f n (t ∷ ts) [] some h = tt
+copies_fit f n (t ∷ ts) (Direct pieces ∷ ps) some h = (tt, copies_fit f n ts ps some.1 h)
+copies_fit f n (t ∷ ts) (ByRef at copy ∷ ps) some h = (
+  copy_fits f n copy ((size_of t + 7) / 8) (size_of t) some.0 refl (each_first (IsPlaceIn f n) (stack_words_for copy t) (copy_locs ts ps) h),
+  copies_fit f n ts ps some.1 (each_rest (IsPlaceIn f n) (stack_words_for copy t) (copy_locs ts ps) h),
 )
 
 -- ---- an argument without fault has bytes
@@ -166,10 +168,15 @@ bytes_of_right outer role (structure (tree t ts)) none right =
     let rounded : end_before (layouts (tree t ts)) (length (layouts (tree t ts))) ≤ size_of (structure (tree t ts)) = least_multiple-above (align_before (layouts (tree t ts)) (length (layouts (tree t ts)))) (end_before (layouts (tree t ts)) (length (layouts (tree t ts)))) in
     omega (arith, first, ends, rounded)
 
-each_has_bytes : (ts : List Tree) → ((i : ℕ) → i < length ts → IsArgumentType (tree_at ts i)) → AllByRecursion HasSomeBytes ts
-each_has_bytes [] h = tt
-each_has_bytes (t ∷ ts) h =
-    (bytes_of_right 0 AsArgument t refl (h 0 (omega arith)), each_has_bytes ts (λ i below. h (suc i) (omega arith)))
+each_has_bytes : (role : Role) → takes_void role ≡ false → (ts : List Tree) → ((i : ℕ) → i < length ts → HasNoFault 0 role (tree_at ts i)) → AllByRecursion HasSomeBytes ts
+each_has_bytes role none [] h = tt
+each_has_bytes role none (t ∷ ts) h =
+    (bytes_of_right 0 role t none (h 0 (omega arith)), each_has_bytes role none ts (λ i below. h (suc i) (omega arith)))
+
+-- and so has one that can be placed
+placed_bytes : (s : Signature) → SignatureIsPlaced s → AllByRecursion HasSomeBytes s.arguments
+placed_bytes s right =
+    each_has_bytes PlacedArgument refl s.arguments (λ i below. right_without_first PlacedArgument (tree_at s.arguments i) (λ path f first. right (bad_type (at_argument i) path f) (in_argument below (of_type first))))
 
 -- ---- places of the standard are places of its machine
 
@@ -186,22 +193,45 @@ pub machine_places : (isa : Isa) (n : ℕ) (ls : List Loc) → AllByRecursion (L
 machine_places isa n ls h =
     each_map (LiesIn isa n) (IsPlace n) (λ l lies. machine_place isa n l lies) ls h
 
-ready_from : (target : Target) (n : ℕ) (ts : List Tree) (ps : List Place) → PlacesHaveAll ts ps → CopiesFit n ts ps → AllByRecursion (IsPlace n) (flat_map place_locs ps) → AllByRecursion (IsWritable target) (flat_map place_locs ps) → AreReady target n ts ps
-ready_from target n [] [] all fit lie write = tt
-ready_from target n [] (p ∷ ps) all fit lie write = absurd all
-ready_from target n (t ∷ ts) [] all fit lie write = absurd all
-ready_from target n (t ∷ ts) (Direct pieces ∷ ps) all fit lie write = (
-  record {
-    has_all = all.0;
-    lies = each_first (IsPlace n) (piece_locs pieces) (flat_map place_locs ps) lie;
-    writable = each_first (IsWritable target) (piece_locs pieces) (flat_map place_locs ps) write;
-  },
-  ready_from target n ts ps all.1 fit.1 (each_rest (IsPlace n) (piece_locs pieces) (flat_map place_locs ps) lie) (each_rest (IsWritable target) (piece_locs pieces) (flat_map place_locs ps) write),
-)
-ready_from target n (t ∷ ts) (ByRef at copy ∷ ps) all fit lie write = (
-  record { has_all = all.0; lies = (lie.0, fit.0); writable = (write.0, tt) },
-  ready_from target n ts ps all.1 fit.1 lie.1 write.1,
-)
+-- ---- and those that may be further words are of a floating file that has these
+
+more_words : (n : ℕ) (l : Loc) → IsPlace n l → IsPlaceIn 40 n l
+more_words n (G r) h = h
+more_words n (F r) h = omega (arith, h)
+more_words n (S k w) h = h
+
+further_place : (isa : Isa) (n : ℕ) (l : Loc) → IsFurther isa l → IsPlaceIn 40 n l
+further_place isa n (G r) h = absurd h
+further_place Amd64 n (F r) h = let below : nat_lt r 20 ≡ true = and_right (nat_le 16 r) (nat_lt r 20) h in grind (arith, nat_tests, below)
+further_place Aarch64 n (F r) h = let below : nat_lt r 40 ≡ true = and_right (nat_le 32 r) (nat_lt r 40) h in grind (arith, nat_tests, below)
+further_place Riscv n (F r) h = cc
+further_place isa n (S k w) h = absurd h
+
+pub any_place : (isa : Isa) (n : ℕ) (l : Loc) → StandsIn isa n l → IsPlaceIn 40 n l
+any_place isa n l (inl lies) = more_words n l (machine_place isa n l lies)
+any_place isa n l (inr further) = further_place isa n l further
+
+pub any_places : (isa : Isa) (n : ℕ) (ls : List Loc) → AllByRecursion (StandsIn isa n) ls → AllByRecursion (IsPlaceIn 40 n) ls
+any_places isa n ls h =
+    each_map (StandsIn isa n) (IsPlaceIn 40 n) (λ l stands. any_place isa n l stands) ls h
+
+module _ (f : ℕ) (target : Target) where
+  ready_from : (n : ℕ) (ts : List Tree) (ps : List Place) → PlacesHaveAll ts ps → CopiesFit n ts ps → AllByRecursion (IsPlaceIn f n) (flat_map place_locs ps) → AllByRecursion (IsWritable target) (flat_map place_locs ps) → AreReadyIn f target n ts ps
+  ready_from n [] [] all fit lie write = tt
+  ready_from n [] (p ∷ ps) all fit lie write = absurd all
+  ready_from n (t ∷ ts) [] all fit lie write = absurd all
+  ready_from n (t ∷ ts) (Direct pieces ∷ ps) all fit lie write = (
+    record {
+      has_all = all.0;
+      lies = each_first (IsPlaceIn f n) (piece_locs pieces) (flat_map place_locs ps) lie;
+      writable = each_first (IsWritable target) (piece_locs pieces) (flat_map place_locs ps) write;
+    },
+    ready_from n ts ps all.1 fit.1 (each_rest (IsPlaceIn f n) (piece_locs pieces) (flat_map place_locs ps) lie) (each_rest (IsWritable target) (piece_locs pieces) (flat_map place_locs ps) write),
+  )
+  ready_from n (t ∷ ts) (ByRef at copy ∷ ps) all fit lie write = (
+    record { has_all = all.0; lies = (lie.0, fit.0); writable = (write.0, tt) },
+    ready_from n ts ps all.1 fit.1 lie.1 write.1,
+  )
 
 -- ---- the laws
 
@@ -211,18 +241,30 @@ module _ (std : Standard) (s : Signature) (sound : IsSound std s) where
   call_places right =
       machine_places (isa_of std.target) (frame_of std s) (call_locs s (plan_of std s)) (sound.on_machine (faultless_is_plain s right)).in_frame
 
-  pub all_ready : SignatureHasNoFault s → (target : Target) → AllByRecursion (IsWritable target) (argument_locs (plan_of std s)) → AreReady target (frame_of std s) s.arguments (plan_of std s).places
-  all_ready right target write =
+  -- and what may be a further word is of a floating file that has these
+  pub any_call_places : AllByRecursion (IsPlaceIn 40 (frame_of std s)) (call_locs s (plan_of std s))
+  any_call_places =
+      any_places (isa_of std.target) (frame_of std s) (call_locs s (plan_of std s)) sound.in_frame
+
+  all_ready_in : (f : ℕ) → AllByRecursion (IsPlaceIn f (frame_of std s)) (call_locs s (plan_of std s)) → AllByRecursion HasSomeBytes s.arguments → (target : Target) → AllByRecursion (IsWritable target) (argument_locs (plan_of std s)) → AreReadyIn f target (frame_of std s) s.arguments (plan_of std s).places
+  all_ready_in f lie some target write =
       let arguments = argument_locs (plan_of std s) in
       let copies = copy_locs s.arguments (plan_of std s).places in
       let buffer = buffer_locs s.result_type (plan_of std s).res in
       let hidden = hidden_locs (plan_of std s).res in
       let flat = flat_map place_locs (plan_of std s).places in
-      let in_frame = each_rest (IsPlace (frame_of std s)) arguments (copies ++ buffer) (call_places right) in
-      ready_from target (frame_of std s) s.arguments (plan_of std s).places sound.has_all
-      (copies_fit (frame_of std s) s.arguments (plan_of std s).places (each_has_bytes s.arguments (argument_is_right s right)) (each_first (IsPlace (frame_of std s)) copies buffer in_frame))
-      (each_rest (IsPlace (frame_of std s)) hidden flat (each_first (IsPlace (frame_of std s)) arguments (copies ++ buffer) (call_places right)))
+      let in_frame = each_rest (IsPlaceIn f (frame_of std s)) arguments (copies ++ buffer) lie in
+      ready_from f target (frame_of std s) s.arguments (plan_of std s).places sound.has_all
+      (copies_fit f (frame_of std s) s.arguments (plan_of std s).places some (each_first (IsPlaceIn f (frame_of std s)) copies buffer in_frame))
+      (each_rest (IsPlaceIn f (frame_of std s)) hidden flat (each_first (IsPlaceIn f (frame_of std s)) arguments (copies ++ buffer) lie))
       (each_rest (IsWritable target) hidden flat write)
+
+  pub all_ready : SignatureHasNoFault s → (target : Target) → AllByRecursion (IsWritable target) (argument_locs (plan_of std s)) → AreReady target (frame_of std s) s.arguments (plan_of std s).places
+  all_ready right target write =
+      all_ready_in 32 (call_places right) (each_has_bytes AsArgument refl s.arguments (argument_is_right s right)) target write
+
+  pub any_ready : SignatureIsPlaced s → (target : Target) → AllByRecursion (IsWritable target) (argument_locs (plan_of std s)) → AreReadyIn 40 target (frame_of std s) s.arguments (plan_of std s).places
+  any_ready right target write = all_ready_in 40 any_call_places (placed_bytes s right) target write
 
   pub all_apart : AreApart (all_uses s.arguments (plan_of std s).places)
   all_apart =

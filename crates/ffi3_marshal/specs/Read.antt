@@ -8,13 +8,17 @@ use Rattle.ffi3_place_rules.specs.declared.Res.TheVariants.{Nothing, Direct as D
 use Rattle.ffi3_place_rules.specs.Image.{Image, byte_at}
 use Rattle.ffi3_place_rules.specs.Holds.{Carries}
 use Rattle.ffi3_place_rules.specs.Sound.{place_size, IsWhole}
-use Rattle.ffi3_marshal.specs.Stored.{IsPlace}
+use Rattle.ffi3_marshal.specs.Stored.{IsPlaceIn}
 
--- one of 32 registers, or up to eight bytes of the stack that is there
+-- one of 32 general registers, or of so many words of floating ones, or up to eight bytes of the stack that is there
+abbrev pub IsThereIn : ℕ → Image → ℕ → Loc → Type 0
+IsThereIn floatings m base (G r) = r < 32
+IsThereIn floatings m base (F r) = r < floatings
+IsThereIn floatings m base (S n w) = (base + n + w ≤ length m.stack) × (w ≤ 8)
+
+-- of an image that has one word for each of 32 floating registers
 abbrev pub IsThere : Image → ℕ → Loc → Type 0
-IsThere m base (G r) = r < 32
-IsThere m base (F r) = r < 32
-IsThere m base (S n w) = (base + n + w ≤ length m.stack) × (w ≤ 8)
+IsThere = IsThereIn 32
 
 -- these are the bytes of a place, and zeros behind them
 pub record AreBytesOf (base : ℕ) (m : Image) (l : Loc) (bytes : List ℕ) : Type 0 where
@@ -28,8 +32,12 @@ pub record IsPieceRead (base : ℕ) (m : Image) (p : Piece) (old new : List ℕ)
   pub others : (o : ℕ) → (Carries o p) ⊎ (get_or new o 0 ≡ get_or old o 0)
 
 -- the place of a hidden result's address is there and has eight bytes, and the buffer's address is one
+abbrev pub HiddenLiesIn : ℕ → ℕ → Image → Res → Type 0
+HiddenLiesIn floatings base m (Hidden at buffer) =
+    IsPlaceIn floatings (length m.stack - base) at × IsWhole at × (m.sp + base + buffer < 2 ^ 64)
+HiddenLiesIn floatings base m Nothing = ⊤
+HiddenLiesIn floatings base m (DirectRes pieces) = ⊤
+
+-- of such an image
 abbrev pub HiddenLies : ℕ → Image → Res → Type 0
-HiddenLies base m (Hidden at buffer) =
-    IsPlace (length m.stack - base) at × IsWhole at × (m.sp + base + buffer < 2 ^ 64)
-HiddenLies base m Nothing = ⊤
-HiddenLies base m (DirectRes pieces) = ⊤
+HiddenLies = HiddenLiesIn 32

@@ -11,7 +11,7 @@ use Rattle.ffi3_place_rules.specs.declared.Place.{Place}
 use Rattle.ffi3_place_rules.specs.declared.Place.TheVariants.{Direct, ByRef}
 use Rattle.ffi3_place_rules.specs.Image.{Image, word_at}
 use Rattle.ffi3_place_rules.specs.Sound.{PlaceHasAll, piece_locs, place_locs, stack_words_for}
-use Rattle.ffi3_marshal.specs.Stored.{IsPlace, IsWritable, KeepsAbove, PieceStands, Stays}
+use Rattle.ffi3_marshal.specs.Stored.{IsPlaceIn, IsWritable, KeepsAbove, PieceStands, Stays}
 
 -- the registers and the bytes of the stack that an argument uses
 abbrev pub place_uses : Tree → Place → List Loc
@@ -23,9 +23,12 @@ all_uses (t ∷ ts) (p ∷ ps) = place_uses t p ++ all_uses ts ps
 all_uses _ _ = []
 
 -- they lie in so many bytes of the stack
+abbrev pub PlaceLiesIn : ℕ → ℕ → Tree → Place → Type 0
+PlaceLiesIn floatings room t (Direct pieces) = AllByRecursion (IsPlaceIn floatings room) (piece_locs pieces)
+PlaceLiesIn floatings room t (ByRef at copy) = IsPlaceIn floatings room at × (copy + size_of t ≤ room)
+
 abbrev pub PlaceLies : ℕ → Tree → Place → Type 0
-PlaceLies room t (Direct pieces) = AllByRecursion (IsPlace room) (piece_locs pieces)
-PlaceLies room t (ByRef at copy) = IsPlace room at × (copy + size_of t ≤ room)
+PlaceLies = PlaceLiesIn 32
 
 -- the pieces stand at their places
 abbrev pub PiecesStand : ℕ → Image → Tree → List ℕ → List Piece → Type 0
@@ -63,12 +66,18 @@ pub record IsCopied (base : ℕ) (t : Tree) (bytes : List ℕ) (l : Loc) (copy :
   pub stays : Stays base (l ∷ stack_words_for copy t) old new
 
 -- what a store at a place needs: it has all of the argument, lies in the frame, and is written to
-pub record IsReady (target : Target) (room : ℕ) (t : Tree) (p : Place) : Type 0 where
+pub record IsReadyIn (floatings : ℕ) (target : Target) (room : ℕ) (t : Tree) (p : Place) : Type 0 where
   pub has_all : PlaceHasAll t p
-  pub lies : PlaceLies room t p
+  pub lies : PlaceLiesIn floatings room t p
   pub writable : AllByRecursion (IsWritable target) (place_locs p)
 
+abbrev pub AreReadyIn : ℕ → Target → ℕ → List Tree → List Place → Type 0
+AreReadyIn floatings target room [] [] = ⊤
+AreReadyIn floatings target room (t ∷ ts) (p ∷ ps) = IsReadyIn floatings target room t p × AreReadyIn floatings target room ts ps
+AreReadyIn floatings target room _ _ = ⊥
+
+abbrev pub IsReady : Target → ℕ → Tree → Place → Type 0
+IsReady = IsReadyIn 32
+
 abbrev pub AreReady : Target → ℕ → List Tree → List Place → Type 0
-AreReady target room [] [] = ⊤
-AreReady target room (t ∷ ts) (p ∷ ps) = IsReady target room t p × AreReady target room ts ps
-AreReady target room _ _ = ⊥
+AreReady = AreReadyIn 32

@@ -36,11 +36,15 @@ pub record HasLow (bytes : List ℕ) (old new : ℕ) : Type 0 where
 
 -- ---- places
 
--- one of an image's registers, or one to eight bytes of so many of the stack
+-- one of 32 general registers, or of so many words of floating ones, or one to eight bytes of so many of the stack
+abbrev pub IsPlaceIn : ℕ → ℕ → Loc → Type 0
+IsPlaceIn floatings stack (G r) = r < 32
+IsPlaceIn floatings stack (F r) = r < floatings
+IsPlaceIn floatings stack (S n w) = (n + w ≤ stack) × (0 < w) × (w ≤ 8)
+
+-- of an image that has one word for each of 32 floating registers
 abbrev pub IsPlace : ℕ → Loc → Type 0
-IsPlace stack (G r) = r < 32
-IsPlace stack (F r) = r < 32
-IsPlace stack (S n w) = (n + w ≤ stack) × (0 < w) × (w ≤ 8)
+IsPlace = IsPlaceIn 32
 
 -- a write to the place is not dropped, if the general registers that take one are these
 abbrev pub TakesAt : (ℕ → Type 0) → Loc → Type 0

@@ -20,14 +20,17 @@ pub trait ReadImage {
     /// The registers, and the bytes of the stack from the stack pointer on.
     ghost image: { Self → Image };
 
+    /// How many words the floating file has that are read and written.
+    ghost floatings: { ℕ };
+
     /// What general register `k` holds.
     fn general(&self, k: u8) -> u64
         requires { k < 32 }
         ensures { result ≡ get_or (image self.now).general k 0 };
 
-    /// What the low 64 bits of floating register `k` hold.
+    /// What word `k` of the floating file holds: the low 64 bits of floating register `k`, or a further word.
     fn floating(&self, k: u8) -> u64
-        requires { k < 32 }
+        requires { k < floatings }
         ensures { result ≡ get_or (image self.now).floating k 0 };
 
     /// The stack pointer.
@@ -61,9 +64,9 @@ pub trait WriteImage: ReadImage {
         ensures there { k < length (Self.image self.old).general }
         ensures wrote { (low high : ℕ) → wrote low high self.old self.new };
 
-    /// Sets the low 64 bits of floating register `k`.
+    /// Sets word `k` of the floating file.
     fn set_floating(&mut self, k: u8, value: u64)
-        requires below { k < 32 }
+        requires below { k < Self.floatings }
         ensures set { Self.image self.new ≡ with_floating k value (Self.image self.old) }
         ensures there { k < length (Self.image self.old).floating }
         ensures wrote { (low high : ℕ) → wrote low high self.old self.new };

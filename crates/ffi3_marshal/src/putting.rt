@@ -3,7 +3,7 @@ ghost use Rattle.std.specs.Prelude.{◌≡◌, ℕ, ◌+◌, ◌-◌, ◌/◌, �
 ghost use Rattle.std.specs.Int.{w64, to_le_bytes};
 ghost use Rattle.ffi3_type_rules.specs.Layout.{size_of};
 ghost use Rattle.ffi3_place_rules.specs.Sound.{IsPieceOf, IsWhole, IsWithin, place_size};
-ghost use Rattle.ffi3_marshal.specs.Stored.{HasLow, IsPlace, IsPut, IsSet, IsStored, IsWordPut, TakesAt};
+ghost use Rattle.ffi3_marshal.specs.Stored.{HasLow, IsPlaceIn, IsPut, IsSet, IsStored, IsWordPut, TakesAt};
 
 use crate::WriteImage;
 use crate::widen::{widened, widened_from_32};
@@ -29,11 +29,11 @@ fn with_low(word: u64, bytes: &[u8]) -> u64
 
 /// Puts bytes into a place, whose other bytes stay. Stack places count from `base` bytes above the stack pointer.
 pub fn put<W: WriteImage>(state: &mut W, base: u64, at: Loc, bytes: &[u8])
-    requires lies { IsPlace (length (W.image state.old).stack - base) at }
+    requires lies { IsPlaceIn W.floatings (length (W.image state.old).stack - base) at }
     requires takes { TakesAt (W.takes state.old) at }
     requires few { length bytes.now ≤ place_size at }
     ensures put { IsPut base at bytes.now (W.image state.old) (W.image state.new) }
-    ensures within { (room : ℕ) → IsPlace room at → W.wrote base (base + room) state.old state.new }
+    ensures within { (room : ℕ) → IsPlaceIn W.floatings room at → W.wrote base (base + room) state.old state.new }
 {
     // its length tells that the sum below is small
     let _len = state.stack_len();
@@ -52,22 +52,22 @@ pub fn put<W: WriteImage>(state: &mut W, base: u64, at: Loc, bytes: &[u8])
 
 /// Puts a number into a place of eight bytes. Stack places count from `base` bytes above the stack pointer.
 pub fn put_word<W: WriteImage>(state: &mut W, base: u64, at: Loc, word: u64)
-    requires lies { IsPlace (length (W.image state.old).stack - base) at }
+    requires lies { IsPlaceIn W.floatings (length (W.image state.old).stack - base) at }
     requires takes { TakesAt (W.takes state.old) at }
     requires whole { IsWhole at }
     ensures put { IsWordPut base at word (W.image state.old) (W.image state.new) }
-    ensures within { (room : ℕ) → IsPlace room at → W.wrote base (base + room) state.old state.new }
+    ensures within { (room : ℕ) → IsPlaceIn W.floatings room at → W.wrote base (base + room) state.old state.new }
 {
     put(state, base, at, &word.to_le_bytes());
 }
 
 /// Puts the bytes that a piece carries into its place, whose other bytes stay.
 pub fn set_piece<W: WriteImage>(state: &mut W, base: u64, piece: Piece, bytes: &[u8])
-    requires lies { IsPlace (length (W.image state.old).stack - base) piece.loc }
+    requires lies { IsPlaceIn W.floatings (length (W.image state.old).stack - base) piece.loc }
     requires takes { TakesAt (W.takes state.old) piece.loc }
     requires fits { IsWithin (length bytes.now) piece }
     ensures set { IsSet base piece bytes.now (W.image state.old) (W.image state.new) }
-    ensures within { (room : ℕ) → IsPlace room piece.loc → W.wrote base (base + room) state.old state.new }
+    ensures within { (room : ℕ) → IsPlaceIn W.floatings room piece.loc → W.wrote base (base + room) state.old state.new }
 {
     let from = piece.off as usize;
     put(
@@ -104,12 +104,12 @@ pub fn fill_piece<W: WriteImage>(
     ty: &CheckedType<'_>,
     bytes: &[u8],
 )
-    requires lies { IsPlace (length (W.image state.old).stack - base) piece.loc }
+    requires lies { IsPlaceIn W.floatings (length (W.image state.old).stack - base) piece.loc }
     requires takes { TakesAt (W.takes state.old) piece.loc }
     requires part { IsPieceOf ty.now piece }
     requires sized { length bytes.now ≡ size_of ty.now }
     ensures stored { IsStored base ty.now bytes.now piece (W.image state.old) (W.image state.new) }
-    ensures within { (room : ℕ) → IsPlace room piece.loc → W.wrote base (base + room) state.old state.new }
+    ensures within { (room : ℕ) → IsPlaceIn W.floatings room piece.loc → W.wrote base (base + room) state.old state.new }
 {
     let plain = ty.as_type();
     match piece.ext {

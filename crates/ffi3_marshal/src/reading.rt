@@ -2,14 +2,14 @@
 ghost use Rattle.std.specs.Prelude.{◌≡◌, length};
 ghost use Rattle.ffi3_place_rules.specs.Image.{word_at};
 ghost use Rattle.ffi3_place_rules.specs.Sound.{IsWithin};
-ghost use Rattle.ffi3_marshal.specs.Read.{AreBytesOf, IsPieceRead, IsThere};
+ghost use Rattle.ffi3_marshal.specs.Read.{AreBytesOf, IsPieceRead, IsThereIn};
 
 use crate::ReadImage;
 use ffi3_place::{Loc, Piece};
 
 /// The bytes of a place, and zeros behind them. Stack places count from `base` bytes above the stack pointer.
 pub fn place_bytes<R: ReadImage>(state: &R, base: u64, at: Loc) -> [u8; 8]
-    requires { IsThere (R.image state.now) base at }
+    requires { IsThereIn R.floatings (R.image state.now) base at }
     ensures { AreBytesOf base (R.image state.now) at result }
 {
     // its length tells that the sum below is small
@@ -27,7 +27,7 @@ pub fn place_bytes<R: ReadImage>(state: &R, base: u64, at: Loc) -> [u8; 8]
 
 /// The number in a place.
 pub fn place_word<R: ReadImage>(state: &R, base: u64, at: Loc) -> u64
-    requires { IsThere (R.image state.now) base at }
+    requires { IsThereIn R.floatings (R.image state.now) base at }
     ensures { result ≡ word_at (R.image state.now) base at }
 {
     match at {
@@ -39,7 +39,7 @@ pub fn place_word<R: ReadImage>(state: &R, base: u64, at: Loc) -> u64
 
 /// Reads a piece of a value from its place, among the value's bytes.
 pub fn read_piece<R: ReadImage>(state: &R, base: u64, piece: &Piece, out: &mut [u8])
-    requires there { IsThere (R.image state.now) base piece.now.loc }
+    requires there { IsThereIn R.floatings (R.image state.now) base piece.now.loc }
     requires within { IsWithin (length out.old) piece.now }
     ensures { IsPieceRead base (R.image state.now) piece.now out.old out.new }
 {

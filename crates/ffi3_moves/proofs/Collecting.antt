@@ -18,8 +18,8 @@ use Rattle.ffi3_place_rules.specs.Holds.{Carries, LeavesStand, OwnsArgument, Own
 use Rattle.ffi3_place_rules.specs.Sound.{place_size, CoversLeaf, HaveAll, IsPieceOf, piece_locs}
 use Rattle.ffi3_place_rules.proofs.Covered.{EndsIn, leaves_end}
 use Rattle.ffi3_place_rules.proofs.Reading.{LeavesRead, reads}
-use Rattle.ffi3_marshal.specs.Standing.{AreReady, IsReady}
-use Rattle.ffi3_marshal.specs.Stored.{IsPlace}
+use Rattle.ffi3_marshal.specs.Standing.{AreReadyIn, IsReadyIn}
+use Rattle.ffi3_transfer.specs.Places.{IsPlace}
 use Rattle.ffi3_transfer.specs.Packed.{packed_size, values_packed, behind}
 use Rattle.ffi3_transfer.proofs.Packing.{behind_drop, in_room}
 use Rattle.ffi3_moves.specs.Play.{bytes_behind, frame_at, play, word_from, written_over}
@@ -161,7 +161,7 @@ module _ (sp base : ℕ) (link : List ℕ) (linked : length link ≡ base) (x : 
   -- ---- arguments
 
   module _ (target : Target) where
-    argument_read : (i at : ℕ) (t : Tree) (p : Place) (v : ValueTree) (out : List ℕ) → at + size_of t ≤ length out → IsReady target (length x - frame_at) t p → OwnsArgument m base t p v → IsCollectedAs (sp + base) i at t v out (play (sp + base) (argument_out i at t p) x out)
+    argument_read : (i at : ℕ) (t : Tree) (p : Place) (v : ValueTree) (out : List ℕ) → at + size_of t ≤ length out → IsReadyIn 40 target (length x - frame_at) t p → OwnsArgument m base t p v → IsCollectedAs (sp + base) i at t v out (play (sp + base) (argument_out i at t p) x out)
     argument_read i at t (Direct pieces) v out room ready owns = pieces_read (sp + base) i at t pieces v out room ready.has_all ready.lies owns.0 owns.1
     argument_read i at t (ByRef l copy) v out room ready owns =
         let word : word_from x (exchange_at l) ≡ sp + base + copy = sym (word_is sp base link linked x long are l ready.lies.0 ready.has_all) ∙ owns.1 in
@@ -182,7 +182,7 @@ module _ (sp base : ℕ) (link : List ℕ) (linked : length link ≡ base) (x : 
       pub size : length new ≡ length old
       pub before : (k : ℕ) → k < at → get_or new k 0 ≡ get_or old k 0
 
-    pub arguments_read : (i at : ℕ) (ts : List Tree) (ps : List Place) (vs : List ValueTree) (out : List ℕ) → at + packed_size ts ≤ length out → AreReady target (length x - frame_at) ts ps → OwnsArguments m base ts ps vs → AreCollectedAs at ts vs out (play (sp + base) (arguments_out i at ts ps) x out)
+    pub arguments_read : (i at : ℕ) (ts : List Tree) (ps : List Place) (vs : List ValueTree) (out : List ℕ) → at + packed_size ts ≤ length out → AreReadyIn 40 target (length x - frame_at) ts ps → OwnsArguments m base ts ps vs → AreCollectedAs at ts vs out (play (sp + base) (arguments_out i at ts ps) x out)
     arguments_read i at [] [] [] out room ready owns = record { values = refl; size = refl; before = λ k h. refl }
     arguments_read i at [] [] (v ∷ vs) out room ready owns = absurd owns
     arguments_read i at [] (p ∷ ps) vs out room ready owns = absurd ready

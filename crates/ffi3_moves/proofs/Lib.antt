@@ -4,6 +4,7 @@ pub mod Places
 pub mod Extended
 pub mod Filled
 pub mod Storing
+pub mod Stubs
 pub mod Passing
 pub mod Whole
 pub mod Collecting

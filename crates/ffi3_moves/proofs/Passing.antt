@@ -17,12 +17,13 @@ use Rattle.ffi3_place_rules.specs.declared.Place.TheVariants.{Direct, ByRef}
 use Rattle.ffi3_place_rules.specs.Image.{Image}
 use Rattle.ffi3_place_rules.specs.Standard.{round8}
 use Rattle.ffi3_place_rules.specs.Sound.{place_size, IsWhole, AreApart, IsNoneOf}
-use Rattle.ffi3_marshal.specs.Standing.{AreReady, IsReady, PlaceKeeps, PlaceStands, PlacesKeep, all_uses, place_uses}
-use Rattle.ffi3_marshal.specs.Stored.{IsPlace, IsWordPut, Stays, stored}
+use Rattle.ffi3_marshal.specs.Standing.{AreReadyIn, IsReadyIn, PlaceKeeps, PlaceStands, PlacesKeep, all_uses, place_uses}
+use Rattle.ffi3_marshal.specs.Stored.{IsWordPut, Stays, stored}
 use Rattle.ffi3_marshal.proofs.Composing.{stays_none}
 use Rattle.ffi3_marshal.proofs.Copying.{copied, keeps_since, place_keeps, place_stays}
 use Rattle.ffi3_marshal.proofs.Puts.{stored_inside, stored_outside, stored_size, word_put}
 use Rattle.ffi3_marshal.proofs.Lawful.{across_none, apart_first, apart_rest, apart_across, each_first, each_rest}
+use Rattle.ffi3_transfer.specs.Places.{IsPlace}
 use Rattle.ffi3_transfer.specs.Packed.{packed_size}
 use Rattle.ffi3_transfer.specs.Standing.{AllStand}
 use Rattle.ffi3_transfer.proofs.Packing.{behind_drop, in_room}
@@ -30,10 +31,9 @@ use Rattle.ffi3_moves.specs.declared.Move.{Move}
 use Rattle.ffi3_moves.specs.Play.{frame_at, play, play_one, written_over}
 use Rattle.ffi3_moves.specs.Moves.{exchange_at, argument_in, arguments_in}
 use Rattle.ffi3_moves.specs.Exchange.{AreBytes, image_at, words_from}
-use Rattle.ffi3_moves.specs.Laws.{KeepsStubs}
 use Rattle.ffi3_moves.proofs.Bytes.{over_inside, over_outside, over_size, over_bytes, over_apart, part_bytes}
 use Rattle.ffi3_moves.proofs.Places.{put_there, stack_byte}
-use Rattle.ffi3_moves.proofs.Storing.{keeps_both, keeps_none, keeps_over, pieces_played, stays_both}
+use Rattle.ffi3_moves.proofs.Storing.{StaysLong, keeps_both, keeps_none, keeps_over, pieces_played, stays_both}
 
 -- ---- moves one after another
 
@@ -55,7 +55,7 @@ places_since base ls o a b (t ∷ ts) (p ∷ ps) none s keep = (
 
 pub record IsWordMoved (base : ℕ) (l : Loc) (w : ℕ) (sp : ℕ) (link x y : List ℕ) : Type 0 where
   pub put : IsWordPut base l w (image_at sp link x) (image_at sp link y)
-  pub keeps : KeepsStubs x y
+  pub keeps : StaysLong x y
 
 module _ (sp base : ℕ) (link : List ℕ) (linked : length link ≡ base) where
   pub word_moved : (x : List ℕ) (l : Loc) (w : ℕ) → frame_at ≤ length x → AreBytes x → IsPlace (length x - frame_at) l → IsWhole l → w < 2 ^ 64 → IsWordMoved base l w sp link x (written_over (exchange_at l) (to_le_bytes w64 w) x)
@@ -129,15 +129,14 @@ module _ (sp base : ℕ) (link : List ℕ) (linked : length link ≡ base) where
     pub copy_image : image_at sp link new ≡ stored (base + copy) bytes (image_at sp link x)
     copy_image =
         let general = words_same 32 0 (omega arith) in
-        let floating = words_same 32 256 (omega arith) in
+        let floating = words_same 40 256 (omega arith) in
         let stack = ext_get_or 0 (image_at sp link new).stack (stored (base + copy) bytes (image_at sp link x)).stack (new_long ∙ sym (stored_size (base + copy) bytes (image_at sp link x) fits_there)) (λ k h. stack_same k) in
         λ i. record { general = general i; floating = floating i; sp = sp; stack = stack i }
 
-    pub copy_keeps : KeepsStubs x new
+    pub copy_keeps : StaysLong x new
     copy_keeps = record {
       size = over_size (frame_at + copy) bytes x fits;
       are = over_bytes (frame_at + copy) bytes x fits bytes_are are;
-      stubs = λ k from to. over_outside (frame_at + copy) bytes x fits k (inl (omega (arith, to)));
     }
 
   -- ---- arguments
@@ -146,10 +145,10 @@ module _ (sp base : ℕ) (link : List ℕ) (linked : length link ≡ base) where
     pub stands : PlaceStands base (image_at sp link y) t bytes p
     pub kept : PlaceKeeps base (image_at sp link x) (image_at sp link y) t p
     pub stays : Stays base (place_uses t p) (image_at sp link x) (image_at sp link y)
-    pub keeps : KeepsStubs x y
+    pub keeps : StaysLong x y
 
   module _ (target : Target) (values : List ℕ) (values_are : AreBytes values) where
-    argument_played : (i at : ℕ) (t : Tree) (p : Place) (x : List ℕ) → at + size_of t ≤ length values → frame_at ≤ length x → AreBytes x → sp + base + (length x - frame_at) < 2 ^ 64 → IsReady target (length x - frame_at) t p → AreApart (place_uses t p) → IsArgumentPlayed t (part values at (size_of t)) p x (play (sp + base) (argument_in i at t p) values x)
+    argument_played : (i at : ℕ) (t : Tree) (p : Place) (x : List ℕ) → at + size_of t ≤ length values → frame_at ≤ length x → AreBytes x → sp + base + (length x - frame_at) < 2 ^ 64 → IsReadyIn 40 target (length x - frame_at) t p → AreApart (place_uses t p) → IsArgumentPlayed t (part values at (size_of t)) p x (play (sp + base) (argument_in i at t p) values x)
     argument_played i at t (Direct pieces) x room long are high ready apart =
         let all = pieces_played sp base link linked (sp + base) values values_are i at t room pieces x long are ready.has_all.each ready.lies apart in
         record { stands = all.stand; kept = all.kept; stays = all.stays; keeps = all.keeps }
@@ -172,9 +171,9 @@ module _ (sp base : ℕ) (link : List ℕ) (linked : length link ≡ base) where
       pub stand : AllStand base (image_at sp link y) ts ps bytes
       pub kept : PlacesKeep base (image_at sp link x) (image_at sp link y) ts ps
       pub stays : Stays base (all_uses ts ps) (image_at sp link x) (image_at sp link y)
-      pub keeps : KeepsStubs x y
+      pub keeps : StaysLong x y
 
-    pub arguments_played : (i at : ℕ) (ts : List Tree) (ps : List Place) (x : List ℕ) → at + packed_size ts ≤ length values → frame_at ≤ length x → AreBytes x → sp + base + (length x - frame_at) < 2 ^ 64 → AreReady target (length x - frame_at) ts ps → AreApart (all_uses ts ps) → AreArgumentsPlayed ts ps (drop at values) x (play (sp + base) (arguments_in i at ts ps) values x)
+    pub arguments_played : (i at : ℕ) (ts : List Tree) (ps : List Place) (x : List ℕ) → at + packed_size ts ≤ length values → frame_at ≤ length x → AreBytes x → sp + base + (length x - frame_at) < 2 ^ 64 → AreReadyIn 40 target (length x - frame_at) ts ps → AreApart (all_uses ts ps) → AreArgumentsPlayed ts ps (drop at values) x (play (sp + base) (arguments_in i at ts ps) values x)
     arguments_played i at [] [] x room long are high ready apart = record { stand = tt; kept = tt; stays = stays_none base (image_at sp link x); keeps = keeps_none x are }
     arguments_played i at [] (p ∷ ps) x room long are high ready apart = absurd ready
     arguments_played i at (t ∷ ts) [] x room long are high ready apart = absurd ready
@@ -183,7 +182,7 @@ module _ (sp base : ℕ) (link : List ℕ) (linked : length link ≡ base) where
         let first = argument_played i at t p x here long are high ready.0 (apart_first (place_uses t p) (all_uses ts ps) apart) in
         let y = play (sp + base) (argument_in i at t p) values x in
         let same_size : length (play (sp + base) (argument_in i at t p) values x) ≡ length x = first.keeps.size in
-        let still : AreReady target (length (play (sp + base) (argument_in i at t p) values x) - frame_at) ts ps = subst (λ n. AreReady target (n - frame_at) ts ps) (sym same_size) ready.1 in
+        let still : AreReadyIn 40 target (length (play (sp + base) (argument_in i at t p) values x) - frame_at) ts ps = subst (λ n. AreReadyIn 40 target (n - frame_at) ts ps) (sym same_size) ready.1 in
         let next = at + round8 (size_of t) in
         let rest = arguments_played (i + 1) next ts ps y (omega (arith, room)) (omega (arith, same_size, long)) first.keeps.are (omega (arith, same_size, high)) still (apart_rest (place_uses t p) (all_uses ts ps) apart) in
         let z = play (sp + base) (arguments_in (i + 1) (at + round8 (size_of t)) ts ps) values (play (sp + base) (argument_in i at t p) values x) in

@@ -10,8 +10,9 @@ use Rattle.ffi3_place_rules.specs.declared.Loc.{Loc}
 use Rattle.ffi3_place_rules.specs.declared.Loc.TheVariants.{G, F, S}
 use Rattle.ffi3_place_rules.specs.Image.{byte_at, word_at}
 use Rattle.ffi3_place_rules.specs.Sound.{place_size, IsWhole, Apart, IsNoneOf}
-use Rattle.ffi3_marshal.specs.Stored.{IsPlace, IsPut, SameAt, Stays}
+use Rattle.ffi3_marshal.specs.Stored.{IsPut, SameAt, Stays}
 use Rattle.ffi3_marshal.proofs.Puts.{word_there}
+use Rattle.ffi3_transfer.specs.Places.{IsPlace}
 use Rattle.ffi3_moves.specs.Play.{frame_at, word_from, written_over}
 use Rattle.ffi3_moves.specs.Moves.{exchange_at}
 use Rattle.ffi3_moves.specs.Exchange.{AreBytes, image_at, words_from}
@@ -23,12 +24,6 @@ pub place_fits : (l : Loc) (size : ℕ) → frame_at ≤ size → IsPlace (size 
 place_fits (G r) size long h = omega (arith, long, h)
 place_fits (F r) size long h = omega (arith, long, h)
 place_fits (S n w) size long h = omega (arith, long, h.0)
-
--- registers end before the words of the stubs
-pub register_below : (l : Loc) → IsPlace 0 l → exchange_at l + 8 ≤ 512
-register_below (G r) h = omega (arith, h)
-register_below (F r) h = omega (arith, h)
-register_below (S n w) h = absurd (omega (arith, h.0, h.1))
 
 -- two registers of one kind
 lower_of : (a b : ℕ) → a ≢ b → (a < b) ⊎ (b < a)
@@ -71,7 +66,7 @@ module _ (sp base : ℕ) (link : List ℕ) (linked : length link ≡ base) where
     byte_there (G r) h k few =
         ap (λ n. get_or (to_le_bytes w64 n) k 0) (general_read r x h) ∙ word_byte x (8 * r) (omega (arith, h, long)) are k few
     byte_there (F r) h k few =
-        ap (λ n. get_or (to_le_bytes w64 n) k 0) (words_read 32 256 r x h) ∙ word_byte x (256 + 8 * r) (omega (arith, h, long)) are k few
+        ap (λ n. get_or (to_le_bytes w64 n) k 0) (words_read 40 256 r x h) ∙ word_byte x (256 + 8 * r) (omega (arith, h, long)) are k few
     byte_there (S n w) h k few =
         let one : base + n + k ≡ base + (n + k) = omega arith in
         let two : frame_at + (n + k) ≡ frame_at + n + k = omega arith in
@@ -79,7 +74,7 @@ module _ (sp base : ℕ) (link : List ℕ) (linked : length link ≡ base) where
 
     pub word_is : (l : Loc) → IsPlace (length x - frame_at) l → IsWhole l → word_at (image_at sp link x) base l ≡ word_from x (exchange_at l)
     word_is (G r) h whole = general_read r x h
-    word_is (F r) h whole = words_read 32 256 r x h
+    word_is (F r) h whole = words_read 40 256 r x h
     word_is (S n w) h whole =
         let lies = subst (λ u. IsPlace (length x - frame_at) (S n u)) whole h in
         let fits : frame_at + n + 8 ≤ length x = place_fits (S n 8) (length x) long lies in
@@ -104,16 +99,16 @@ module _ (sp base : ℕ) (link : List ℕ) (linked : length link ≡ base) where
           | inr above ↦ words_past 32 0 a new above ∙ sym (words_past 32 0 a x above)
         ]
 
-    floating_same : (a : ℕ) → Apart (F a) l → get_or (words_from 32 256 new) a 0 ≡ get_or (words_from 32 256 x) a 0
+    floating_same : (a : ℕ) → Apart (F a) l → get_or (words_from 40 256 new) a 0 ≡ get_or (words_from 40 256 x) a 0
     floating_same a apart =
-        elim (cases_lt a 32) [
-          | inl below ↦ words_read 32 256 a new below ∙ same_word (256 + 8 * a) (omega (arith, below, long)) (apart_there (length x - frame_at) (F a) l below lies apart) ∙ sym (words_read 32 256 a x below)
-          | inr above ↦ words_past 32 256 a new above ∙ sym (words_past 32 256 a x above)
+        elim (cases_lt a 40) [
+          | inl below ↦ words_read 40 256 a new below ∙ same_word (256 + 8 * a) (omega (arith, below, long)) (apart_there (length x - frame_at) (F a) l below lies apart) ∙ sym (words_read 40 256 a x below)
+          | inr above ↦ words_past 40 256 a new above ∙ sym (words_past 40 256 a x above)
         ]
 
     stack_side : (q u : ℕ) (at : Loc) → at ≡ l → Apart (S q u) at → (frame_at + q + u ≤ exchange_at l) ⊎ (exchange_at l + place_size l ≤ frame_at + q)
     stack_side q u (G r) is apart = inr (subst (λ at. exchange_at at + place_size at ≤ frame_at + q) is (let below : r < 32 = subst (IsPlace (length x - frame_at)) (sym is) lies in omega (arith, below)))
-    stack_side q u (F r) is apart = inr (subst (λ at. exchange_at at + place_size at ≤ frame_at + q) is (let below : r < 32 = subst (IsPlace (length x - frame_at)) (sym is) lies in omega (arith, below)))
+    stack_side q u (F r) is apart = inr (subst (λ at. exchange_at at + place_size at ≤ frame_at + q) is (let below : r < 40 = subst (IsPlace (length x - frame_at)) (sym is) lies in omega (arith, below)))
     stack_side q u (S n w) is (inl below) = inl (subst (λ at. frame_at + q + u ≤ exchange_at at) is (omega (arith, below)))
     stack_side q u (S n w) is (inr above) = inr (subst (λ at. exchange_at at + place_size at ≤ frame_at + q) is (omega (arith, above)))
 

@@ -6,10 +6,10 @@ use Rattle.std.proofs.lemmas.List.{take_all}
 use Rattle.ffi3_type_rules.specs.Isa.{isa_of}
 use Rattle.ffi3_type_rules.specs.Tree.{Tree, void}
 use Rattle.ffi3_type_rules.specs.Layout.{size_of}
-use Rattle.ffi3_type_rules.specs.Signature.{Signature, SignatureHasNoFault}
+use Rattle.ffi3_type_rules.specs.Signature.{Signature, SignatureIsPlaced, HasNoLongDouble}
 use Rattle.ffi3_type_rules.specs.Value.{ValueTree, void_value, leaf_value, struct_value, value_in, fits, part}
 use Rattle.ffi3_type_rules.proofs.Parts.{length_part}
-use Rattle.ffi3_type_rules.proofs.Right.{result_is_laid_out}
+use Rattle.ffi3_type_rules.proofs.Placed.{placed_result_is_laid_out}
 use Rattle.ffi3_type_rules.proofs.Fitting.{value_fits}
 use Rattle.ffi3_place_rules.specs.declared.Loc.{Loc}
 use Rattle.ffi3_place_rules.specs.declared.Loc.TheVariants.{G, F, S}
@@ -19,13 +19,15 @@ use Rattle.ffi3_place_rules.specs.Standard.{Standard, plan_of, frame_of}
 use Rattle.ffi3_place_rules.specs.Agrees.{AgreesWithMachine}
 use Rattle.ffi3_place_rules.specs.Isa.{to_list}
 use Rattle.ffi3_place_rules.specs.Holds.{Own, OwnResult, OwnsResult, FillsResult, RegisterHolds}
-use Rattle.ffi3_place_rules.specs.Sound.{AreApart, IsSound, LiesIn, ResultHasAll, piece_locs, result_locs}
+use Rattle.ffi3_place_rules.specs.Sound.{AreApart, IsSound, LiesIn, StandsIn, ResultHasAll, piece_locs, result_locs}
+use Rattle.ffi3_place_rules.proofs.Further.{each_stands}
 use Rattle.ffi3_marshal.specs.Standing.{PiecesStand}
-use Rattle.ffi3_marshal.specs.Stored.{IsPlace, Stays}
-use Rattle.ffi3_marshal.proofs.Arguments.{ready_all}
+use Rattle.ffi3_marshal.specs.Stored.{Stays}
+use Rattle.ffi3_marshal.proofs.Arguments.{any_ready_all}
 use Rattle.ffi3_marshal.proofs.Composing.{stays_none}
 use Rattle.ffi3_marshal.proofs.Owning.{pieces_filled, pieces_stand}
-use Rattle.ffi3_marshal.proofs.Lawful.{machine_places}
+use Rattle.ffi3_marshal.proofs.Lawful.{any_places}
+use Rattle.ffi3_transfer.specs.Places.{IsPlace}
 use Rattle.ffi3_transfer.specs.Calls.{ResultKeeps}
 use Rattle.ffi3_transfer.specs.Packed.{packed_size, values_packed}
 use Rattle.ffi3_transfer.proofs.Given.{stack_same}
@@ -33,10 +35,11 @@ use Rattle.ffi3_transfer.proofs.Results.{buffer_within}
 use Rattle.ffi3_moves.specs.Play.{frame_at, play, written_over}
 use Rattle.ffi3_moves.specs.Moves.{collect_moves, exchange_at, give_moves, given_back_at, load_moves, result_in, result_out, returned_at}
 use Rattle.ffi3_moves.specs.Exchange.{AreBytes, image_at}
-use Rattle.ffi3_moves.specs.Laws.{IsInBuffer, IsReturned, KeepsStubs, address_of, returned_locs, with_returned}
+use Rattle.ffi3_moves.specs.Laws.{IsInBuffer, IsReturned, address_of, returned_locs, with_returned}
 use Rattle.ffi3_moves.proofs.Collecting.{arguments_read, part_there, pieces_read, whole_read}
 use Rattle.ffi3_moves.proofs.Passing.{word_moved}
-use Rattle.ffi3_moves.proofs.Storing.{keeps_none, pieces_played}
+use Rattle.ffi3_moves.proofs.Storing.{StaysLong, keeps_none, pieces_played}
+use Rattle.ffi3_moves.proofs.Stubs.{IsLow, all_low, stubs_kept}
 use Rattle.ffi3_moves.proofs.Whole.{place_more, ready_more}
 
 all_more : (n m : ℕ) → n ≤ m → (ls : List Loc) → AllByRecursion (IsPlace n) ls → AllByRecursion (IsPlace m) ls
@@ -65,8 +68,8 @@ module _ (std : Standard) (s : Signature) (sound : IsSound std s) (sp : ℕ) (x 
   result_read Nothing is v out sized fit owns = no_value s.result_type v out (subst (ResultHasAll s.result_type) (sym is) sound.result_has_all) fit
   result_read (DirectRes pieces) is v out sized fit owns =
       let has = subst (ResultHasAll s.result_type) (sym is) sound.result_has_all in
-      let lie = subst (λ r. AllByRecursion (LiesIn (isa_of std.target) 0) (result_locs r)) (sym is) sound.result_in_registers in
-      let places = all_more 0 (length x - frame_at) (omega arith) (piece_locs pieces) (machine_places (isa_of std.target) 0 (piece_locs pieces) lie) in
+      let lie = subst (λ r. AllByRecursion (StandsIn (isa_of std.target) 0) (result_locs r)) (sym is) sound.result_in_registers in
+      let places = all_more 0 (length x - frame_at) (omega arith) (piece_locs pieces) (any_places (isa_of std.target) 0 (piece_locs pieces) lie) in
       let all_room : 0 + size_of s.result_type ≤ length out = omega (arith, sized) in
       let read = pieces_read sp 0 [] no_link x long are sp 0 0 s.result_type pieces v out all_room has places fit owns in
       let new = play sp (result_out s.result_type (DirectRes pieces)) x out in
@@ -87,9 +90,9 @@ module _ (std : Standard) (s : Signature) (sound : IsSound std s) (sp : ℕ) (x 
 
   -- ---- what a callee gives
 
-  module _ (right : SignatureHasNoFault s) (agrees : AgreesWithMachine std) (bytes : List ℕ) (bytes_are : AreBytes bytes) (sized : length bytes ≡ size_of s.result_type) (high : sp + (length x - frame_at) < 2 ^ 64) where
+  module _ (right : SignatureIsPlaced s) (agrees : AgreesWithMachine std) (bytes : List ℕ) (bytes_are : AreBytes bytes) (sized : length bytes ≡ size_of s.result_type) (high : sp + (length x - frame_at) < 2 ^ 64) where
     fitting : fits s.result_type (value_in s.result_type bytes) ≡ true
-    fitting = value_fits s.result_type bytes (result_is_laid_out s right) sized
+    fitting = value_fits s.result_type bytes (placed_result_is_laid_out s right) sized
 
     stack_long : frame_of std s ≤ length (image_at sp [] x).stack
     stack_long = omega (arith, room, length-drop frame_at x)
@@ -100,9 +103,9 @@ module _ (std : Standard) (s : Signature) (sound : IsSound std s) (sp : ℕ) (x 
       fills : FillsResult std (image_at sp [] y) s.result_type r (value_in s.result_type bytes)
       kept : ResultKeeps (image_at sp [] x) (image_at sp [] y) r
       stays : Stays 0 (returned_locs r std.returned_address) (image_at sp [] x) (image_at sp [] y)
-      keeps : KeepsStubs x y
+      keeps : StaysLong x y
 
-    address_given : (l : Option Loc) → AllByRecursion (IsPlace 0) (to_list l) → (address : ℕ) → address < 2 ^ 64 → (RegisterHolds (image_at sp [] (with_returned address (option_map exchange_at l) x)) l address) × (Stays 0 (to_list l) (image_at sp [] x) (image_at sp [] (with_returned address (option_map exchange_at l) x))) × (KeepsStubs x (with_returned address (option_map exchange_at l) x))
+    address_given : (l : Option Loc) → AllByRecursion (IsPlace 0) (to_list l) → (address : ℕ) → address < 2 ^ 64 → (RegisterHolds (image_at sp [] (with_returned address (option_map exchange_at l) x)) l address) × (Stays 0 (to_list l) (image_at sp [] x) (image_at sp [] (with_returned address (option_map exchange_at l) x))) × (StaysLong x (with_returned address (option_map exchange_at l) x))
     address_given None registers address small = (tt, stays_none 0 (image_at sp [] x), keeps_none x are)
     address_given (Some (G r)) registers address small =
         let word = word_moved sp 0 [] no_link x (G r) address long are registers.0 refl small in
@@ -116,8 +119,8 @@ module _ (std : Standard) (s : Signature) (sound : IsSound std s) (sp : ℕ) (x 
     result_given Nothing is in_buffer = record { stands = tt; fills = tt; kept = tt; stays = stays_none 0 (image_at sp [] x); keeps = keeps_none x are }
     result_given (DirectRes pieces) is in_buffer =
         let has = subst (ResultHasAll s.result_type) (sym is) sound.result_has_all in
-        let lie = subst (λ r. AllByRecursion (LiesIn (isa_of std.target) 0) (result_locs r)) (sym is) sound.result_in_registers in
-        let places = all_more 0 (length x - frame_at) (omega arith) (piece_locs pieces) (machine_places (isa_of std.target) 0 (piece_locs pieces) lie) in
+        let lie = subst (λ r. AllByRecursion (StandsIn (isa_of std.target) 0) (result_locs r)) (sym is) sound.result_in_registers in
+        let places = all_more 0 (length x - frame_at) (omega arith) (piece_locs pieces) (any_places (isa_of std.target) 0 (piece_locs pieces) lie) in
         let apart = subst (λ r. AreApart (result_locs r)) (sym is) sound.result_apart in
         let all_room : 0 + size_of s.result_type ≤ length bytes = omega (arith, sized) in
         let all = pieces_played sp 0 [] no_link sp bytes bytes_are 0 0 s.result_type all_room pieces x long are has.each places apart in
@@ -132,7 +135,7 @@ module _ (std : Standard) (s : Signature) (sound : IsSound std s) (sp : ℕ) (x 
         }
     result_given (Hidden at buffer) is in_buffer =
         let inside = buffer_within std s at buffer (sym is) in
-        let registers = machine_places (isa_of std.target) 0 (to_list std.returned_address) agrees.returned_exists in
+        let registers = any_places (isa_of std.target) 0 (to_list std.returned_address) (each_stands (isa_of std.target) 0 (to_list std.returned_address) agrees.returned_exists) in
         let given = address_given std.returned_address registers (sp + buffer) (omega (arith, inside, room, high)) in
         let y = with_returned (sp + buffer) (option_map exchange_at std.returned_address) x in
         let same = stack_same 0 (to_list std.returned_address) (image_at sp [] x) (image_at sp [] y) registers given.1 in
@@ -146,6 +149,14 @@ module _ (std : Standard) (s : Signature) (sound : IsSound std s) (sp : ℕ) (x 
           keeps = given.2;
         }
 
+    -- without long doubles it is in no word where stubs keep addresses
+    returned_low : (r : Res) → r ≡ (plan_of std s).res → HasNoLongDouble s → AllByRecursion IsLow (returned_locs r std.returned_address)
+    returned_low Nothing is plain = tt
+    returned_low (DirectRes pieces) is plain =
+        all_low (isa_of std.target) 0 (piece_locs pieces) (subst (λ r. AllByRecursion (LiesIn (isa_of std.target) 0) (result_locs r)) (sym is) (sound.on_machine plain).result_in_registers)
+    returned_low (Hidden at buffer) is plain =
+        all_low (isa_of std.target) 0 (to_list std.returned_address) agrees.returned_exists
+
     pub returned : IsInBuffer s.result_type (plan_of std s).res bytes x → IsReturned std s bytes sp x (with_returned (address_of sp (plan_of std s).res) (returned_at std s) (play sp (give_moves std s) bytes x))
     returned in_buffer =
         let all = result_given (plan_of std s).res refl in_buffer in
@@ -156,13 +167,13 @@ module _ (std : Standard) (s : Signature) (sound : IsSound std s) (sp : ℕ) (x 
           };
           kept = all.kept;
           stays = all.stays;
-          keeps = all.keeps;
+          keeps = stubs_kept sp 0 [] x (with_returned (address_of sp (plan_of std s).res) (returned_at std s) (play sp (give_moves std s) bytes x)) long are all.keeps (returned_locs (plan_of std s).res std.returned_address) all.stays s (returned_low (plan_of std s).res refl);
         }
 
-module _ (std : Standard) (s : Signature) (sound : IsSound std s) (right : SignatureHasNoFault s) (agrees : AgreesWithMachine std) (sp : ℕ) (link : List ℕ) (linked : length link ≡ std.link) (x : List ℕ) (are : AreBytes x) (room : frame_at + frame_of std s ≤ length x) where
+module _ (std : Standard) (s : Signature) (sound : IsSound std s) (right : SignatureIsPlaced s) (agrees : AgreesWithMachine std) (sp : ℕ) (link : List ℕ) (linked : length link ≡ std.link) (x : List ℕ) (are : AreBytes x) (room : frame_at + frame_of std s ≤ length x) where
   pub collected : (vs : List ValueTree) (out : List ℕ) → length out ≡ packed_size s.arguments → Own std s vs (image_at sp link x) → values_packed s.arguments (play (sp + std.link) (collect_moves std s) x out) ≡ vs
   collected vs out sized own =
-      let ready = ready_more std.target (frame_of std s) (length x - frame_at) (omega (arith, room)) s.arguments (plan_of std s).places (ready_all std s sound right agrees) in
+      let ready = ready_more std.target (frame_of std s) (length x - frame_at) (omega (arith, room)) s.arguments (plan_of std s).places (any_ready_all std s sound agrees right) in
       let all_room : 0 + packed_size s.arguments ≤ length out = omega (arith, sized) in
       let long_enough : frame_at ≤ length x = omega (arith, room) in
       (arguments_read sp std.link link linked x long_enough are std.target 0 0 s.arguments (plan_of std s).places vs out all_room ready own.arguments).values

@@ -1,6 +1,6 @@
 -- Worked rows, computed.
 use Rattle.std.specs.Prelude.{◌≡◌, List, [], ◌∷◌, ◌++◌, refl, replicate, Some, None}
-use Rattle.ffi3_type_rules.specs.Tree.{Tree, void, scalar, struct_of, u8, s8, u16, u32, s32, float, double, pointer}
+use Rattle.ffi3_type_rules.specs.Tree.{Tree, void, scalar, struct_of, u8, s8, u16, u32, s32, float, double, pointer, x87, binary128}
 use Rattle.ffi3_type_rules.specs.Layout.{least_multiple}
 use Rattle.ffi3_place_rules.proofs.Worked.{sig_of, variadic_from, triple}
 use Rattle.ffi3_amd64_rules.specs.Amd64.{amd64}
@@ -119,6 +119,21 @@ win64_reference = refl
 win64_variadic : collect_moves win64 (variadic_from (scalar s32) (scalar pointer ∷ scalar double ∷ []) 1) ≡ row Bytes 0 8 0 8 ∷ row Bytes 1 264 8 8 ∷ row Bytes 1 16 8 8 ∷ []
 unfolding least_multiple
 win64_variadic = refl
+
+-- ---- long doubles of 16 bytes: ten of AMD64's are in st(0), significand first
+amd64_long_double : load_moves amd64 (sig_of (scalar x87) []) ≡ row Bytes 0 392 8 2 ∷ row Bytes 0 384 0 8 ∷ []
+unfolding least_multiple
+amd64_long_double = refl
+
+-- and on the stack it has all 16
+amd64_long_double_passed : store_moves amd64 (sig_of void (scalar x87 ∷ [])) ≡ row Bytes 0 0 576 8 ∷ row Bytes 0 8 584 8 ∷ row Number 0 0 0 8 ∷ []
+unfolding least_multiple
+amd64_long_double_passed = refl
+
+-- on AAPCS64 in v0, whose upper half stands behind the words of all registers
+aapcs64_long_double : store_moves aapcs64 (sig_of void (scalar binary128 ∷ [])) ≡ row Bytes 0 0 256 8 ∷ row Bytes 0 8 512 8 ∷ []
+unfolding least_multiple
+aapcs64_long_double = refl
 
 -- ---- on Apple's, behind eight pointers: uint8, uint16 and sint32 stand packed, and no byte between them is written or read
 abbrev pointers : List Tree

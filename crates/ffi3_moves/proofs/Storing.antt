@@ -1,6 +1,6 @@
 -- The moves of a value store it at its places, in the image that an exchange is.
 use Rattle.std.specs.Prelude.{true, ◌/◌, ◌^◌}
-use Rattle.std.proofs.Common.{◌≡◌, ◌⊎◌, inl, inr, ℕ, ◌+◌, ◌-◌, ◌*◌, ◌<◌, ◌≤◌, List, [], ◌∷◌, ◌++◌, length, get_or, refl, ap, sym, ◌∙◌, subst, arith}
+use Rattle.std.proofs.Common.{◌≡◌, ℕ, ◌+◌, ◌-◌, ◌*◌, ◌<◌, ◌≤◌, List, [], ◌∷◌, ◌++◌, length, get_or, refl, ap, sym, ◌∙◌, subst, arith}
 use Rattle.std.specs.Int.{w64, to_le_bytes, from_le_bytes}
 use Rattle.std.specs.List.{AllByRecursion}
 use Rattle.ffi3_type_rules.specs.Tree.{Tree, Scalar, void, scalar, left_out, structure, array}
@@ -16,18 +16,18 @@ use Rattle.ffi3_place_rules.specs.declared.Piece.{Piece}
 use Rattle.ffi3_place_rules.specs.Image.{Image}
 use Rattle.ffi3_place_rules.specs.Sound.{place_size, IsWhole, Apart, AreApart, IsNoneOf, IsExtended, IsPieceOf, is_floating_place, is_narrow_integer, piece_locs}
 use Rattle.ffi3_marshal.specs.Standing.{PiecesStand}
-use Rattle.ffi3_marshal.specs.Stored.{IsPlace, IsPut, IsStored, KeepsAbove, Stays}
+use Rattle.ffi3_marshal.specs.Stored.{IsPut, IsStored, KeepsAbove, Stays}
 use Rattle.ffi3_marshal.proofs.Composing.{apart_sym, none_append, same_then, stays_none}
 use Rattle.ffi3_marshal.proofs.Filling.{boxed_stored, free_stored, from_32_stored, widened_stored}
 use Rattle.ffi3_marshal.proofs.Puts.{piece_set, word_put}
 use Rattle.ffi3_marshal.proofs.Stepping.{all_keep, all_since, all_stand_stays}
+use Rattle.ffi3_transfer.specs.Places.{IsPlace}
 use Rattle.ffi3_moves.specs.Play.{frame_at, moved, play, play_one, to_eight, written_over}
 use Rattle.ffi3_moves.specs.Moves.{exchange_at, filling, piece_in, pieces_in}
 use Rattle.ffi3_moves.specs.Exchange.{AreBytes, image_at}
-use Rattle.ffi3_moves.specs.Laws.{KeepsStubs}
-use Rattle.ffi3_moves.proofs.Bytes.{part_bytes, part_part, over_outside, over_size, over_bytes}
+use Rattle.ffi3_moves.proofs.Bytes.{part_bytes, part_part, over_size, over_bytes}
 use Rattle.ffi3_moves.proofs.Places.{place_fits, put_there}
-use Rattle.ffi3_moves.proofs.Extended.{IsFilledBy, eight_of_4, widen_filled, riscv_filled}
+use Rattle.ffi3_moves.proofs.Extended.{IsFilledBy, eight_of_4, narrow_room, widen_filled, riscv_filled}
 use Rattle.ffi3_moves.proofs.Filled.{AreWord, eight_word, filled_word, eight_long, eight_low, eight_are}
 
 -- ---- one after another
@@ -40,29 +40,23 @@ stays_both base ls ks a b c s t = record {
   others = λ l none. let parts = none_append ls ks l none in same_then base l a b c (s.others l parts.0) (t.others l parts.1);
 }
 
-pub keeps_none : (x : List ℕ) → AreBytes x → KeepsStubs x x
-keeps_none x are = record { size = refl; are = are; stubs = λ k from to. refl }
+-- an exchange stays as long as it is
+pub record StaysLong (old new : List ℕ) : Type 0 where
+  pub size : length new ≡ length old
+  pub are : AreBytes new
 
-pub keeps_both : (x y z : List ℕ) → KeepsStubs x y → KeepsStubs y z → KeepsStubs x z
-keeps_both x y z a b = record {
-  size = b.size ∙ a.size;
-  are = b.are;
-  stubs = λ k from to. b.stubs k from to ∙ a.stubs k from to;
-}
+pub keeps_none : (x : List ℕ) → AreBytes x → StaysLong x x
+keeps_none x are = record { size = refl; are = are }
 
--- the words of the stubs lie in no place
-stubs_apart : (l : Loc) (room k n : ℕ) → IsPlace room l → n ≤ place_size l → 512 ≤ k → k < frame_at → (k < exchange_at l) ⊎ (exchange_at l + n ≤ k)
-stubs_apart (G r) room k n h few from to = inr (omega (arith, h, few, from))
-stubs_apart (F r) room k n h few from to = inr (omega (arith, h, few, from))
-stubs_apart (S m w) room k n h few from to = inl (omega (arith, to))
+pub keeps_both : (x y z : List ℕ) → StaysLong x y → StaysLong y z → StaysLong x z
+keeps_both x y z a b = record { size = b.size ∙ a.size; are = b.are }
 
-pub keeps_over : (x bytes : List ℕ) (l : Loc) → frame_at ≤ length x → AreBytes x → IsPlace (length x - frame_at) l → length bytes ≤ place_size l → AreBytes bytes → KeepsStubs x (written_over (exchange_at l) bytes x)
+pub keeps_over : (x bytes : List ℕ) (l : Loc) → frame_at ≤ length x → AreBytes x → IsPlace (length x - frame_at) l → length bytes ≤ place_size l → AreBytes bytes → StaysLong x (written_over (exchange_at l) bytes x)
 keeps_over x bytes l long are lies few bytes_are =
     let fits : exchange_at l + length bytes ≤ length x = omega (arith, place_fits l (length x) long lies, few) in
     record {
       size = over_size (exchange_at l) bytes x fits;
       are = over_bytes (exchange_at l) bytes x fits bytes_are are;
-      stubs = λ k from to. over_outside (exchange_at l) bytes x fits k (stubs_apart l (length x - frame_at) k (length bytes) lies few from to);
     }
 
 -- ---- a float with ones above it
@@ -133,9 +127,9 @@ module _ (sp base : ℕ) (link : List ℕ) (linked : length link ≡ base) (fram
     -- the piece is stored
     pub record IsMoved : Type 0 where
       pub stored : IsStored base t value p (image_at sp link x) (image_at sp link after)
-      pub keeps : KeepsStubs x after
+      pub keeps : StaysLong x after
 
-    put_bytes : length bytes ≤ place_size p.loc → AreBytes bytes → IsPut base p.loc bytes (image_at sp link x) (image_at sp link after) × KeepsStubs x after
+    put_bytes : length bytes ≤ place_size p.loc → AreBytes bytes → IsPut base p.loc bytes (image_at sp link x) (image_at sp link after) × StaysLong x after
     put_bytes few bytes_are =
         let keeps = keeps_over x bytes p.loc long are lies few bytes_are in
         (put_there sp base link linked x long are p.loc lies bytes few keeps.are, keeps)
@@ -148,7 +142,7 @@ module _ (sp base : ℕ) (link : List ℕ) (linked : length link ≡ base) (fram
         let set = piece_set base p value (image_at sp link x) (image_at sp link after) (of.short, within, of.fits) (subst (λ z. IsPut base p.loc z (image_at sp link x) (image_at sp link after)) (is ∙ source_is) put.0) in
         record { stored = free_stored base value p (image_at sp link x) (image_at sp link after) t ext set; keeps = put.1 }
 
-    word_moved : IsWhole p.loc → (n : ℕ) → AreWord bytes n → IsPut base p.loc bytes (image_at sp link x) (image_at sp link after) × KeepsStubs x after
+    word_moved : IsWhole p.loc → (n : ℕ) → AreWord bytes n → IsPut base p.loc bytes (image_at sp link x) (image_at sp link after) × StaysLong x after
     word_moved wide n word = put_bytes (omega (arith, word.long, wide)) word.are
 
     boxed_moved : p.ext ≡ Boxed → IsExtended t p Boxed → IsMoved
@@ -187,12 +181,16 @@ module _ (sp base : ℕ) (link : List ℕ) (linked : length link ≡ base) (fram
     riscv_word s narrow many same =
         filled_word frame values (at + p.off) p.len (filling Riscv s) (widened_from_32 s value) few source_are (subst (λ z. IsFilledBy source (filling Riscv s) (widened_from_32 s z)) same (riscv_filled source source_are s narrow (ap length same ∙ many)))
 
+    value_sized : t ≡ scalar (scalar_of t) → is_narrow_integer t ≡ true → length value ≡ scalar_size (scalar_of t)
+    value_sized alone narrow =
+        sized ∙ ap size_of alone ∙ narrow_room (scalar_of t) (subst (λ u. is_narrow_integer u ≡ true) alone narrow)
+
     widen_moved : p.ext ≡ Widen → IsExtended t p Widen → IsMoved
     widen_moved ext e =
         let is : bytes ≡ moved (filling Widen (scalar_of t)) frame values (at + p.off) p.len = ap (λ e. moved (filling e (scalar_of t)) frame values (at + p.off) p.len) ext in
         let alone = scalar_is t e.0 in
         let n = widened (scalar_of t) value in
-        let word = subst (λ z. AreWord z (widened (scalar_of t) value)) (sym is) (widen_word (scalar_of t) (subst (λ u. is_narrow_integer u ≡ true) alone e.0) (sized ∙ ap size_of alone) (whole e.1 e.2)) in
+        let word = subst (λ z. AreWord z (widened (scalar_of t) value)) (sym is) (widen_word (scalar_of t) (subst (λ u. is_narrow_integer u ≡ true) alone e.0) (value_sized alone e.0) (whole e.1 e.2)) in
         let put = word_moved e.3 n word in
         let put_word = word_put base p.loc n bytes (image_at sp link x) (image_at sp link after) e.3 word.small word.is put.0 in
         record {
@@ -205,7 +203,7 @@ module _ (sp base : ℕ) (link : List ℕ) (linked : length link ≡ base) (fram
         let is : bytes ≡ moved (filling Riscv (scalar_of t)) frame values (at + p.off) p.len = ap (λ e. moved (filling e (scalar_of t)) frame values (at + p.off) p.len) ext in
         let alone = scalar_is t e.0 in
         let n = widened_from_32 (scalar_of t) value in
-        let word = subst (λ z. AreWord z (widened_from_32 (scalar_of t) value)) (sym is) (riscv_word (scalar_of t) (subst (λ u. is_narrow_integer u ≡ true) alone e.0) (sized ∙ ap size_of alone) (whole e.1 e.2)) in
+        let word = subst (λ z. AreWord z (widened_from_32 (scalar_of t) value)) (sym is) (riscv_word (scalar_of t) (subst (λ u. is_narrow_integer u ≡ true) alone e.0) (value_sized alone e.0) (whole e.1 e.2)) in
         let put = word_moved e.3 n word in
         let put_word = word_put base p.loc n bytes (image_at sp link x) (image_at sp link after) e.3 word.small word.is put.0 in
         record {
@@ -227,7 +225,7 @@ module _ (sp base : ℕ) (link : List ℕ) (linked : length link ≡ base) (fram
     pub stand : PiecesStand base (image_at sp link y) t value ps
     pub kept : AllByRecursion (KeepsAbove base (image_at sp link x) (image_at sp link y)) ps
     pub stays : Stays base (piece_locs ps) (image_at sp link x) (image_at sp link y)
-    pub keeps : KeepsStubs x y
+    pub keeps : StaysLong x y
 
   pub pieces_played : (ps : List Piece) (x : List ℕ) → frame_at ≤ length x → AreBytes x → AllByRecursion (IsPieceOf t) ps → AllByRecursion (IsPlace (length x - frame_at)) (piece_locs ps) → AreApart (piece_locs ps) → ArePlayed ps x (play frame (pieces_in i at t ps) values x)
   pieces_played [] x long are parts lie apart = record { stand = tt; kept = tt; stays = stays_none base (image_at sp link x); keeps = keeps_none x are }

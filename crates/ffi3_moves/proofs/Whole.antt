@@ -6,8 +6,8 @@ use Rattle.std.specs.List.{AllByRecursion, flat_map}
 use Rattle.ffi3_type_rules.specs.declared.Target.{Target}
 use Rattle.ffi3_type_rules.specs.Isa.{isa_of}
 use Rattle.ffi3_type_rules.specs.Tree.{Tree}
-use Rattle.ffi3_type_rules.specs.Signature.{Signature, SignatureHasNoFault}
-use Rattle.ffi3_type_rules.proofs.Right.{argument_is_laid_out}
+use Rattle.ffi3_type_rules.specs.Signature.{Signature, SignatureIsPlaced, HasNoLongDouble}
+use Rattle.ffi3_type_rules.proofs.Placed.{placed_argument_is_laid_out}
 use Rattle.ffi3_place_rules.specs.declared.Loc.{Loc}
 use Rattle.ffi3_place_rules.specs.declared.Loc.TheVariants.{G, F, S}
 use Rattle.ffi3_place_rules.specs.declared.Place.{Place}
@@ -18,12 +18,13 @@ use Rattle.ffi3_place_rules.specs.Image.{Image}
 use Rattle.ffi3_place_rules.specs.Agrees.{AgreesWithMachine}
 use Rattle.ffi3_place_rules.specs.Standard.{Standard, plan_of, frame_of}
 use Rattle.ffi3_place_rules.specs.Holds.{OwnsHidden, RegisterHolds}
-use Rattle.ffi3_place_rules.specs.Sound.{IsWhole, Apart, IsNoneOf, IsSound, LiesIn, argument_locs, buffer_locs, copy_locs, hidden_locs, place_locs}
-use Rattle.ffi3_marshal.specs.Standing.{AreReady, all_uses}
-use Rattle.ffi3_marshal.specs.Stored.{IsPlace, Stays}
-use Rattle.ffi3_marshal.proofs.Arguments.{lies_more, places_keep, ready_all}
+use Rattle.ffi3_place_rules.specs.Sound.{IsWhole, Apart, IsNoneOf, IsSound, argument_locs, buffer_locs, call_locs, copy_locs, hidden_locs, place_locs}
+use Rattle.ffi3_marshal.specs.Standing.{AreReadyIn, all_uses}
+use Rattle.ffi3_marshal.specs.Stored.{Stays}
+use Rattle.ffi3_marshal.proofs.Arguments.{any_ready_all, lies_more_in, places_keep}
 use Rattle.ffi3_marshal.proofs.Composing.{none_append, stays_none}
-use Rattle.ffi3_marshal.proofs.Lawful.{across_none, all_apart, each_first, each_join, machine_places}
+use Rattle.ffi3_marshal.proofs.Lawful.{across_none, all_apart, any_call_places, each_first, each_join, each_rest, uses_each}
+use Rattle.ffi3_transfer.specs.Places.{IsPlace}
 use Rattle.ffi3_transfer.specs.Packed.{packed_size}
 use Rattle.ffi3_transfer.specs.Calls.{stored_locs}
 use Rattle.ffi3_transfer.proofs.Arguments.{all_stay}
@@ -33,8 +34,9 @@ use Rattle.ffi3_transfer.proofs.Results.{buffer_within}
 use Rattle.ffi3_moves.specs.Play.{frame_at, play}
 use Rattle.ffi3_moves.specs.Moves.{arguments_in, count_in, hidden_in, hidden_move, moves_of, store_moves}
 use Rattle.ffi3_moves.specs.Exchange.{AreBytes, image_at}
-use Rattle.ffi3_moves.specs.Laws.{ArePassed, ArePassedWith, HasAddress, KeepsStubs, address_of, with_address}
-use Rattle.ffi3_moves.proofs.Storing.{keeps_both, keeps_none, stays_both}
+use Rattle.ffi3_moves.specs.Laws.{ArePassed, ArePassedWith, HasAddress, address_of, with_address}
+use Rattle.ffi3_moves.proofs.Storing.{StaysLong, keeps_both, keeps_none, stays_both}
+use Rattle.ffi3_moves.proofs.Stubs.{IsLow, all_low, stubs_kept}
 use Rattle.ffi3_moves.proofs.Passing.{arguments_played, play_append, word_moved}
 
 -- ---- what is needed lies in a longer exchange
@@ -44,12 +46,12 @@ place_more n m h (G r) lies = lies
 place_more n m h (F r) lies = lies
 place_more n m h (S k w) lies = (omega (arith, h, lies.0), lies.1, lies.2)
 
-pub ready_more : (target : Target) (n m : ℕ) → n ≤ m → (ts : List Tree) (ps : List Place) → AreReady target n ts ps → AreReady target m ts ps
+pub ready_more : (target : Target) (n m : ℕ) → n ≤ m → (ts : List Tree) (ps : List Place) → AreReadyIn 40 target n ts ps → AreReadyIn 40 target m ts ps
 ready_more target n m h [] [] ready = tt
 ready_more target n m h [] (p ∷ ps) ready = absurd ready
 ready_more target n m h (t ∷ ts) [] ready = absurd ready
 ready_more target n m h (t ∷ ts) (p ∷ ps) ready = (
-  record { has_all = ready.0.has_all; lies = lies_more n m t p h ready.0.lies; writable = ready.0.writable },
+  record { has_all = ready.0.has_all; lies = lies_more_in 40 n m t p h ready.0.lies; writable = ready.0.writable },
   ready_more target n m h ts ps ready.1,
 )
 
@@ -77,7 +79,7 @@ module _ (sp base : ℕ) (link : List ℕ) (linked : length link ≡ base) where
   record IsCountPlayed (k : Option Loc) (n : ℕ) (x y : List ℕ) : Type 0 where
     told : RegisterHolds (image_at sp link y) k n
     stays : Stays base (to_list k) (image_at sp link x) (image_at sp link y)
-    keeps : KeepsStubs x y
+    keeps : StaysLong x y
 
   count_played : (frame : ℕ) (k : Option Loc) (n : ℕ) (values x : List ℕ) → n < 2 ^ 64 → frame_at ≤ length x → AreBytes x → AllByRecursion (IsPlace 0) (to_list k) → IsCountPlayed k n x (play frame (count_in k n) values x)
   count_played frame None n values x small long are registers = record { told = tt; stays = stays_none base (image_at sp link x); keeps = keeps_none x are }
@@ -92,7 +94,7 @@ module _ (sp base : ℕ) (link : List ℕ) (linked : length link ≡ base) where
   record IsAddressPlayed (r : Res) (address : ℕ) (x y : List ℕ) : Type 0 where
     told : HasAddress base (image_at sp link y) address r
     stays : Stays base (hidden_locs r) (image_at sp link x) (image_at sp link y)
-    keeps : KeepsStubs x y
+    keeps : StaysLong x y
 
   address_written : (r : Res) (address : ℕ) (x : List ℕ) → address < 2 ^ 64 → frame_at ≤ length x → AreBytes x → AllByRecursion (IsPlace (length x - frame_at)) (hidden_locs r) → AllByRecursion IsWhole (hidden_locs r) → IsAddressPlayed r address x (with_address address r x)
   address_written Nothing address x small long are lie wide = record { told = tt; stays = stays_none base (image_at sp link x); keeps = keeps_none x are }
@@ -101,7 +103,7 @@ module _ (sp base : ℕ) (link : List ℕ) (linked : length link ≡ base) where
       let word = word_moved sp base link linked x at address long are lie.0 wide.0 small in
       record { told = word.put.word; stays = word.put.stays; keeps = word.keeps }
 
-module _ (std : Standard) (s : Signature) (sound : IsSound std s) (right : SignatureHasNoFault s) (agrees : AgreesWithMachine std) where
+module _ (std : Standard) (s : Signature) (sound : IsSound std s) (right : SignatureIsPlaced s) (agrees : AgreesWithMachine std) where
   abbrev ts : List Tree
   ts = s.arguments
 
@@ -113,9 +115,8 @@ module _ (std : Standard) (s : Signature) (sound : IsSound std s) (right : Signa
 
   hidden_lies : (n : ℕ) → frame_of std s ≤ n → AllByRecursion (IsPlace n) (hidden_locs (plan_of std s).res)
   hidden_lies n room =
-      let passed = each_first (LiesIn (isa_of std.target) (frame_of std s)) (argument_locs (plan_of std s)) (copy_locs s.arguments (plan_of std s).places ++ buffer_locs s.result_type (plan_of std s).res) sound.in_frame in
-      let hidden = each_first (LiesIn (isa_of std.target) (frame_of std s)) (hidden_locs (plan_of std s).res) (flat_map place_locs (plan_of std s).places) passed in
-      more (hidden_locs (plan_of std s).res) (machine_places (isa_of std.target) (frame_of std s) (hidden_locs (plan_of std s).res) hidden)
+      let passed = each_first (IsPlace (frame_of std s)) (argument_locs (plan_of std s)) (copy_locs s.arguments (plan_of std s).places ++ buffer_locs s.result_type (plan_of std s).res) (any_call_places std s sound) in
+      more (hidden_locs (plan_of std s).res) (each_first (IsPlace (frame_of std s)) (hidden_locs (plan_of std s).res) (flat_map place_locs (plan_of std s).places) passed)
     where
       more : (ls : List Loc) → AllByRecursion (IsPlace (frame_of std s)) ls → AllByRecursion (IsPlace n) ls
       more [] h = tt
@@ -129,6 +130,22 @@ module _ (std : Standard) (s : Signature) (sound : IsSound std s) (right : Signa
       let parts = none_append count (hidden ++ uses) l none in
       let rest = none_append hidden uses l parts.1 in
       each_join (Apart l) (uses ++ count) hidden (each_join (Apart l) uses count rest.1 parts.0) rest.0
+
+  -- without long doubles none of them has a word where stubs keep addresses
+  stored_low : HasNoLongDouble s → AllByRecursion IsLow (stored_locs std s)
+  stored_low plain =
+      let isa = isa_of std.target in
+      let hidden = hidden_locs (plan_of std s).res in
+      let flat = flat_map place_locs (plan_of std s).places in
+      let copies = copy_locs s.arguments (plan_of std s).places in
+      let buffer = buffer_locs s.result_type (plan_of std s).res in
+      let count = to_list std.vector_count in
+      let all = all_low isa (frame_of std s) (call_locs s (plan_of std s)) (sound.on_machine plain).in_frame in
+      let passed = each_first IsLow (argument_locs (plan_of std s)) (copies ++ buffer) all in
+      let copied = each_first IsLow copies buffer (each_rest IsLow (argument_locs (plan_of std s)) (copies ++ buffer) all) in
+      let uses = uses_each IsLow s.arguments (plan_of std s).places sound.has_all (each_rest IsLow hidden flat passed) copied in
+      let rest = each_join IsLow hidden (all_uses s.arguments (plan_of std s).places) (each_first IsLow hidden flat passed) uses in
+      each_join IsLow count (hidden ++ all_uses s.arguments (plan_of std s).places) (all_low isa 0 count agrees.count_exists) rest
 
   module _ (values : List ℕ) (values_are : AreBytes values) (sized : length values ≡ packed_size s.arguments) (sp : ℕ) (link : List ℕ) (linked : length link ≡ std.link) (x : List ℕ) (are : AreBytes x) (room : frame_at + frame_of std s ≤ length x) (high : sp + std.link + (length x - frame_at) < 2 ^ 64) (few : (plan_of std s).vectors < 2 ^ 64) where
     abbrev frame : ℕ
@@ -146,7 +163,7 @@ module _ (std : Standard) (s : Signature) (sound : IsSound std s) (right : Signa
     passed_to : (address : ℕ) → address < 2 ^ 64 → ArePassedWith std s values sp link address x (with_address address res second)
     passed_to address small =
         let long : frame_at ≤ length x = omega (arith, room) in
-        let ready = ready_all std s sound right agrees in
+        let ready = any_ready_all std s sound agrees right in
         let ready_here = ready_more std.target (frame_of std s) (length x - frame_at) (omega (arith, room)) ts ps ready in
         let all_room : 0 + packed_size s.arguments ≤ length values = omega (arith, sized) in
         let one = arguments_played sp std.link link linked std.target values values_are 0 0 ts ps x all_room long are high ready_here (all_apart std s sound) in
@@ -165,14 +182,16 @@ module _ (std : Standard) (s : Signature) (sound : IsSound std s) (right : Signa
         let kept_d = places_keep std.link (hidden_locs res) (image_at sp link x) (image_at sp link b) (image_at sp link d) ts ps (hidden_clear std s sound) three.stays kept_b in
         let both = stays_both std.link (all_uses ts ps) (to_list std.vector_count) (image_at sp link x) (image_at sp link a) (image_at sp link b) one.stays two.stays in
         let all = stays_both std.link (all_uses ts ps ++ to_list std.vector_count) (hidden_locs res) (image_at sp link x) (image_at sp link b) (image_at sp link d) both three.stays in
+        let stays = stays_as std.link ((all_uses ts ps ++ to_list std.vector_count) ++ hidden_locs res) (stored_locs std s) (image_at sp link x) (image_at sp link d) all_locs all in
+        let keeps = keeps_both x b d (keeps_both x a b one.keeps two.keeps) three.keeps in
         record {
-          arguments = owned std.link (image_at sp link d) ts ps values (argument_is_laid_out s right) (omega (arith, sized)) stand_d;
+          arguments = owned std.link (image_at sp link d) ts ps values (placed_argument_is_laid_out s right) (omega (arith, sized)) stand_d;
           filled = filled std.link (image_at sp link d) ts ps values stand_d;
           vectors = register_stays std.link std.vector_count (plan_of std s).vectors (hidden_locs res) (image_at sp link b) (image_at sp link d) registers (across_none (hidden_locs res) (to_list std.vector_count) (count_clear_of_hidden std s sound)) three.stays two.told;
           hidden = three.told;
           kept = kept_d;
-          stays = stays_as std.link ((all_uses ts ps ++ to_list std.vector_count) ++ hidden_locs res) (stored_locs std s) (image_at sp link x) (image_at sp link d) all_locs all;
-          keeps = keeps_both x b d (keeps_both x a b one.keeps two.keeps) three.keeps;
+          stays = stays;
+          keeps = stubs_kept sp std.link link x d long are keeps (stored_locs std s) stays s stored_low;
         }
 
     pub passed_with : (address : ℕ) → address < 2 ^ 64 → ArePassedWith std s values sp link address x (with_address address (plan_of std s).res (play (sp + std.link) (store_moves std s) values x))

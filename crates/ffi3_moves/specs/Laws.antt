@@ -1,17 +1,19 @@
 -- What it means that moves are played.
-use Rattle.std.specs.Prelude.{◌≡◌, ℕ, ◌+◌, ◌<◌, ◌≤◌, ⊤, List, [], get_or, length, Option, Some, None}
+use Rattle.std.specs.Prelude.{◌≡◌, ℕ, ◌+◌, ◌-◌, ◌/◌, ◌<◌, ◌≤◌, ⊤, List, [], get_or, length, Option, Some, None}
 use Rattle.std.specs.Int.{w64, to_le_bytes}
 use Rattle.ffi3_type_rules.specs.Tree.{Tree}
 use Rattle.ffi3_type_rules.specs.Layout.{size_of}
-use Rattle.ffi3_type_rules.specs.Signature.{Signature}
+use Rattle.ffi3_type_rules.specs.Signature.{Signature, HasNoLongDouble}
 use Rattle.ffi3_type_rules.specs.Value.{part, value_in}
 use Rattle.ffi3_place_rules.specs.declared.Loc.{Loc}
+use Rattle.ffi3_place_rules.specs.declared.Loc.TheVariants.{F}
 use Rattle.ffi3_place_rules.specs.declared.Res.{Res}
 use Rattle.ffi3_place_rules.specs.declared.Res.TheVariants.{Nothing, Direct as DirectRes, Hidden}
 use Rattle.ffi3_place_rules.specs.Image.{Image, word_at}
 use Rattle.ffi3_place_rules.specs.Isa.{to_list}
 use Rattle.ffi3_place_rules.specs.Locs.{piece_locs}
 use Rattle.ffi3_place_rules.specs.Standard.{Standard, plan_of}
+use Rattle.ffi3_place_rules.specs.Sound.{IsNoneOf}
 use Rattle.ffi3_place_rules.specs.Holds.{FillArguments, HoldsResult, OwnsArguments, RegisterHolds}
 use Rattle.ffi3_transfer.specs.Calls.{IsCallStored, ResultKeeps, stored_locs}
 use Rattle.ffi3_marshal.specs.Standing.{PlacesKeep}
@@ -21,16 +23,19 @@ use Rattle.ffi3_moves.specs.Play.{frame_at, written_over}
 use Rattle.ffi3_moves.specs.Moves.{exchange_at}
 use Rattle.ffi3_moves.specs.Exchange.{AreBytes, image_at}
 
--- the exchange stays as long as it is, and so do the words of the stubs in it
-pub record KeepsStubs (old new : List ℕ) : Type 0 where
+-- The exchange stays as long as it is, and so do the words of the stubs in it. Where these are, words of the floating file have their numbers too: upper halves of AArch64's v0 to v7. Those that are among the places of a call are written.
+pub record KeepsStubs (s : Signature) (locs : List Loc) (old new : List ℕ) : Type 0 where
   pub size : length new ≡ length old
   pub are : AreBytes new
-  pub stubs : (k : ℕ) → 512 ≤ k → k < frame_at → get_or new k 0 ≡ get_or old k 0
+  pub stubs : HasNoLongDouble s → (k : ℕ) → 512 ≤ k → k < frame_at → get_or new k 0 ≡ get_or old k 0
+  -- whatever the signature
+  pub others :
+      (k : ℕ) → 512 ≤ k → k < frame_at → IsNoneOf locs (F ((k - 256) / 8)) → get_or new k 0 ≡ get_or old k 0
 
 -- THE CALLER'S ARGUMENTS ARE PLAYED: the image of the exchange, which is that of the callee's entry, holds the values, and all else stays
 pub record ArePassed (std : Standard) (s : Signature) (values : List ℕ) (sp : ℕ) (link old new : List ℕ) : Type 0 where
   pub stored : IsCallStored std s values (image_at sp link old) (image_at sp link new)
-  pub keeps : KeepsStubs old new
+  pub keeps : KeepsStubs s (stored_locs std s) old new
 
 -- an address is written to the place of that of a hidden result
 abbrev pub with_address : ℕ → Res → List ℕ → List ℕ
@@ -51,7 +56,7 @@ pub record ArePassedWith (std : Standard) (s : Signature) (values : List ℕ) (s
   pub hidden : HasAddress std.link (image_at sp link new) address (plan_of std s).res
   pub kept : PlacesKeep std.link (image_at sp link old) (image_at sp link new) s.arguments (plan_of std s).places
   pub stays : Stays std.link (stored_locs std s) (image_at sp link old) (image_at sp link new)
-  pub keeps : KeepsStubs old new
+  pub keeps : KeepsStubs s (stored_locs std s) old new
 
 -- ---- results; the frame's start is sp
 
@@ -83,4 +88,4 @@ pub record IsReturned (std : Standard) (s : Signature) (bytes : List ℕ) (sp : 
   pub holds : HoldsResult std s (value_in s.result_type bytes) (image_at sp [] new)
   pub kept : ResultKeeps (image_at sp [] old) (image_at sp [] new) (plan_of std s).res
   pub stays : Stays 0 (returned_locs (plan_of std s).res std.returned_address) (image_at sp [] old) (image_at sp [] new)
-  pub keeps : KeepsStubs old new
+  pub keeps : KeepsStubs s (returned_locs (plan_of std s).res std.returned_address) old new

@@ -19,7 +19,7 @@ use Rattle.ffi3_moves.specs.declared.Kind.TheVariants.{Bytes, Zero, Sign, Ones, 
 use Rattle.ffi3_moves.specs.declared.Move.{Move}
 use Rattle.ffi3_moves.specs.Play.{frame_at}
 
--- where a place stands in an exchange: a register's as the stubs have it, a stack place behind the start of the frame
+-- where a place stands in an exchange: a register's as the stubs have it, with AMD64's st(0) and st(1) at 384 to 415 by the numbers of their words; the upper halves of AArch64's v0 to v7 by theirs at 512 to 575, where stubs keep addresses, since no stub moves them; a stack place behind the start of the frame
 abbrev pub exchange_at : Loc → ℕ
 exchange_at (G r) = 8 * r
 exchange_at (F r) = 256 + 8 * r

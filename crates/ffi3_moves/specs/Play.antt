@@ -6,7 +6,7 @@ use Rattle.ffi3_moves.specs.declared.Kind.{Kind}
 use Rattle.ffi3_moves.specs.declared.Kind.TheVariants.{Bytes, Zero, Sign, Ones, Number, Address, Behind}
 use Rattle.ffi3_moves.specs.declared.Move.{Move}
 
--- where in an exchange the frame's bytes begin: behind those of the registers, and those in which stubs keep addresses, which end at 552; at a multiple of 64, so that the frame is aligned as the exchange is, up to that
+-- where in an exchange the frame's bytes begin: behind those of the registers, and those in which stubs keep addresses, which end at 552, or the upper halves of AArch64's v0 to v7 stand; at a multiple of 64, so that the frame is aligned as the exchange is, up to that
 abbrev pub frame_at : ℕ
 frame_at = 576
 

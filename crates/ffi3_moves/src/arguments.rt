@@ -6,7 +6,7 @@ ghost use Rattle.ffi3_moves.specs.Moves.{argument_in, argument_out, arguments_in
 use crate::kinds::exchange_at;
 use crate::pieces::{push_pieces_in, push_pieces_out};
 use crate::{FRAME_AT, Kind, Move, Moves};
-use ffi3_cif::Cif;
+use ffi3_cif::Placed;
 use ffi3_place::{Abi, Loc, Place};
 use ffi3_type_rules::round_up;
 use ffi3_types::{CheckedType, NoMemory};
@@ -68,10 +68,10 @@ fn push_argument_out(
 }
 
 // Those of all arguments.
-fn push_arguments_in<A: Abi>(moves: &mut Moves, cif: &Cif<A>) -> Result<(), NoMemory>
+fn push_arguments_in<A: Abi>(moves: &mut Moves, cif: &Placed<A>) -> Result<(), NoMemory>
     ensures { OnOk result (moves.new ≡ moves.old ++ arguments_in 0 0 cif.now.arguments (plan_of A.standard cif.now).places) }
 {
-    let sig = cif.checked_sig();
+    let sig = cif.placed_sig();
     let mut at = 0;
     for i in 0..sig.count() {
         let ty = sig.arg(i);
@@ -82,10 +82,10 @@ fn push_arguments_in<A: Abi>(moves: &mut Moves, cif: &Cif<A>) -> Result<(), NoMe
 }
 
 // And back.
-fn push_arguments_out<A: Abi>(moves: &mut Moves, cif: &Cif<A>) -> Result<(), NoMemory>
+fn push_arguments_out<A: Abi>(moves: &mut Moves, cif: &Placed<A>) -> Result<(), NoMemory>
     ensures { OnOk result (moves.new ≡ moves.old ++ arguments_out 0 0 cif.now.arguments (plan_of A.standard cif.now).places) }
 {
-    let sig = cif.checked_sig();
+    let sig = cif.placed_sig();
     let mut at = 0;
     for i in 0..sig.count() {
         let ty = sig.arg(i);
@@ -112,13 +112,13 @@ fn push_count(moves: &mut Moves, at: Option<Loc>, vectors: u8) -> Result<(), NoM
 }
 
 // How many moves there is room for at once: two of each argument, and one more. Few functions have more.
-fn likely_count<A: Abi>(cif: &Cif<A>) -> usize {
-    2 * cif.checked_sig().count() as usize + 1
+fn likely_count<A: Abi>(cif: &Placed<A>) -> usize {
+    2 * cif.placed_sig().count() as usize + 1
 }
 
 /// The moves by which a caller passes its arguments: from the values to the exchange at the callee's entry. The address
 /// of a hidden result is apart: `hidden_move`.
-pub fn moves_to_store<A: Abi>(alloc: Global, cif: &Cif<A>) -> Result<Moves, NoMemory>
+pub fn moves_to_store<A: Abi>(alloc: Global, cif: &Placed<A>) -> Result<Moves, NoMemory>
     ensures { IfOk result (λ moves. moves ≡ store_moves A.standard cif.now) }
 {
     let mut moves = Moves::with_capacity(alloc, likely_count(cif))?;
@@ -128,7 +128,7 @@ pub fn moves_to_store<A: Abi>(alloc: Global, cif: &Cif<A>) -> Result<Moves, NoMe
 }
 
 /// The moves by which a callee has its arguments: from the exchange at its entry to the values.
-pub fn moves_to_collect<A: Abi>(alloc: Global, cif: &Cif<A>) -> Result<Moves, NoMemory>
+pub fn moves_to_collect<A: Abi>(alloc: Global, cif: &Placed<A>) -> Result<Moves, NoMemory>
     ensures { IfOk result (λ moves. moves ≡ collect_moves A.standard cif.now) }
 {
     let mut moves = Moves::with_capacity(alloc, likely_count(cif))?;

@@ -44,6 +44,8 @@ fn widening(ty: &FfiType) -> Kind
         FfiType::LongDouble => Kind::Zero,
         FfiType::Complex => Kind::Zero,
         FfiType::Vector => Kind::Zero,
+        FfiType::X87 => Kind::Zero,
+        FfiType::Binary128 => Kind::Zero,
     }
 }
 
@@ -71,6 +73,8 @@ fn widening_from_32(ty: &FfiType) -> Kind
         FfiType::LongDouble => Kind::Zero,
         FfiType::Complex => Kind::Zero,
         FfiType::Vector => Kind::Zero,
+        FfiType::X87 => Kind::Zero,
+        FfiType::Binary128 => Kind::Zero,
     }
 }
 

@@ -10,7 +10,7 @@ ghost use Rattle.ffi3_moves.specs.Laws.{ArePassed, ArePassedWith, IsInBuffer, Is
 ghost use Rattle.ffi3_moves.specs.Moves.{collect_moves, give_moves, hidden_move, load_moves, moves_of, returned_at, store_moves};
 ghost use Rattle.ffi3_moves.specs.Play.{frame_at, play};
 
-use ffi3_cif::Cif;
+use ffi3_cif::Placed;
 use ffi3_place::Abi;
 
 /// Does nothing. Its contract says what a caller has done that plays the moves of its arguments on any exchange: at the
@@ -18,7 +18,7 @@ use ffi3_place::Abi;
 /// behind them, the image holds the values, and all else stays. The buffer of a hidden result is in the frame, or
 /// anywhere else, at `_buffer`.
 pub fn store_law<A: Abi>(
-    cif: &Cif<A>,
+    cif: &Placed<A>,
     _values: &[u8],
     _exchange: &[u8],
     _link: &[u8],
@@ -39,7 +39,13 @@ pub fn store_law<A: Abi>(
 
 /// Does nothing. Its contract says what a callee has done that plays the moves of its arguments: it has the values that
 /// the entry's image owns.
-pub fn collect_law<A: Abi>(cif: &Cif<A>, _exchange: &[u8], _link: &[u8], _sp: u64, _values: &[u8])
+pub fn collect_law<A: Abi>(
+    cif: &Placed<A>,
+    _exchange: &[u8],
+    _link: &[u8],
+    _sp: u64,
+    _values: &[u8],
+)
     requires values { length _values.now ≡ packed_size cif.now.arguments }
     requires room { frame_at + frame_of A.standard cif.now ≤ length _exchange.now }
     requires link { length _link.now ≡ A.standard.link }
@@ -52,7 +58,7 @@ pub fn collect_law<A: Abi>(cif: &Cif<A>, _exchange: &[u8], _link: &[u8], _sp: u6
 /// Does nothing. Its contract says what a callee has done that plays the moves of its result, which has the bytes
 /// `_result`: the image at the return, with the stack pointer at `_sp`, where the frame starts, holds the value, and all
 /// else stays. A hidden result it has written to the buffer, and the buffer's address where that is given back.
-pub fn give_law<A: Abi>(cif: &Cif<A>, _result: &[u8], _exchange: &[u8], _sp: u64)
+pub fn give_law<A: Abi>(cif: &Placed<A>, _result: &[u8], _exchange: &[u8], _sp: u64)
     requires result { length _result.now ≡ size_of cif.now.result_type }
     requires room { frame_at + frame_of A.standard cif.now ≤ length _exchange.now }
     requires high { _sp + (length _exchange.now - frame_at) < 2 ^ 64 }
@@ -65,7 +71,7 @@ pub fn give_law<A: Abi>(cif: &Cif<A>, _result: &[u8], _exchange: &[u8], _sp: u64
 
 /// Does nothing. Its contract says what a caller has done that plays the moves of its result: it has the value that the
 /// image at the return owns.
-pub fn load_law<A: Abi>(cif: &Cif<A>, _exchange: &[u8], _sp: u64, _result: &[u8])
+pub fn load_law<A: Abi>(cif: &Placed<A>, _exchange: &[u8], _sp: u64, _result: &[u8])
     requires result { length _result.now ≡ size_of cif.now.result_type }
     requires room { frame_at + frame_of A.standard cif.now ≤ length _exchange.now }
     ensures { (v : ValueTree) → OwnResult A.standard cif.now v (image_at _sp [] _exchange.now) → value_in cif.now.result_type (play _sp (load_moves A.standard cif.now) _exchange.now _result.now) ≡ v }

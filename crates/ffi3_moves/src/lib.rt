@@ -67,5 +67,6 @@ pub struct Move {
 pub type Moves = Listed<Move>;
 
 /// Where in an exchange the frame's bytes begin: behind those of the registers, of which general ones stand at 8 times
-/// their number and floating ones 256 bytes on, and behind the words of the stubs.
+/// their number and floating ones 256 bytes on, and behind the words of the stubs, where the upper halves of AArch64's
+/// v0 to v7 stand by their numbers 32 to 39.
 pub const FRAME_AT: u64 = 576;

@@ -5,7 +5,7 @@ ghost use Rattle.ffi3_moves.specs.Moves.{give_moves, given_back_at, hidden_in, h
 use crate::kinds::exchange_at;
 use crate::pieces::{push_pieces_in, push_pieces_out};
 use crate::{FRAME_AT, Kind, Move, Moves};
-use ffi3_cif::Cif;
+use ffi3_cif::Placed;
 use ffi3_place::{Abi, Loc, Res};
 use ffi3_types::{CheckedType, NoMemory};
 use std::alloc::Global;
@@ -38,22 +38,22 @@ fn push_result_in(moves: &mut Moves, ty: &CheckedType<'_>, res: &Res) -> Result<
 
 /// The moves by which a caller has its result: from the exchange at the return to the result's bytes. Those of a hidden
 /// result are in the frame's buffer; a caller that passed the address of another has it there, and plays none.
-pub fn moves_to_load<A: Abi>(alloc: Global, cif: &Cif<A>) -> Result<Moves, NoMemory>
+pub fn moves_to_load<A: Abi>(alloc: Global, cif: &Placed<A>) -> Result<Moves, NoMemory>
     ensures { IfOk result (λ moves. moves ≡ load_moves A.standard cif.now) }
 {
     let mut moves = Moves::new(alloc);
-    push_result_out(&mut moves, &cif.checked_sig().ret(), cif.result_place())?;
+    push_result_out(&mut moves, &cif.placed_sig().ret(), cif.result_place())?;
     Ok(moves)
 }
 
 /// The moves by which a callee gives its result: from the result's bytes to the exchange at the return. A hidden one has
 /// none: it is written to where the address points that the entry's exchange has at the place of `hidden_move`, and that
 /// address is given back at `returned_at`.
-pub fn moves_to_give<A: Abi>(alloc: Global, cif: &Cif<A>) -> Result<Moves, NoMemory>
+pub fn moves_to_give<A: Abi>(alloc: Global, cif: &Placed<A>) -> Result<Moves, NoMemory>
     ensures { IfOk result (λ moves. moves ≡ give_moves A.standard cif.now) }
 {
     let mut moves = Moves::new(alloc);
-    push_result_in(&mut moves, &cif.checked_sig().ret(), cif.result_place())?;
+    push_result_in(&mut moves, &cif.placed_sig().ret(), cif.result_place())?;
     Ok(moves)
 }
 
@@ -75,7 +75,7 @@ fn hidden_in(res: &Res) -> Option<Move>
 
 /// The move by which a caller passes the address of a hidden result's buffer in the frame. A caller with a buffer of its
 /// own writes the address of that in its place, eight bytes.
-pub fn hidden_move<A: Abi>(cif: &Cif<A>) -> Option<Move>
+pub fn hidden_move<A: Abi>(cif: &Placed<A>) -> Option<Move>
     ensures { result ≡ hidden_move A.standard cif.now }
 {
     hidden_in(cif.result_place())
@@ -95,7 +95,7 @@ fn given_back_at(res: &Res, at: Option<Loc>) -> Option<u64>
 }
 
 /// Where in the exchange at the return a callee gives the address of a hidden result back, if the standard says so.
-pub fn returned_at<A: Abi>(cif: &Cif<A>) -> Option<u64>
+pub fn returned_at<A: Abi>(cif: &Placed<A>) -> Option<u64>
     ensures { result ≡ returned_at A.standard cif.now }
 {
     given_back_at(cif.result_place(), A::returned_address())

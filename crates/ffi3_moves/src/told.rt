@@ -8,7 +8,7 @@ ghost use Rattle.ffi3_moves.specs.Told.{kind_number, told_in, told_move};
 
 use crate::kinds::{exchange_at, piece_in, piece_out};
 use crate::{FRAME_AT, Kind, Move, hidden_move};
-use ffi3_cif::Cif;
+use ffi3_cif::Placed;
 use ffi3_place::{Abi, Loc, Pieces, Place, Res};
 use ffi3_type_rules::round_up;
 use ffi3_types::CheckedType;
@@ -172,10 +172,10 @@ fn count_of_argument_out(place: &Place) -> usize
 }
 
 // Those of all arguments, unless they are 2^64 or more.
-fn count_of_arguments_in<A: Abi>(cif: &Cif<A>) -> Option<usize>
+fn count_of_arguments_in<A: Abi>(cif: &Placed<A>) -> Option<usize>
     ensures { SomeIff result (length (arguments_in 0 0 cif.now.arguments (plan_of A.standard cif.now).places) < 2 ^ 64) (length (arguments_in 0 0 cif.now.arguments (plan_of A.standard cif.now).places)) }
 {
-    let sig = cif.checked_sig();
+    let sig = cif.placed_sig();
     let mut count: usize = 0;
     for i in 0..sig.count() {
         let here = count_of_argument_in(cif.place(i));
@@ -187,10 +187,10 @@ fn count_of_arguments_in<A: Abi>(cif: &Cif<A>) -> Option<usize>
     Some(count)
 }
 
-fn count_of_arguments_out<A: Abi>(cif: &Cif<A>) -> Option<usize>
+fn count_of_arguments_out<A: Abi>(cif: &Placed<A>) -> Option<usize>
     ensures { SomeIff result (length (arguments_out 0 0 cif.now.arguments (plan_of A.standard cif.now).places) < 2 ^ 64) (length (arguments_out 0 0 cif.now.arguments (plan_of A.standard cif.now).places)) }
 {
-    let sig = cif.checked_sig();
+    let sig = cif.placed_sig();
     let mut count: usize = 0;
     for i in 0..sig.count() {
         let here = count_of_argument_out(cif.place(i));
@@ -204,12 +204,12 @@ fn count_of_arguments_out<A: Abi>(cif: &Cif<A>) -> Option<usize>
 
 // ---- those of all arguments, from the first item on
 
-fn put_arguments_in<A: Abi>(told: &mut [ToldMove], cif: &Cif<A>) -> usize
+fn put_arguments_in<A: Abi>(told: &mut [ToldMove], cif: &Placed<A>) -> usize
     requires { length (arguments_in 0 0 cif.now.arguments (plan_of A.standard cif.now).places) ≤ length told.old }
     ensures end { result ≡ length (arguments_in 0 0 cif.now.arguments (plan_of A.standard cif.now).places) }
     ensures put { told.new ≡ sets told.old 0 (map told_move (arguments_in 0 0 cif.now.arguments (plan_of A.standard cif.now).places)) }
 {
-    let sig = cif.checked_sig();
+    let sig = cif.placed_sig();
     let mut at = 0;
     let mut from = 0;
     for i in 0..sig.count() {
@@ -220,12 +220,12 @@ fn put_arguments_in<A: Abi>(told: &mut [ToldMove], cif: &Cif<A>) -> usize
     at
 }
 
-fn put_arguments_out<A: Abi>(told: &mut [ToldMove], cif: &Cif<A>) -> usize
+fn put_arguments_out<A: Abi>(told: &mut [ToldMove], cif: &Placed<A>) -> usize
     requires { length (arguments_out 0 0 cif.now.arguments (plan_of A.standard cif.now).places) ≤ length told.old }
     ensures end { result ≡ length (arguments_out 0 0 cif.now.arguments (plan_of A.standard cif.now).places) }
     ensures put { told.new ≡ sets told.old 0 (map told_move (arguments_out 0 0 cif.now.arguments (plan_of A.standard cif.now).places)) }
 {
-    let sig = cif.checked_sig();
+    let sig = cif.placed_sig();
     let mut at = 0;
     let mut to = 0;
     for i in 0..sig.count() {
@@ -267,7 +267,7 @@ fn put_count(told: &mut [ToldMove], end: usize, at: Option<Loc>, vectors: u8)
 // ---- the lists: answered is how many moves one has, and nothing is written where these have no room
 
 // How many the caller's arguments have, unless they are 2^64 or more.
-fn count_of_store<A: Abi>(cif: &Cif<A>) -> Option<usize>
+fn count_of_store<A: Abi>(cif: &Placed<A>) -> Option<usize>
     ensures { SomeIff result (length (store_moves A.standard cif.now) < 2 ^ 64) (length (store_moves A.standard cif.now)) }
 {
     let Some(arguments) = count_of_arguments_in(cif) else {
@@ -276,7 +276,7 @@ fn count_of_store<A: Abi>(cif: &Cif<A>) -> Option<usize>
     arguments.checked_add(count_of_count(A::vector_count()))
 }
 
-fn put_store<A: Abi>(told: &mut [ToldMove], cif: &Cif<A>)
+fn put_store<A: Abi>(told: &mut [ToldMove], cif: &Placed<A>)
     requires { length (store_moves A.standard cif.now) ≤ length told.old }
     ensures { told.new ≡ told_in (store_moves A.standard cif.now) told.old }
 {
@@ -285,7 +285,7 @@ fn put_store<A: Abi>(told: &mut [ToldMove], cif: &Cif<A>)
 }
 
 /// The caller's arguments: what `moves_to_store` lists.
-pub fn tell_moves_to_store<A: Abi>(told: &mut [ToldMove], cif: &Cif<A>) -> Option<usize>
+pub fn tell_moves_to_store<A: Abi>(told: &mut [ToldMove], cif: &Placed<A>) -> Option<usize>
     ensures count { SomeIff result (length (store_moves A.standard cif.now) < 2 ^ 64) (length (store_moves A.standard cif.now)) }
     ensures told { OnSome result (told.new ≡ told_in (store_moves A.standard cif.now) told.old) }
     ensures untold { result ≡ None → told.new ≡ told.old }
@@ -300,7 +300,7 @@ pub fn tell_moves_to_store<A: Abi>(told: &mut [ToldMove], cif: &Cif<A>) -> Optio
     Some(count)
 }
 
-fn put_collect<A: Abi>(told: &mut [ToldMove], cif: &Cif<A>)
+fn put_collect<A: Abi>(told: &mut [ToldMove], cif: &Placed<A>)
     requires { length (collect_moves A.standard cif.now) ≤ length told.old }
     ensures { told.new ≡ told_in (collect_moves A.standard cif.now) told.old }
 {
@@ -308,7 +308,7 @@ fn put_collect<A: Abi>(told: &mut [ToldMove], cif: &Cif<A>)
 }
 
 /// The callee's arguments: what `moves_to_collect` lists.
-pub fn tell_moves_to_collect<A: Abi>(told: &mut [ToldMove], cif: &Cif<A>) -> Option<usize>
+pub fn tell_moves_to_collect<A: Abi>(told: &mut [ToldMove], cif: &Placed<A>) -> Option<usize>
     ensures count { SomeIff result (length (collect_moves A.standard cif.now) < 2 ^ 64) (length (collect_moves A.standard cif.now)) }
     ensures told { OnSome result (told.new ≡ told_in (collect_moves A.standard cif.now) told.old) }
     ensures untold { result ≡ None → told.new ≡ told.old }
@@ -366,11 +366,11 @@ fn tell_result_out(told: &mut [ToldMove], ty: &CheckedType<'_>, res: &Res) -> us
 }
 
 /// The caller's result: what `moves_to_load` lists.
-pub fn tell_moves_to_load<A: Abi>(told: &mut [ToldMove], cif: &Cif<A>) -> usize
+pub fn tell_moves_to_load<A: Abi>(told: &mut [ToldMove], cif: &Placed<A>) -> usize
     ensures count { result ≡ length (load_moves A.standard cif.now) }
     ensures told { told.new ≡ told_in (load_moves A.standard cif.now) told.old }
 {
-    tell_result_out(told, &cif.checked_sig().ret(), cif.result_place())
+    tell_result_out(told, &cif.placed_sig().ret(), cif.result_place())
 }
 
 fn tell_pieces_in(told: &mut [ToldMove], ty: &CheckedType<'_>, pieces: &Pieces) -> usize
@@ -396,15 +396,15 @@ fn tell_result_in(told: &mut [ToldMove], ty: &CheckedType<'_>, res: &Res) -> usi
 }
 
 /// The callee's result: what `moves_to_give` lists.
-pub fn tell_moves_to_give<A: Abi>(told: &mut [ToldMove], cif: &Cif<A>) -> usize
+pub fn tell_moves_to_give<A: Abi>(told: &mut [ToldMove], cif: &Placed<A>) -> usize
     ensures count { result ≡ length (give_moves A.standard cif.now) }
     ensures told { told.new ≡ told_in (give_moves A.standard cif.now) told.old }
 {
-    tell_result_in(told, &cif.checked_sig().ret(), cif.result_place())
+    tell_result_in(told, &cif.placed_sig().ret(), cif.result_place())
 }
 
 /// The address of a hidden result's buffer: `hidden_move`, or nothing.
-pub fn tell_hidden_move<A: Abi>(told: &mut [ToldMove], cif: &Cif<A>) -> usize
+pub fn tell_hidden_move<A: Abi>(told: &mut [ToldMove], cif: &Placed<A>) -> usize
     ensures count { result ≡ length (moves_of (hidden_move A.standard cif.now)) }
     ensures told { told.new ≡ told_in (moves_of (hidden_move A.standard cif.now)) told.old }
 {

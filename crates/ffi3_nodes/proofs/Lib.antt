@@ -7,3 +7,4 @@ pub mod OneType
 pub mod Shallow
 pub mod Few
 pub mod ScalarsAlone
+pub mod ForFormat

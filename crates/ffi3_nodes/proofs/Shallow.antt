@@ -7,7 +7,12 @@ use Rattle.ffi3_type_rules.specs.declared.limits.TheConstants.{DEEPEST_NESTING}
 use Rattle.ffi3_type_rules.specs.declared.Role.TheVariants.{AsResult}
 use Rattle.ffi3_type_rules.specs.Tree.{Tree, struct_of, array_of, list_of, trees_of, list_of-trees_of, tree_at, parts_of}
 use Rattle.ffi3_type_rules.specs.Fault.{IsLaidOut, IsResultType, has_parts, nested_deep, node_at, too_deep}
-use Rattle.ffi3_type_rules.specs.Signature.{Signature, SignatureHasNoFault, IsFirstSignatureFault}
+use Rattle.ffi3_type_rules.specs.Signature.{Signature, SignatureHasNoFault, SignatureIsPlaced, IsFirstSignatureFault}
+use Rattle.ffi3_type_rules.proofs.Placed.{placed_result_is_laid_out, placed_argument_is_laid_out}
+use Rattle.ffi3_format_rules.specs.declared.Format.{Format}
+use Rattle.ffi3_format_rules.specs.Format.{resolved, resolved_signature}
+use Rattle.ffi3_format_rules.proofs.Resolving.{resolved_at, resolved_count}
+use Rattle.ffi3_format_rules.proofs.Nodes.{node_resolved, parts_resolved}
 use Rattle.ffi3_type_rules.proofs.Faults.{node_outside, right_anywhere}
 use Rattle.ffi3_type_rules.proofs.Right.{argument_is_laid_out, result_is_laid_out}
 use Rattle.ffi3_nodes.specs.declared.Node.{Node}
@@ -15,7 +20,7 @@ use Rattle.ffi3_nodes.specs.declared.TheConstants.{STRUCT, ARRAY, DEEPEST}
 use Rattle.ffi3_nodes.specs.Nodes.{node, IsWritten, leaf, structure, array, AreWritten, none, one_more, IsSignatureOf}
 use Rattle.ffi3_nodes.specs.Faults.{NodeFault, begun, closed, fault_from, first_node_fault, or_else}
 use Rattle.ffi3_nodes.specs.Faults as faults
-use Rattle.ffi3_nodes.specs.Read.{HasNoResultType, IsUncallable, node_fault_of}
+use Rattle.ffi3_nodes.specs.Read.{HasNoPlaced, HasNoResultType, IsUncallable, node_fault_of}
 use Rattle.ffi3_nodes.specs.declared.scan.NodeFault as code
 use Rattle.ffi3_nodes.specs.declared.signature.Refused.TheVariants.{Nodes, Sig}
 use Rattle.ffi3_types.specs.declared.sig.SigFault.{SigFault}
@@ -108,16 +113,41 @@ from_first : (ns : List Node) → fault_from [] 0 ns ≡ None → (ns ≡ [] →
 from_first [] h some = absurd (some refl)
 from_first (n ∷ ns) h some = h
 
+shallow_nodes : (t : Tree) (ts : List Tree) (ns : List Node) → AreWritten (t ∷ ts) ns → NotDeep 0 t → ((i : ℕ) → i < length ts → NotDeep 0 (tree_at ts i)) → first_node_fault ns ≡ None
+shallow_nodes t ts ns w first others =
+    let shallow : AllByRecursion (NotDeep 0) (t ∷ ts) = (first, all_at (NotDeep 0) ts others) in
+    let all = types_go 0 (t ∷ ts) ns [] w shallow in
+    from_first ns (ap (fault_from [] 0) (sym (append-nil ns)) ∙ all.1) (λ e. no_types t ts (subst (AreWritten (t ∷ ts)) e w))
+
 pub faultless_nodes : (ns : List Node) (fixed : Option ℕ) (s : Signature) → IsSignatureOf ns fixed s → SignatureHasNoFault s → first_node_fault ns ≡ None
 faultless_nodes ns fixed s is right =
-    let shallow : AllByRecursion (NotDeep 0) (s.result_type ∷ s.arguments) = (laid_out_not_deep s.result_type (result_is_laid_out s right), all_at (NotDeep 0) s.arguments (λ i h. laid_out_not_deep (tree_at s.arguments i) (argument_is_laid_out s right i h))) in
-    let all = types_go 0 (s.result_type ∷ s.arguments) ns [] is.written shallow in
-    from_first ns (ap (fault_from [] 0) (sym (append-nil ns)) ∙ all.1) (λ e. no_types s.result_type s.arguments (subst (AreWritten (s.result_type ∷ s.arguments)) e is.written))
+    shallow_nodes s.result_type s.arguments ns is.written (laid_out_not_deep s.result_type (result_is_laid_out s right)) (λ i h. laid_out_not_deep (tree_at s.arguments i) (argument_is_laid_out s right i h))
 
 -- so nodes that have a fault are those of no signature that can be called
 pub uncallable_nodes : (ns : List Node) (fixed : Option ℕ) (f : code.NodeFault) → first_node_fault ns ≡ Some (node_fault_of f) → IsUncallable ns fixed (Nodes f)
 uncallable_nodes ns fixed f e =
     λ s is right. let both : None ≡ Some (node_fault_of f) = sym (faultless_nodes ns fixed s is right) ∙ e in cc
+
+-- ---- a resolved signature's
+
+-- a resolved type is no less deep
+resolved_not_deep : (f : Format) (t : Tree) → NotDeep 0 (resolved f t) → NotDeep 0 t
+resolved_not_deep f t shallow path inner is parts =
+    shallow path (resolved f inner) (node_resolved f path t inner is) (parts_resolved f inner parts)
+
+placed_nodes : (format : Format) (ns : List Node) (fixed : Option ℕ) (s : Signature) → IsSignatureOf ns fixed s → SignatureIsPlaced (resolved_signature format s) → first_node_fault ns ≡ None
+placed_nodes format ns fixed s is placed =
+    let r = resolved_signature format s in
+    let each : (i : ℕ) → i < length s.arguments → NotDeep 0 (tree_at s.arguments i) = λ i h. resolved_not_deep format (tree_at s.arguments i) (subst (NotDeep 0) (resolved_at format s.arguments i) (laid_out_not_deep (tree_at r.arguments i) (placed_argument_is_laid_out r placed i (subst (λ n. i < n) (sym (resolved_count format s.arguments)) h)))) in
+    shallow_nodes s.result_type s.arguments ns is.written (resolved_not_deep format s.result_type (laid_out_not_deep r.result_type (placed_result_is_laid_out r placed))) each
+
+-- so nodes that have a fault are those of no signature that can be placed
+pub unplaceable_nodes : (format : Format) (ns : List Node) (fixed : Option ℕ) (f : code.NodeFault) → first_node_fault ns ≡ Some (node_fault_of f) → HasNoPlaced format ns fixed
+unplaceable_nodes format ns fixed f e =
+    λ s is placed. let none = placed_nodes format ns fixed is.told is.written (subst SignatureIsPlaced is.by_format placed) in
+    let both : None ≡ Some (node_fault_of f) = sym none ∙ e in cc
+
+-- ---- the first fault
 
 -- each signature that has the nodes is the one that has the fault
 pub uncallable_signature : (ns : List Node) (fixed : Option ℕ) (t : Signature) (f : SigFault) → IsSignatureOf ns fixed t → IsFirstSignatureFault t (signature_fault_of f) → IsUncallable ns fixed (Sig f)

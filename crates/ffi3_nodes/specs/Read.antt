@@ -1,6 +1,9 @@
 -- What the reader answers, in the words of the definitions.
-use Rattle.std.specs.Prelude.{◌≡◌, ℕ, ◌^◌, ◌<◌, ◌≤◌, ⊤, List, Option, Some, None, length}
-use Rattle.ffi3_type_rules.specs.Signature.{Signature, SignatureHasNoFault, IsFirstSignatureFault}
+use Rattle.std.specs.Prelude.{◌≡◌, ℕ, ◌^◌, ◌<◌, ◌≤◌, ⊤, false, List, Option, Some, None, length}
+use Rattle.ffi3_type_rules.specs.Signature.{Signature, SignatureHasNoFault, IsFirstSignatureFault, SignatureIsPlaced}
+use Rattle.ffi3_type_rules.specs.Signature.{IsFirstFaultFor, for_places}
+use Rattle.ffi3_format_rules.specs.declared.Format.{Format}
+use Rattle.ffi3_format_rules.specs.Format.{resolved_signature, signature_wants_format}
 use Rattle.ffi3_type_rules.specs.declared.Role.TheVariants.{AsResult}
 use Rattle.ffi3_type_rules.specs.Fault.{IsFirstFault, IsResultType}
 use Rattle.ffi3_types.specs.FaultOf.{path_of, fault_of}
@@ -52,6 +55,62 @@ IsUncallable ns fixed (Nodes f) = (s : Signature) → IsSignatureOf ns fixed s �
 IsUncallable ns fixed (Sig f) =
     (s : Signature) → IsSignatureOf ns fixed s → IsFirstSignatureFault s (signature_fault_of f)
 IsUncallable ns fixed NoMemory = ⊤
+
+-- ---- signatures whose long doubles have a format
+
+-- THE SIGNATURE THAT NODES TELL, where long doubles have this format
+pub record IsSignatureFor (format : Format) (ns : List Node) (fixed : Option ℕ) (s : Signature) : Type 0 where
+  pub told : Signature
+  pub written : IsSignatureOf ns fixed told
+  pub by_format : s ≡ resolved_signature format told
+
+-- WHY NODES ARE NO SIGNATURE AT ALL: too many, or none of a signature. Memory alone is free.
+abbrev pub IsUnread : List Node → Refused → Type 0
+IsUnread ns TooLong = 2 ^ 32 ≤ length ns
+IsUnread ns (Nodes f) = (length ns < 2 ^ 32) × (first_node_fault ns ≡ Some (node_fault_of f))
+IsUnread ns (Sig f) = ⊥
+IsUnread ns NoMemory = ⊤
+
+-- WHY NODES ARE NO SIGNATURE THAT CAN BE PLACED: too many, none of a signature, or of one that has this first fault where long doubles have this format. The first of these that is so is told. Memory alone is free.
+abbrev pub IsRefusedFor : Format → List Node → Option ℕ → Refused → Type 0
+IsRefusedFor format ns fixed TooLong = IsUnread ns TooLong
+IsRefusedFor format ns fixed (Nodes f) = IsUnread ns (Nodes f)
+IsRefusedFor format ns fixed (Sig f) =
+    AreNodesOfTypes ns
+    × ((s : Signature) × IsSignatureFor format ns fixed s × IsFirstFaultFor for_places s (signature_fault_of f))
+IsRefusedFor format ns fixed NoMemory = ⊤
+
+-- no signature that can be placed has these nodes
+abbrev pub HasNoPlaced : Format → List Node → Option ℕ → Type 0
+HasNoPlaced format ns fixed = (s : Signature) → IsSignatureFor format ns fixed s → SignatureIsPlaced s → ⊥
+
+-- Refused nodes are those of no signature that can be placed: none has them, or each that has them has this first fault. Of want of memory nothing is said.
+abbrev pub IsUnplaceable : Format → List Node → Option ℕ → Refused → Type 0
+IsUnplaceable format ns fixed TooLong = HasNoPlaced format ns fixed
+IsUnplaceable format ns fixed (Nodes f) = HasNoPlaced format ns fixed
+IsUnplaceable format ns fixed (Sig f) =
+    (s : Signature) → IsSignatureFor format ns fixed s → IsFirstFaultFor for_places s (signature_fault_of f)
+IsUnplaceable format ns fixed NoMemory = ⊤
+
+-- what the reader's own step says: the signature has this first fault
+abbrev pub IsFaultOf : Signature → Refused → Type 0
+IsFaultOf s TooLong = ⊥
+IsFaultOf s (Nodes f) = ⊥
+IsFaultOf s (Sig f) = IsFirstFaultFor for_places s (signature_fault_of f)
+IsFaultOf s NoMemory = ⊥
+
+-- no long double is among the nodes, and no complex one
+abbrev pub TellNoLongDouble : List Node → Option ℕ → Type 0
+TellNoLongDouble ns fixed =
+    (s : Signature) → IsSignatureOf ns fixed s → signature_wants_format s ≡ false
+
+-- Where the nodes tell no long double, their signature is the same in all formats, and can be called where it can be placed;
+abbrev pub IsCallableWithout : List Node → Option ℕ → Signature → Type 0
+IsCallableWithout ns fixed s = TellNoLongDouble ns fixed → IsSignatureOf ns fixed s × SignatureHasNoFault s
+
+-- and they are refused for places where they are refused for calls, and for the same reason.
+abbrev pub IsRefusedWithout : List Node → Option ℕ → Refused → Type 0
+IsRefusedWithout ns fixed r = TellNoLongDouble ns fixed → IsRefused ns fixed r × IsUncallable ns fixed r
 
 -- the nodes of so many types, and not of one
 pub record AreOfOthers (ns : List Node) (count : ℕ) : Type 0 where

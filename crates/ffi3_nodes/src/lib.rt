@@ -10,7 +10,7 @@ mod single;
 
 use ffi3_type_rules::limits::DEEPEST_NESTING;
 pub use scan::NodeFault;
-pub use signature::{Refused, read_signature};
+pub use signature::{Refused, read_signature, read_signature_for, read_unchecked};
 pub use single::{RefusedType, read_type};
 
 /// A node: C's `struct ffi3_node`.

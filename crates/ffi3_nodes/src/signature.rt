@@ -1,15 +1,18 @@
 // The signature that nodes are.
 ghost use Rattle.std.specs.Prelude.{◌≡◌, ◌<◌, ◌^◌, IfOk, IfErr, length, None};
-ghost use Rattle.ffi3_type_rules.specs.Signature.{Signature, SignatureHasNoFault};
+ghost use Rattle.ffi3_type_rules.specs.Signature.{Signature, SignatureHasNoFault, SignatureIsPlaced, HasNoLongDouble};
+ghost use Rattle.ffi3_format_rules.specs.declared.Format.{Format};
 ghost use Rattle.ffi3_nodes.specs.Faults.{first_node_fault};
 ghost use Rattle.ffi3_nodes.specs.Nodes.{IsSignatureOf};
-ghost use Rattle.ffi3_nodes.specs.Read.{IsOfNone, IsRefused, IsUncallable};
+ghost use Rattle.ffi3_nodes.specs.Read.{AreNodesOfTypes, IsOfNone, IsRefused, IsUncallable};
+ghost use Rattle.ffi3_nodes.specs.Read.{IsSignatureFor, IsUnread, IsRefusedFor, IsUnplaceable, IsCallableWithout, IsRefusedWithout, IsFaultOf};
 
 use crate::Node;
 use crate::build::build;
 use crate::scalars::signature_of_scalars;
 use crate::scan::{NodeFault, scan};
-use ffi3_types::{NoMemory, Sig, SigFault, check_sig};
+use ffi3_format::{Format, resolve};
+use ffi3_types::{NoMemory, Sig, SigFault, check_placed, check_sig};
 use std::alloc::Global;
 
 /// Why nodes are no signature that can be called.
@@ -39,6 +42,43 @@ fn signature(alloc: Global, nodes: &[Node], fixed: Option<u32>) -> Result<Sig, N
     Ok(Sig::new(ret, args, fixed))
 }
 
+// The signature of nodes that are one, whether it has a fault or not.
+fn told(alloc: Global, nodes: &[Node], fixed: Option<u32>) -> Result<Sig, Refused>
+    ensures ok { IfOk result (λ s. IsSignatureOf nodes.now fixed s) }
+    ensures types { IfOk result (λ s. AreNodesOfTypes nodes.now) }
+    ensures err { IfErr result (λ r. IsUnread nodes.now r) }
+{
+    if nodes.len() > 0xFFFF_FFFF {
+        return Err(Refused::TooLong);
+    }
+    if let Err(fault) = scan(nodes) {
+        return Err(Refused::Nodes(fault));
+    }
+    match signature(alloc, nodes, fixed) {
+        Ok(sig) => Ok(sig),
+        Err(_) => Err(Refused::NoMemory),
+    }
+}
+
+/// Reads a signature whose types may have faults: the nodes of the result, and then those of the arguments; of a variadic
+/// function how many arguments are fixed. No long double in it has a format.
+pub fn read_unchecked(alloc: Global, nodes: &[Node], fixed: Option<u32>) -> Result<Sig, Refused>
+    ensures ok { IfOk result (λ s. IsSignatureOf nodes.now fixed s) }
+    ensures plain { IfOk result (λ s. HasNoLongDouble s) }
+    ensures only { IfOk result (λ s. (other : Signature) → IsSignatureOf nodes.now fixed other → other ≡ s) }
+    ensures types { IfOk result (λ s. AreNodesOfTypes nodes.now) }
+    ensures err { IfErr result (λ r. IsUnread nodes.now r) }
+    ensures none { IfErr result (λ r. IsOfNone nodes.now r) }
+    ensures unplaceable { (format : Format) → IfErr result (λ r. IsUnplaceable format nodes.now fixed r) }
+{
+    match signature_of_scalars(alloc, nodes, fixed) {
+        Ok(Some(sig)) => return Ok(sig),
+        Ok(None) => {}
+        Err(_) => return Err(Refused::NoMemory),
+    }
+    told(alloc, nodes, fixed)
+}
+
 /// Reads a signature that can be called: the nodes of the result, and then those of the arguments; of a variadic
 /// function how many arguments are fixed.
 pub fn read_signature(alloc: Global, nodes: &[Node], fixed: Option<u32>) -> Result<Sig, Refused>
@@ -54,17 +94,55 @@ pub fn read_signature(alloc: Global, nodes: &[Node], fixed: Option<u32>) -> Resu
         Ok(None) => {}
         Err(_) => return Err(Refused::NoMemory),
     }
-    if nodes.len() > 0xFFFF_FFFF {
-        return Err(Refused::TooLong);
-    }
-    if let Err(fault) = scan(nodes) {
-        return Err(Refused::Nodes(fault));
-    }
-    let Ok(sig) = signature(alloc, nodes, fixed) else {
-        return Err(Refused::NoMemory);
+    let sig = match told(alloc, nodes, fixed) {
+        Ok(sig) => sig,
+        Err(refused) => return Err(refused),
     };
     match check_sig(&sig) {
         Ok(()) => Ok(sig),
         Err(fault) => Err(Refused::Sig(fault)),
+    }
+}
+
+// A signature whose long doubles have a format, if it can be placed.
+fn placed(sig: Sig) -> Result<Sig, Refused>
+    ensures ok { IfOk result (λ s. (s ≡ sig) × SignatureIsPlaced s) }
+    ensures err { IfErr result (λ r. IsFaultOf sig r) }
+{
+    match check_placed(&sig) {
+        Ok(()) => Ok(sig),
+        Err(fault) => Err(Refused::Sig(fault)),
+    }
+}
+
+/// Reads a signature that can be placed, where long doubles have this format: the nodes of the result, and then those of
+/// the arguments; of a variadic function how many arguments are fixed. One of scalars is not looked at again.
+pub fn read_signature_for(
+    alloc: Global,
+    format: Format,
+    nodes: &[Node],
+    fixed: Option<u32>,
+) -> Result<Sig, Refused>
+    ensures ok { IfOk result (λ s. IsSignatureFor format nodes.now fixed s) }
+    ensures placed { IfOk result (λ s. SignatureIsPlaced s) }
+    ensures only { IfOk result (λ s. (other : Signature) → IsSignatureFor format nodes.now fixed other → other ≡ s) }
+    ensures callable { IfOk result (λ s. IsCallableWithout nodes.now fixed s) }
+    ensures err { IfErr result (λ r. IsRefusedFor format nodes.now fixed r) }
+    ensures none { IfErr result (λ r. IsOfNone nodes.now r) }
+    ensures unplaceable { IfErr result (λ r. IsUnplaceable format nodes.now fixed r) }
+    ensures without { IfErr result (λ r. IsRefusedWithout nodes.now fixed r) }
+{
+    match signature_of_scalars(alloc, nodes, fixed) {
+        Ok(Some(sig)) => return Ok(sig),
+        Ok(None) => {}
+        Err(_) => return Err(Refused::NoMemory),
+    }
+    let sig = match told(alloc, nodes, fixed) {
+        Ok(sig) => sig,
+        Err(refused) => return Err(refused),
+    };
+    match resolve(alloc, format, sig) {
+        Ok(sig) => placed(sig),
+        Err(_) => Err(Refused::NoMemory),
     }
 }

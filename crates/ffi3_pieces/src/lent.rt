@@ -29,6 +29,8 @@ pub(crate) struct Lent<'a> {
 impl<'a> ReadImage for Shown<'a> {
     ghost image = { λ s. image_passed (passing s.machine.now) };
 
+    ghost floatings = { 32 };
+
     fn general(&self, k: u8) -> u64 {
         passed_general(self.machine, k)
     }
@@ -52,6 +54,8 @@ impl<'a> ReadImage for Shown<'a> {
 
 impl<'a> ReadImage for Lent<'a> {
     ghost image = { λ s. image_passed (passing s.machine.now) };
+
+    ghost floatings = { 32 };
 
     fn general(&self, k: u8) -> u64 {
         passed_general(&*self.machine, k)

@@ -2,17 +2,18 @@
 #![tactic(auto)]
 
 ghost use Rattle.std.specs.Prelude.{◌≡◌, IfErr, IfOk, OnErr, OnOk};
-ghost use Rattle.ffi3_type_rules.specs.Signature.{SignatureHasNoFault};
+ghost use Rattle.ffi3_type_rules.specs.Signature.{SignatureIsPlaced};
 ghost use Rattle.ffi3_transfer.specs.Stored.{image_in};
 ghost use Rattle.ffi3_transfer.specs.Calls.{IsCallStored, IsNotStored, IsLoaded, IsNotLoaded, IsGiven, IsNotGiven};
 ghost use Rattle.ffi3_transfer.specs.Collected.{IsCollected, IsNotCollected};
-ghost use Rattle.ffi3_prepared.specs.Prepared.{IsPrepared, IsUnprepared, IsUnpreparedOfNone, IsUnpreparedUncallable, signature_in, sizes_of, standard_in, target_in};
+ghost use Rattle.ffi3_prepared.specs.Prepared.{IsPrepared, IsUnprepared, IsUnpreparedOfNone, IsUnpreparedUnplaceable, IsUnpreparedWithout, signature_in, sizes_of, standard_in, target_in};
 
 use ffi3_aapcs64::Aapcs64;
 use ffi3_amd64::Amd64;
 use ffi3_apple::Apple;
-use ffi3_cif::Cif;
-use ffi3_nodes::{Node, Refused, read_signature};
+use ffi3_cif::Placed;
+use ffi3_format::format_of;
+use ffi3_nodes::{Node, Refused, read_signature_for};
 use ffi3_place::Abi;
 use ffi3_riscv::Riscv;
 use ffi3_transfer::{Registers, Uncollected, Ungiven, Unstored};
@@ -23,53 +24,54 @@ use std::alloc::Global;
 /// A prepared call interface of a target. (libffi's `ffi_cif`)
 #[derive(Drop)]
 pub enum Prepared {
-    Amd64(Cif<Amd64>),
-    Aapcs64(Cif<Aapcs64>),
-    Riscv(Cif<Riscv>),
-    Win64(Cif<Win64>),
-    Apple(Cif<Apple>),
+    Amd64(Placed<Amd64>),
+    Aapcs64(Placed<Aapcs64>),
+    Riscv(Placed<Riscv>),
+    Win64(Placed<Win64>),
+    Apple(Placed<Apple>),
 }
 
 /// Why an interface is not prepared.
 #[derive(Debug, Drop)]
 pub enum Unprepared {
-    /// The nodes are no signature that can be called.
+    /// The nodes are no signature that can be placed.
     Nodes(Refused),
     /// Memory was refused.
     NoMemory,
 }
 
-/// Prepares calls by the target's standard, of a function whose signature has no fault.
+/// Prepares calls by the target's standard, of a function whose signature can be placed.
 pub fn prepare_signature(alloc: Global, target: Target, sig: Sig) -> Result<Prepared, NoMemory>
-    requires { SignatureHasNoFault sig }
+    requires { SignatureIsPlaced sig }
     ensures target { IfOk result (λ p. target_in p ≡ target) }
     ensures signature { IfOk result (λ p. signature_in p ≡ sig) }
 {
     match target {
-        Target::Amd64 => match Cif::prepare(alloc, sig) {
-            Ok(cif) => Ok(Prepared::Amd64(cif)),
+        Target::Amd64 => match Placed::prepare(alloc, sig) {
+            Ok(placed) => Ok(Prepared::Amd64(placed)),
             Err(_) => Err(NoMemory),
         },
-        Target::Aapcs64 => match Cif::prepare(alloc, sig) {
-            Ok(cif) => Ok(Prepared::Aapcs64(cif)),
+        Target::Aapcs64 => match Placed::prepare(alloc, sig) {
+            Ok(placed) => Ok(Prepared::Aapcs64(placed)),
             Err(_) => Err(NoMemory),
         },
-        Target::Riscv => match Cif::prepare(alloc, sig) {
-            Ok(cif) => Ok(Prepared::Riscv(cif)),
+        Target::Riscv => match Placed::prepare(alloc, sig) {
+            Ok(placed) => Ok(Prepared::Riscv(placed)),
             Err(_) => Err(NoMemory),
         },
-        Target::Win64 => match Cif::prepare(alloc, sig) {
-            Ok(cif) => Ok(Prepared::Win64(cif)),
+        Target::Win64 => match Placed::prepare(alloc, sig) {
+            Ok(placed) => Ok(Prepared::Win64(placed)),
             Err(_) => Err(NoMemory),
         },
-        Target::Apple => match Cif::prepare(alloc, sig) {
-            Ok(cif) => Ok(Prepared::Apple(cif)),
+        Target::Apple => match Placed::prepare(alloc, sig) {
+            Ok(placed) => Ok(Prepared::Apple(placed)),
             Err(_) => Err(NoMemory),
         },
     }
 }
 
-/// Prepares calls by the target's standard, of the function whose signature nodes tell.
+/// Prepares calls by the target's standard, of the function whose signature nodes tell: a long double has the format that
+/// the standard gives it.
 pub fn prepare(
     alloc: Global,
     target: Target,
@@ -77,11 +79,12 @@ pub fn prepare(
     fixed: Option<u32>,
 ) -> Result<Prepared, Unprepared>
     ensures ok { IfOk result (λ p. IsPrepared target nodes.now fixed p) }
-    ensures err { IfErr result (λ f. IsUnprepared nodes.now fixed f) }
+    ensures err { IfErr result (λ f. IsUnprepared target nodes.now fixed f) }
     ensures none { IfErr result (λ f. IsUnpreparedOfNone nodes.now f) }
-    ensures uncallable { IfErr result (λ f. IsUnpreparedUncallable nodes.now fixed f) }
+    ensures unplaceable { IfErr result (λ f. IsUnpreparedUnplaceable target nodes.now fixed f) }
+    ensures without { IfErr result (λ f. IsUnpreparedWithout nodes.now fixed f) }
 {
-    let sig = match read_signature(alloc, nodes, fixed) {
+    let sig = match read_signature_for(alloc, format_of(target), nodes, fixed) {
         Ok(sig) => sig,
         Err(refused) => return Err(Unprepared::Nodes(refused)),
     };
@@ -105,13 +108,13 @@ pub struct CallSizes {
 }
 
 // Those of one standard's.
-fn sizes_by<A: Abi>(cif: &Cif<A>) -> CallSizes
-    ensures { result ≡ sizes_of A.standard cif.now }
+fn sizes_by<A: Abi>(placed: &Placed<A>) -> CallSizes
+    ensures { result ≡ sizes_of A.standard placed.now }
 {
-    let values = ffi3_transfer::packed_size(cif);
-    let given = cif.checked_sig().ret().size() as usize;
+    let values = ffi3_transfer::packed_size(placed);
+    let given = placed.placed_sig().ret().size() as usize;
     let link = A::LINK;
-    let frame = cif.frame() as usize;
+    let frame = placed.frame() as usize;
     CallSizes {
         values,
         result: given,
@@ -125,11 +128,11 @@ pub fn sizes(p: &Prepared) -> CallSizes
     ensures { result ≡ sizes_of (standard_in p.now) (signature_in p.now) }
 {
     match p {
-        Prepared::Amd64(cif) => sizes_by(cif),
-        Prepared::Aapcs64(cif) => sizes_by(cif),
-        Prepared::Riscv(cif) => sizes_by(cif),
-        Prepared::Win64(cif) => sizes_by(cif),
-        Prepared::Apple(cif) => sizes_by(cif),
+        Prepared::Amd64(placed) => sizes_by(placed),
+        Prepared::Aapcs64(placed) => sizes_by(placed),
+        Prepared::Riscv(placed) => sizes_by(placed),
+        Prepared::Win64(placed) => sizes_by(placed),
+        Prepared::Apple(placed) => sizes_by(placed),
     }
 }
 
@@ -159,11 +162,11 @@ pub fn store(
     ensures stack { OnErr result (stack.new ≡ stack.old) }
 {
     match p {
-        Prepared::Amd64(cif) => ffi3_transfer::store(cif, values, registers, stack),
-        Prepared::Aapcs64(cif) => ffi3_transfer::store(cif, values, registers, stack),
-        Prepared::Riscv(cif) => ffi3_transfer::store(cif, values, registers, stack),
-        Prepared::Win64(cif) => ffi3_transfer::store(cif, values, registers, stack),
-        Prepared::Apple(cif) => ffi3_transfer::store(cif, values, registers, stack),
+        Prepared::Amd64(placed) => ffi3_transfer::store(placed, values, registers, stack),
+        Prepared::Aapcs64(placed) => ffi3_transfer::store(placed, values, registers, stack),
+        Prepared::Riscv(placed) => ffi3_transfer::store(placed, values, registers, stack),
+        Prepared::Win64(placed) => ffi3_transfer::store(placed, values, registers, stack),
+        Prepared::Apple(placed) => ffi3_transfer::store(placed, values, registers, stack),
     }
 }
 
@@ -179,11 +182,11 @@ pub fn load(
     ensures out { OnErr result (out.new ≡ out.old) }
 {
     match p {
-        Prepared::Amd64(cif) => ffi3_transfer::load(cif, registers, stack, out),
-        Prepared::Aapcs64(cif) => ffi3_transfer::load(cif, registers, stack, out),
-        Prepared::Riscv(cif) => ffi3_transfer::load(cif, registers, stack, out),
-        Prepared::Win64(cif) => ffi3_transfer::load(cif, registers, stack, out),
-        Prepared::Apple(cif) => ffi3_transfer::load(cif, registers, stack, out),
+        Prepared::Amd64(placed) => ffi3_transfer::load(placed, registers, stack, out),
+        Prepared::Aapcs64(placed) => ffi3_transfer::load(placed, registers, stack, out),
+        Prepared::Riscv(placed) => ffi3_transfer::load(placed, registers, stack, out),
+        Prepared::Win64(placed) => ffi3_transfer::load(placed, registers, stack, out),
+        Prepared::Apple(placed) => ffi3_transfer::load(placed, registers, stack, out),
     }
 }
 
@@ -199,11 +202,11 @@ pub fn collect(
     ensures values { OnErr result (values.new ≡ values.old) }
 {
     match p {
-        Prepared::Amd64(cif) => ffi3_transfer::collect(cif, registers, stack, values),
-        Prepared::Aapcs64(cif) => ffi3_transfer::collect(cif, registers, stack, values),
-        Prepared::Riscv(cif) => ffi3_transfer::collect(cif, registers, stack, values),
-        Prepared::Win64(cif) => ffi3_transfer::collect(cif, registers, stack, values),
-        Prepared::Apple(cif) => ffi3_transfer::collect(cif, registers, stack, values),
+        Prepared::Amd64(placed) => ffi3_transfer::collect(placed, registers, stack, values),
+        Prepared::Aapcs64(placed) => ffi3_transfer::collect(placed, registers, stack, values),
+        Prepared::Riscv(placed) => ffi3_transfer::collect(placed, registers, stack, values),
+        Prepared::Win64(placed) => ffi3_transfer::collect(placed, registers, stack, values),
+        Prepared::Apple(placed) => ffi3_transfer::collect(placed, registers, stack, values),
     }
 }
 
@@ -220,10 +223,10 @@ pub fn give(
     ensures stack { OnErr result (stack.new ≡ stack.old) }
 {
     match p {
-        Prepared::Amd64(cif) => ffi3_transfer::give(cif, value, registers, stack),
-        Prepared::Aapcs64(cif) => ffi3_transfer::give(cif, value, registers, stack),
-        Prepared::Riscv(cif) => ffi3_transfer::give(cif, value, registers, stack),
-        Prepared::Win64(cif) => ffi3_transfer::give(cif, value, registers, stack),
-        Prepared::Apple(cif) => ffi3_transfer::give(cif, value, registers, stack),
+        Prepared::Amd64(placed) => ffi3_transfer::give(placed, value, registers, stack),
+        Prepared::Aapcs64(placed) => ffi3_transfer::give(placed, value, registers, stack),
+        Prepared::Riscv(placed) => ffi3_transfer::give(placed, value, registers, stack),
+        Prepared::Win64(placed) => ffi3_transfer::give(placed, value, registers, stack),
+        Prepared::Apple(placed) => ffi3_transfer::give(placed, value, registers, stack),
     }
 }

@@ -35,6 +35,8 @@ fn scalar_type(ty: &FfiType) -> FfiType
         FfiType::Float => FfiType::Float,
         FfiType::Double => FfiType::Double,
         FfiType::Pointer => FfiType::Pointer,
+        FfiType::X87 => FfiType::X87,
+        FfiType::Binary128 => FfiType::Binary128,
         _ => FfiType::U8,
     }
 }

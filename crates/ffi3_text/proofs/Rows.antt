@@ -12,7 +12,7 @@ use Rattle.ffi3_place_rules.specs.declared.Loc.TheVariants.{G, F, S}
 use Rattle.ffi3_place_rules.specs.declared.Ext.TheVariants.{Free}
 use Rattle.ffi3_place_rules.specs.declared.Piece.{Piece}
 use Rattle.ffi3_place_rules.specs.declared.Place.TheVariants.{Direct, ByRef}
-use Rattle.ffi3_place_rules.specs.declared.Res.TheVariants.{Hidden}
+use Rattle.ffi3_place_rules.specs.declared.Res.TheVariants.{Direct as DirectRes, Hidden}
 use Rattle.ffi3_text.specs.LayoutLines.{layout_text_of}
 use Rattle.ffi3_text.specs.PlaceLines.{argument_text, result_text, vectors_text}
 use Rattle.ffi3_text.specs.TraceLines.{enter_text_of, leave_text_of, register_text}
@@ -95,6 +95,30 @@ in_both_registers = refl
 pub hidden_in_rcx : result_text Amd64 (Hidden (G 1) 32) ≡ codes " hidden rcx buffer 32"
 unfolding digits
 hidden_in_rcx = refl
+
+-- ---- long doubles
+
+-- st(0) and st(1): the significand of each, and its sign and exponent
+pub two_x87 : result_text Amd64 (DirectRes (piece (F 16) 0 8 ∷ piece (F 17) 8 2 ∷ piece (F 18) 16 8 ∷ piece (F 19) 24 2 ∷ [])) ≡ codes " st0:0+10 st1:16+10"
+unfolding digits
+two_x87 = refl
+
+-- the halves of v0 and v1
+pub two_quads : argument_text Aarch64 (Direct (piece (F 0) 0 8 ∷ piece (F 32) 8 8 ∷ piece (F 1) 16 8 ∷ piece (F 33) 24 8 ∷ [])) ≡ codes " v0:0+16 v1:16+16"
+unfolding digits
+two_quads = refl
+
+-- an upper half is that of its own register alone
+pub lower_halves : argument_text Aarch64 (Direct (piece (F 0) 0 8 ∷ piece (F 1) 8 8 ∷ piece (F 33) 16 8 ∷ [])) ≡ codes " v0:0+8 v1:8+16"
+unfolding digits
+lower_halves = refl
+
+-- on the stack
+pub x87_on_stack : argument_text Amd64 (Direct (piece (S 16 8) 0 8 ∷ piece (S 24 8) 8 8 ∷ [])) ≡ codes " stack16:0+16"
+unfolding digits
+x87_on_stack = refl
+
+-- ---- what a call tells
 
 -- a standard that tells no number of vector registers
 pub no_number : vectors_text Amd64 None 2 ≡ []

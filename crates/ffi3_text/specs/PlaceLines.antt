@@ -1,5 +1,5 @@
 -- Lines of place: where the arguments and the result of a signature stand.
-use Rattle.std.specs.Prelude.{ℕ, Bool, true, false, cond, List, [], ◌∷◌, ◌++◌, codes, Option, Some, None}
+use Rattle.std.specs.Prelude.{ℕ, ◌+◌, ◌==◌, Bool, true, false, cond, List, [], ◌∷◌, ◌++◌, codes, Option, Some, None}
 use Rattle.std.specs.Prelude.{slice_index_or}
 use Rattle.std.specs.List.{flat_map, find, sum_by}
 use Rattle.std.specs.Fmt.{decimal}
@@ -7,7 +7,8 @@ use Rattle.ffi3_type_rules.specs.declared.Isa.{Isa}
 use Rattle.ffi3_type_rules.specs.Isa.{isa_of}
 use Rattle.ffi3_type_rules.specs.Signature.{Signature, Position, at_result, at_argument}
 use Rattle.ffi3_place_rules.specs.declared.Loc.{Loc}
-use Rattle.ffi3_place_rules.specs.declared.Loc.TheVariants.{S}
+use Rattle.ffi3_place_rules.specs.declared.Loc.TheVariants.{F, S}
+use Rattle.ffi3_place_rules.specs.Isa.{word_below}
 use Rattle.ffi3_place_rules.specs.declared.Piece.{Piece}
 use Rattle.ffi3_place_rules.specs.declared.Place.{Place}
 use Rattle.ffi3_place_rules.specs.declared.Place.TheVariants.{Direct, ByRef}
@@ -15,6 +16,7 @@ use Rattle.ffi3_place_rules.specs.declared.Res.{Res}
 use Rattle.ffi3_place_rules.specs.declared.Res.TheVariants.{Nothing, Direct as DirectRes, Hidden}
 use Rattle.ffi3_place_rules.specs.Standard.{Standard, plan_of}
 use Rattle.ffi3_text.specs.Registers.{loc_name}
+use Rattle.ffi3_text.specs.declared.place.Part.{Part}
 
 abbrev pub is_on_stack : Loc → Bool
 is_on_stack (S n w) = true
@@ -25,13 +27,45 @@ abbrev pub piece_text : Isa → Loc → ℕ → ℕ → List ℕ
 piece_text isa at off len =
     codes " " ++ loc_name isa at ++ (codes ":" ++ (decimal off ++ (codes "+" ++ decimal len)))
 
-abbrev pub register_piece_text : Isa → Piece → List ℕ
-register_piece_text isa p =
+-- ---- pieces in registers: those in words of one register are told as one, with the bytes of both
+
+-- the number of a place in the floating file
+abbrev pub is_numbered : Option ℕ → ℕ → Bool
+is_numbered None r = false
+is_numbered (Some n) r = n == r
+
+-- the second place is the word above the first in one register: of st(k) its sign and exponent above the significand, of v(k) the upper half above the lower
+abbrev pub stands_above : Isa → Loc → Loc → Bool
+stands_above isa (F r) (F u) = is_numbered (word_below isa u) r
+stands_above isa _ _ = false
+
+-- a piece by itself
+abbrev pub part_of : Piece → Part
+part_of p = record { loc = p.loc; off = p.off; len = p.len }
+
+-- with so many bytes more
+abbrev pub longer : Part → ℕ → Part
+longer p n = record { loc = p.loc; off = p.off; len = p.len + n }
+
+abbrev pub joined_to : Isa → Part → List Piece → List Part
+joined_to isa p [] = p ∷ []
+joined_to isa p (q ∷ qs) =
+    cond (stands_above isa p.loc q.loc) (joined_to isa (longer p q.len) qs) (p ∷ joined_to isa (part_of q) qs)
+
+-- the pieces, in order, each with those behind it that stand in words above it
+abbrev pub joined : Isa → List Piece → List Part
+joined isa [] = []
+joined isa (p ∷ ps) = joined_to isa (part_of p) ps
+
+abbrev pub register_part_text : Isa → Part → List ℕ
+register_part_text isa p =
     cond (is_on_stack p.loc) [] (piece_text isa p.loc p.off p.len)
 
 -- the pieces in registers, in order
 abbrev pub register_texts : Isa → List Piece → List ℕ
-register_texts isa ps = flat_map (register_piece_text isa) ps
+register_texts isa ps = flat_map (register_part_text isa) (joined isa ps)
+
+-- ---- pieces on the stack
 
 abbrev pub first_on_stack : List Piece → Option Piece
 first_on_stack ps = find (λ p. is_on_stack p.loc) ps

@@ -1,5 +1,5 @@
 -- The text of a place: a register's name, or where it is on the stack. Where the names of all registers of a kind are a label and the number, as x7, any number is written so.
-use Rattle.std.specs.Prelude.{ℕ, List, [], ◌++◌, codes, slice_index_or}
+use Rattle.std.specs.Prelude.{ℕ, ◌-◌, ◌/◌, cond, nat_lt, List, [], ◌++◌, codes, slice_index_or}
 use Rattle.std.specs.Fmt.{decimal}
 use Rattle.ffi3_type_rules.specs.declared.Isa.{Isa}
 use Rattle.ffi3_type_rules.specs.declared.Isa.TheVariants.{Amd64, Aarch64, Riscv}
@@ -13,8 +13,13 @@ general_text Amd64 r = slice_index_or (general_names Amd64) r []
 general_text Aarch64 r = codes "x" ++ decimal r
 general_text Riscv r = slice_index_or (general_names Riscv) r []
 
+-- a word of st(k) has the name st0 or st1
+abbrev pub x87_text : ℕ → List ℕ
+x87_text r = codes "st" ++ decimal ((r - 16) / 2)
+
+-- behind xmm15 stand the words of st(0) and st(1)
 abbrev pub floating_text : Isa → ℕ → List ℕ
-floating_text Amd64 r = codes "xmm" ++ decimal r
+floating_text Amd64 r = cond (nat_lt r 16) (codes "xmm" ++ decimal r) (x87_text r)
 floating_text Aarch64 r = codes "v" ++ decimal r
 floating_text Riscv r = slice_index_or (floating_names Riscv) r []
 

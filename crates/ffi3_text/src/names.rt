@@ -1,5 +1,6 @@
 // The text of a place: a register's name, or its offset on the stack.
 ghost use Rattle.std.specs.Prelude.{◌≡◌, ◌++◌, OnOk};
+ghost use Rattle.ffi3_type_rules.specs.declared.Isa.TheVariants.{Amd64};
 ghost use Rattle.ffi3_text.specs.Registers.{general_text, floating_text, loc_name};
 
 use crate::numbers::write_labelled;
@@ -18,11 +19,21 @@ fn write_general(isa: Isa, r: u8, text: &mut Bytes) -> Result<(), NoMemory>
     }
 }
 
+fn write_amd64_floating(r: u8, text: &mut Bytes) -> Result<(), NoMemory>
+    ensures { OnOk result (text.new ≡ text.old ++ floating_text Amd64 r) }
+{
+    if r < 16 {
+        write_labelled("xmm", r as u64, text)
+    } else {
+        write_labelled("st", ((r - 16) / 2) as u64, text)
+    }
+}
+
 fn write_floating(isa: Isa, r: u8, text: &mut Bytes) -> Result<(), NoMemory>
     ensures { OnOk result (text.new ≡ text.old ++ floating_text isa r) }
 {
     match isa {
-        Isa::Amd64 => write_labelled("xmm", r as u64, text),
+        Isa::Amd64 => write_amd64_floating(r, text),
         Isa::Aarch64 => write_labelled("v", r as u64, text),
         Isa::Riscv => text.extend(floating_name(Isa::Riscv, r as u32).as_bytes()),
     }

@@ -11,16 +11,17 @@ use Rattle.ffi3_place_rules.specs.Standard.{round8}
 use Rattle.ffi3_place_rules.specs.Sound.{IsNoneOf}
 use Rattle.ffi3_type_rules.specs.declared.Target.{Target}
 use Rattle.ffi3_marshal.specs.Stored.{Stays}
-use Rattle.ffi3_marshal.specs.Standing.{place_uses, all_uses, AreReady, PlaceKeeps, PlaceStands, PlacesKeep}
+use Rattle.ffi3_marshal.specs.Standing.{place_uses, all_uses, AreReadyIn, PlaceKeeps, PlaceStands, PlacesKeep}
 use Rattle.ffi3_marshal.proofs.Composing.{stays_none, stays_then}
 use Rattle.ffi3_marshal.proofs.Copying.{keeps_since, place_stays}
 use Rattle.ffi3_marshal.proofs.Lawful.{each_first, each_rest, apart_across, across_none}
-use Rattle.ffi3_marshal.proofs.Arguments.{AtArgument, places_keep, ready_length}
+use Rattle.ffi3_marshal.proofs.Arguments.{AtArgumentIn, places_keep, ready_length_in}
+use Rattle.ffi3_transfer.specs.Stored.{floating_words}
 use Rattle.ffi3_transfer.specs.Packed.{packed_size, first_in, behind}
 use Rattle.ffi3_transfer.specs.Standing.{AllStand}
 use Rattle.ffi3_transfer.proofs.Packing.{packed_open, behind_drop}
 
-pub all_stay : (base : ℕ) (target : Target) (room : ℕ) (ls : List Loc) (a b : Image) (ts : List Tree) (ps : List Place) (bytes : List ℕ) → AreReady target room ts ps → AllByRecursion (IsNoneOf ls) (all_uses ts ps) → Stays base ls a b → AllStand base a ts ps bytes → AllStand base b ts ps bytes
+pub all_stay : (base : ℕ) (target : Target) (room : ℕ) (ls : List Loc) (a b : Image) (ts : List Tree) (ps : List Place) (bytes : List ℕ) → AreReadyIn floating_words target room ts ps → AllByRecursion (IsNoneOf ls) (all_uses ts ps) → Stays base ls a b → AllStand base a ts ps bytes → AllStand base b ts ps bytes
 all_stay base target room ls a b [] [] bytes ready none s stand = tt
 all_stay base target room ls a b [] (p ∷ ps) bytes ready none s stand = absurd ready
 all_stay base target room ls a b (t ∷ ts) [] bytes ready none s stand = absurd ready
@@ -37,10 +38,10 @@ module _ (base : ℕ) (target : Target) (room : ℕ) (ts : List Tree) (ps : List
     pub left : at + packed_size (drop j ts) ≡ length bytes
     pub kept : PlacesKeep base first m (drop j ts) (drop j ps)
 
-  pub none_yet : (j at : ℕ) (m : Image) → AreReady target room ts ps → j ≡ length ts → at ≡ length bytes → AllStored j at m m
+  pub none_yet : (j at : ℕ) (m : Image) → AreReadyIn floating_words target room ts ps → j ≡ length ts → at ≡ length bytes → AllStored j at m m
   none_yet j at m ready at_end all =
       let no_type = drop_all j ts (omega (arith, at_end)) in
-      let no_place = drop_all j ps (omega (arith, at_end, ready_length target room ts ps ready)) in
+      let no_place = drop_all j ps (omega (arith, at_end, ready_length_in floating_words target room ts ps ready)) in
       let none : at + 0 ≡ length bytes = omega (arith, all) in
       record {
         stand = rw (no_type, no_place) tt;
@@ -49,7 +50,7 @@ module _ (base : ℕ) (target : Target) (room : ℕ) (ts : List Tree) (ps : List
         kept = rw no_type tt;
       }
 
-  module _ (j : ℕ) (t : Tree) (p : Place) (here : AtArgument target room ts ps j t p) where
+  module _ (j : ℕ) (t : Tree) (p : Place) (here : AtArgumentIn floating_words target room ts ps j t p) where
     pub argument_step : (at end : ℕ) (first a b : Image) → end ≡ at + round8 (size_of t) → PlaceStands base b t (first_in t (drop at bytes)) p → PlaceKeeps base a b t p → Stays base (place_uses t p) a b → AllStored (j + 1) end first a → AllStored j at first b
     argument_step at end first a b next stands keeps stays before =
         let across = apart_across (place_uses t p) (all_uses (drop (j + 1) ts) (drop (j + 1) ps)) here.apart in

@@ -13,8 +13,9 @@ use Rattle.ffi3_place_rules.specs.Standard.{Standard, plan_of}
 use Rattle.ffi3_place_rules.specs.Agrees.{AgreesWithMachine}
 use Rattle.ffi3_place_rules.specs.Sound.{Apart, IsNoneOf, IsSound, argument_locs, buffer_locs, copy_locs, hidden_locs, closed_to_arguments, closed_to_results, place_locs, stack_words, stack_words_for}
 use Rattle.ffi3_marshal.specs.Standing.{all_uses}
-use Rattle.ffi3_marshal.specs.Stored.{IsPlace}
-use Rattle.ffi3_marshal.proofs.Lawful.{each_first, each_rest, each_join, apart_first, apart_across, across_none, across_first, uses_each, machine_places}
+use Rattle.ffi3_transfer.specs.Places.{IsPlace}
+use Rattle.ffi3_marshal.proofs.Lawful.{each_first, each_rest, each_join, apart_first, apart_across, across_none, across_first, uses_each}
+use Rattle.ffi3_transfer.proofs.Ready.{registers_lie}
 
 register_apart : (l : Loc) (at n : ℕ) → IsPlace 0 l → AllByRecursion (Apart l) (stack_words at n)
 register_apart l at zero h = tt
@@ -69,4 +70,4 @@ module _ (std : Standard) (s : Signature) (sound : IsSound std s) where
 module _ (std : Standard) (agrees : AgreesWithMachine std) where
   pub count_is_register : AllByRecursion (IsPlace 0) (to_list std.vector_count)
   count_is_register =
-      machine_places (isa_of std.target) 0 (to_list std.vector_count) agrees.count_exists
+      registers_lie (isa_of std.target) (to_list std.vector_count) agrees.count_exists

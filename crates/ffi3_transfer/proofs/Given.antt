@@ -6,13 +6,13 @@ use Rattle.std.proofs.lemmas.Bool.{cases_lt}
 use Rattle.std.proofs.lemmas.List.{ext_get_or, drop-drop}
 use Rattle.ffi3_type_rules.specs.Tree.{Tree}
 use Rattle.ffi3_type_rules.specs.Layout.{size_of}
-use Rattle.ffi3_type_rules.specs.Signature.{Signature, SignatureHasNoFault}
+use Rattle.ffi3_type_rules.specs.Signature.{Signature, SignatureIsPlaced}
 use Rattle.ffi3_type_rules.specs.Value.{part, value_in}
 use Rattle.ffi3_type_rules.specs.declared.Isa.{Isa}
 use Rattle.ffi3_type_rules.specs.declared.Isa.TheVariants.{Amd64, Aarch64, Riscv}
 use Rattle.ffi3_type_rules.specs.Isa.{isa_of}
 use Rattle.ffi3_type_rules.proofs.Fitting.{value_fits}
-use Rattle.ffi3_type_rules.proofs.Right.{result_is_laid_out}
+use Rattle.ffi3_type_rules.proofs.Placed.{placed_result_is_laid_out}
 use Rattle.ffi3_place_rules.specs.declared.Loc.{Loc}
 use Rattle.ffi3_place_rules.specs.declared.Loc.TheVariants.{G, F, S}
 use Rattle.ffi3_place_rules.specs.declared.Piece.{Piece}
@@ -24,11 +24,13 @@ use Rattle.ffi3_place_rules.specs.Agrees.{AgreesWithMachine, given_back}
 use Rattle.ffi3_place_rules.specs.Standard.{Standard, plan_of}
 use Rattle.ffi3_place_rules.specs.Holds.{FillsAs, FillsResult, Kept, OwnsHidden, OwnsResult, RegisterHolds, SameIn}
 use Rattle.ffi3_place_rules.specs.Sound.{Apart, IsNoneOf, IsSound, LiesIn, closed_to_results, piece_locs, result_locs}
-use Rattle.ffi3_marshal.specs.Stored.{IsPlace, KeepsAbove, PieceStands, SameAt, Stays}
+use Rattle.ffi3_marshal.specs.Stored.{KeepsAbove, PieceStands, SameAt, Stays}
+use Rattle.ffi3_transfer.specs.Places.{IsPlace}
 use Rattle.ffi3_marshal.proofs.Composing.{same_word_at}
 use Rattle.ffi3_marshal.proofs.Owning.{pieces_filled, pieces_stand}
-use Rattle.ffi3_marshal.proofs.Lawful.{across_none, each_first, each_map, each_rest, machine_places}
+use Rattle.ffi3_marshal.proofs.Lawful.{across_none, each_first, each_map, each_rest, any_places}
 use Rattle.ffi3_explain_rules.specs.Arguments.{is_in_image}
+use Rattle.ffi3_transfer.proofs.Ready.{registers_lie}
 use Rattle.ffi3_transfer.specs.Calls.{IsBeside, IsGiven, IsGivenBy, ResultKeeps, at_return, given_locs, giving_bytes}
 
 -- ---- registers alone
@@ -132,12 +134,12 @@ module _ (std : Standard) (agrees : AgreesWithMachine std) where
     preserved_all : AllByRecursion (IsNoneOf (closed_to_results std)) (result_locs res) → new.sp ≡ old.sp → Kept std old (at_return std new)
     preserved_all allowed sp =
         let clear = given_clear res allowed in record {
-          preserved = each_same std.callee_saved (machine_places (isa_of std.target) 0 std.callee_saved agrees.callee_saved_exist) clear.0;
+          preserved = each_same std.callee_saved (registers_lie (isa_of std.target) std.callee_saved agrees.callee_saved_exist) clear.0;
           reserved = each_same std.reserved reserved_lie clear.1;
           sp = ap (λ n. n + std.link) sp;
         }
 
-module _ (std : Standard) (s : Signature) (sound : IsSound std s) (right : SignatureHasNoFault s) (agrees : AgreesWithMachine std) (bytes : List ℕ) (sized : length bytes ≡ size_of s.result_type) (old new : Image) where
+module _ (std : Standard) (s : Signature) (sound : IsSound std s) (right : SignatureIsPlaced s) (agrees : AgreesWithMachine std) (bytes : List ℕ) (sized : length bytes ≡ size_of s.result_type) (old new : Image) where
   abbrev t : Tree
   t = s.result_type
 
@@ -154,7 +156,7 @@ module _ (std : Standard) (s : Signature) (sound : IsSound std s) (right : Signa
     holds = λ long hidden. record {
       own = record {
         reaches = omega (arith, long, length-drop std.link old.stack);
-        fitting = value_fits s.result_type bytes (result_is_laid_out s right) sized;
+        fitting = value_fits s.result_type bytes (placed_result_is_laid_out s right) sized;
         stands = subst (λ r. OwnsResult (at_return std old) s.result_type r (value_in s.result_type bytes)) (sym is) tt;
       };
       filled = subst (λ r. FillsResult std (at_return std old) s.result_type r (value_in s.result_type bytes)) (sym is) tt;
@@ -175,7 +177,7 @@ module _ (std : Standard) (s : Signature) (sound : IsSound std s) (right : Signa
   module _ (pieces : List Piece) (is : (plan_of std s).res ≡ DirectRes pieces) where
     pub result_registers : AllByRecursion (IsPlace 0) (piece_locs pieces)
     result_registers =
-        subst (λ r. AllByRecursion (IsPlace 0) (result_locs r)) is (machine_places (isa_of std.target) 0 (result_locs (plan_of std s).res) sound.result_in_registers)
+        subst (λ r. AllByRecursion (IsPlace 0) (result_locs r)) is (any_places (isa_of std.target) 0 (result_locs (plan_of std s).res) sound.result_in_registers)
 
     pub direct_given : giving_bytes std s ≤ length old.stack → old.sp + length old.stack < 2 ^ 64 → (base : ℕ) → AllByRecursion (PieceStands base new s.result_type bytes) pieces → AllByRecursion (KeepsAbove base old new) pieces → Stays base (piece_locs pieces) old new → IsGiven std s bytes old new
     direct_given room low base stand keep stays =
@@ -189,7 +191,7 @@ module _ (std : Standard) (s : Signature) (sound : IsSound std s) (right : Signa
           holds = λ long hidden. record {
             own = record {
               reaches = omega (arith, long, length-drop std.link new.stack, stays.size);
-              fitting = value_fits s.result_type bytes (result_is_laid_out s right) sized;
+              fitting = value_fits s.result_type bytes (placed_result_is_laid_out s right) sized;
               stands = subst (λ r. OwnsResult (at_return std new) s.result_type r (value_in s.result_type bytes)) (sym is) owns;
             };
             filled = subst (λ r. FillsResult std (at_return std new) s.result_type r (value_in s.result_type bytes)) (sym is) fills;
@@ -228,7 +230,7 @@ module _ (std : Standard) (s : Signature) (sound : IsSound std s) (right : Signa
               record {
                 own = record {
                   reaches = omega (arith, long, length-drop std.link new.stack, ap length stack, size);
-                  fitting = value_fits s.result_type bytes (result_is_laid_out s right) sized;
+                  fitting = value_fits s.result_type bytes (placed_result_is_laid_out s right) sized;
                   stands = subst (λ r. OwnsResult (at_return std new) s.result_type r (value_in s.result_type bytes)) (sym is) stands;
                 };
                 filled = subst (λ r. FillsResult std (at_return std new) s.result_type r (value_in s.result_type bytes)) (sym is) (subst (RegisterHolds (at_return std new) std.returned_address) where_is moved);

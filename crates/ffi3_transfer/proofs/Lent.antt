@@ -9,12 +9,13 @@ use Rattle.ffi3_place_rules.specs.declared.Res.{Res}
 use Rattle.ffi3_place_rules.specs.declared.Res.TheVariants.{Nothing, Direct as DirectRes, Hidden}
 use Rattle.ffi3_place_rules.specs.Sound.{hidden_locs}
 use Rattle.ffi3_place_rules.specs.Image.{Image}
-use Rattle.ffi3_explain.specs.Places.{HasPlace, IsPieceRead}
-use Rattle.ffi3_marshal.specs.Read.{HiddenLies, IsThere, IsPieceRead as IsRead}
-use Rattle.ffi3_marshal.specs.Stored.{IsPlace, TakesAt}
+use Rattle.ffi3_explain.specs.Places.{IsPieceRead}
+use Rattle.ffi3_marshal.specs.Read.{HiddenLiesIn, IsPieceRead as IsRead}
+use Rattle.ffi3_marshal.specs.Stored.{TakesAt}
+use Rattle.ffi3_transfer.specs.Places.{IsPlace}
 use Rattle.ffi3_marshal.proofs.Taking.{all_take}
 use Rattle.ffi3_transfer.specs.declared.Registers.{Registers}
-use Rattle.ffi3_transfer.specs.Stored.{image_in}
+use Rattle.ffi3_transfer.specs.Stored.{floating_words, image_in}
 
 -- no register drops a write
 pub one_takes : (l : Loc) → TakesAt (λ k. ⊤) l
@@ -25,11 +26,6 @@ one_takes (S n w) = tt
 pub each_takes : (ls : List Loc) → AllByRecursion (TakesAt (λ k. ⊤)) ls
 each_takes ls = all_take (λ k. ⊤) (λ k. tt) ls
 
-pub is_there : (m : Image) (base : ℕ) (l : Loc) → HasPlace m base l → IsThere m base l
-is_there m base (G r) h = h
-is_there m base (F r) h = h
-is_there m base (S n w) h = h
-
 pub is_read : (m : Image) (base : ℕ) (p : Piece) (old new : List ℕ) → IsRead base m p old new → IsPieceRead m base p old new
 is_read m base p old new h = record { sized = h.sized; here = h.here; others = h.others }
 
@@ -38,7 +34,7 @@ pub gave_back : (P : Image → Type 0) (r s : Registers) (xs ys : List ℕ) → 
 gave_back P r s xs ys registers stack h =
     subst (λ q. P (image_in q xs)) (sym registers) (subst (λ zs. P (image_in s zs)) (sym stack) h)
 
-pub hidden_places : (base : ℕ) (m : Image) (res : Res) → HiddenLies base m res → AllByRecursion (IsPlace (length m.stack - base)) (hidden_locs res)
+pub hidden_places : (base : ℕ) (m : Image) (res : Res) → HiddenLiesIn floating_words base m res → AllByRecursion (IsPlace (length m.stack - base)) (hidden_locs res)
 hidden_places base m Nothing h = tt
 hidden_places base m (DirectRes pieces) h = tt
 hidden_places base m (Hidden at buffer) h = (h.0, tt)

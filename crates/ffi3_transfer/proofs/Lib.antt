@@ -1,4 +1,6 @@
+pub mod Words
 pub mod Lent
+pub mod Ready
 pub mod PlaceBytes
 pub mod Packing
 pub mod Arguments

@@ -1,18 +1,29 @@
 -- Arguments that stand at their places are owned by the image, and what fills the rest of their places is right.
-use Rattle.std.proofs.Common.{◌≡◌, ℕ, suc, ◌<◌, ◌≤◌, List, [], ◌∷◌, length, arith, length-drop}
+use Rattle.std.proofs.Common.{◌≡◌, ℕ, suc, ◌<◌, ◌≤◌, List, [], ◌∷◌, length, sym, ◌∙◌, arith, length-drop}
 use Rattle.std.proofs.lemmas.List.{length-take-le}
 use Rattle.ffi3_type_rules.specs.Tree.{Tree, tree_at}
 use Rattle.ffi3_type_rules.specs.Fault.{IsLaidOut}
 use Rattle.ffi3_type_rules.specs.Layout.{size_of}
 use Rattle.ffi3_type_rules.proofs.Fitting.{value_fits}
 use Rattle.ffi3_place_rules.specs.declared.Place.{Place}
-use Rattle.ffi3_place_rules.specs.Standard.{round8}
+use Rattle.ffi3_place_rules.specs.Standard.{Standard, round8}
 use Rattle.ffi3_place_rules.specs.Image.{Image}
-use Rattle.ffi3_place_rules.specs.Holds.{OwnsArguments, FillArguments}
+use Rattle.ffi3_place_rules.specs.Holds.{Own, OwnsArguments, FillArguments}
+use Rattle.ffi3_place_rules.specs.Sound.{IsSound}
+use Rattle.ffi3_type_rules.specs.Signature.{Signature, SignatureIsPlaced}
+use Rattle.ffi3_type_rules.specs.Value.{ValueTree}
+use Rattle.ffi3_explain_rules.specs.Arguments.{are_values, held_by_standard}
+use Rattle.ffi3_explain_rules.proofs.Arguments.{placed_is_owned}
 use Rattle.ffi3_marshal.proofs.Owning.{argument_filled, argument_owned}
 use Rattle.ffi3_transfer.specs.Packed.{packed_size, values_packed, first_in, behind}
 use Rattle.ffi3_transfer.specs.Standing.{AllStand}
 use Rattle.ffi3_transfer.proofs.Packing.{in_room}
+
+-- an image that owns values is read as these
+pub owned_values : (std : Standard) (s : Signature) (m : Image) → SignatureIsPlaced s → IsSound std s → (vs : List ValueTree) → Own std s vs m → (v : List ValueTree) → held_by_standard std s m ≡ are_values v → v ≡ vs
+owned_values std s m right sound vs own v is =
+    let same : are_values v ≡ are_values vs = sym is ∙ placed_is_owned std s m right sound vs own in
+    cc
 
 module _ (base : ℕ) (m : Image) where
   pub owned : (ts : List Tree) (ps : List Place) (bytes : List ℕ) → ((i : ℕ) → i < length ts → IsLaidOut (tree_at ts i)) → packed_size ts ≤ length bytes → AllStand base m ts ps bytes → OwnsArguments m base ts ps (values_packed ts bytes)

@@ -1,21 +1,20 @@
 -- Places that are there.
-use Rattle.std.proofs.Common.{◌≡◌, ℕ, ◌+◌, ◌-◌, ◌≤◌, ◌++◌, subst, length, arith}
-use Rattle.std.specs.List.{AllByRecursion, flat_map}
-use Rattle.ffi3_type_rules.specs.Isa.{isa_of}
+use Rattle.std.proofs.Common.{◌≡◌, ℕ, ◌+◌, ◌-◌, ◌≤◌, subst, length, arith}
+use Rattle.std.specs.List.{AllByRecursion}
 use Rattle.ffi3_type_rules.specs.Signature.{Signature}
 use Rattle.ffi3_place_rules.specs.declared.Loc.{Loc}
 use Rattle.ffi3_place_rules.specs.declared.Loc.TheVariants.{G, F, S}
 use Rattle.ffi3_place_rules.specs.declared.Res.{Res}
 use Rattle.ffi3_place_rules.specs.declared.Res.TheVariants.{Nothing, Direct as DirectRes, Hidden}
 use Rattle.ffi3_place_rules.specs.Image.{Image}
-use Rattle.ffi3_place_rules.specs.Standard.{Standard, frame_of, plan_of}
-use Rattle.ffi3_place_rules.specs.Sound.{IsSound, IsWhole, LiesIn, argument_locs, buffer_locs, copy_locs, hidden_locs, place_locs}
+use Rattle.ffi3_place_rules.specs.Standard.{Standard, plan_of}
+use Rattle.ffi3_place_rules.specs.Sound.{IsSound, IsWhole, hidden_locs}
 use Rattle.ffi3_explain_rules.specs.Arguments.{stack_end}
-use Rattle.ffi3_explain.specs.Places.{HasPlace, HiddenIsThere}
-use Rattle.ffi3_explain.proofs.Ready.{places_reached}
-use Rattle.ffi3_marshal.specs.Stored.{IsPlace}
-use Rattle.ffi3_marshal.specs.Read.{HiddenLies}
-use Rattle.ffi3_marshal.proofs.Lawful.{each_first}
+use Rattle.ffi3_transfer.specs.Places.{HasPlace, HiddenIsThere}
+use Rattle.ffi3_transfer.proofs.Ready.{hidden_reached}
+use Rattle.ffi3_transfer.specs.Places.{IsPlace}
+use Rattle.ffi3_marshal.specs.Read.{HiddenLiesIn}
+use Rattle.ffi3_transfer.specs.Stored.{floating_words}
 
 -- a whole place that is there is one of the memory's
 pub place_lies : (m : Image) (base : ℕ) (l : Loc) → base ≤ length m.stack → IsWhole l → HasPlace m base l → IsPlace (length m.stack - base) l
@@ -26,13 +25,10 @@ place_lies m base (S n w) low whole there = (omega (arith, there.0), omega (arit
 -- the place of a hidden result's address is there, where the stack reaches so far
 pub hidden_there : (std : Standard) (s : Signature) → IsSound std s → (m : Image) (base : ℕ) (at : Loc) (buffer : ℕ) → (plan_of std s).res ≡ Hidden at buffer → base + stack_end (hidden_locs (plan_of std s).res) ≤ length m.stack → HasPlace m base at
 hidden_there std s sound m base at buffer is room =
-    let passed = each_first (LiesIn (isa_of std.target) (frame_of std s)) (argument_locs (plan_of std s)) (copy_locs s.arguments (plan_of std s).places ++ buffer_locs s.result_type (plan_of std s).res) sound.in_frame in
-    let lie = each_first (LiesIn (isa_of std.target) (frame_of std s)) (hidden_locs (plan_of std s).res) (flat_map place_locs (plan_of std s).places) passed in
-    let there = places_reached m base (isa_of std.target) (frame_of std s) (hidden_locs (plan_of std s).res) room lie in
-    (subst (λ r. AllByRecursion (HasPlace m base) (hidden_locs r)) is there).0
+    (subst (λ r. AllByRecursion (HasPlace m base) (hidden_locs r)) is (hidden_reached std s sound m base room)).0
 
 -- and so that of a hidden result's address lies there
-pub hidden_lies : (m : Image) (base : ℕ) (res : Res) → base ≤ length m.stack → AllByRecursion IsWhole (hidden_locs res) → HiddenIsThere m base res → HiddenLies base m res
+pub hidden_lies : (m : Image) (base : ℕ) (res : Res) → base ≤ length m.stack → AllByRecursion IsWhole (hidden_locs res) → HiddenIsThere m base res → HiddenLiesIn floating_words base m res
 hidden_lies m base Nothing low whole there = tt
 hidden_lies m base (DirectRes pieces) low whole there = tt
 hidden_lies m base (Hidden at buffer) low whole there = (place_lies m base at low whole.0 there.0, whole.0, there.1)

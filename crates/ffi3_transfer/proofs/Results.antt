@@ -1,6 +1,6 @@
 -- A result that an image owns is what is loaded from it.
 use Rattle.std.specs.Prelude.{true}
-use Rattle.std.proofs.Common.{◌≡◌, ℕ, ◌+◌, ◌≤◌, List, [], ◌∷◌, length, refl, ap, sym, ◌∙◌, subst, arith}
+use Rattle.std.proofs.Common.{◌≡◌, ℕ, ◌+◌, ◌≤◌, List, [], length, refl, ap, sym, ◌∙◌, subst, arith}
 use Rattle.std.specs.List.{AllByRecursion}
 use Rattle.ffi3_type_rules.specs.Tree.{Tree, void}
 use Rattle.ffi3_type_rules.specs.Layout.{size_of}
@@ -15,10 +15,10 @@ use Rattle.ffi3_place_rules.specs.declared.Res.TheVariants.{Nothing, Direct as D
 use Rattle.ffi3_place_rules.specs.Image.{Image}
 use Rattle.ffi3_place_rules.specs.Standard.{Standard, ResultSpot, no_result, in_result_pieces, in_buffer, plan_of, frame_of, result_at, buffer_end, frame_copies_end, round8}
 use Rattle.ffi3_place_rules.specs.Holds.{OwnsResult}
-use Rattle.ffi3_place_rules.specs.Sound.{IsSound, IsPieceOf, IsWithin, LiesIn, ResultHasAll, piece_locs, result_locs}
+use Rattle.ffi3_place_rules.specs.Sound.{IsSound, IsWithin, StandsIn, ResultHasAll, piece_locs, result_locs}
 use Rattle.ffi3_explain_rules.proofs.Pieces.{stood_is_read}
-use Rattle.ffi3_explain.specs.Places.{CanBeRead, HasPlace}
-use Rattle.ffi3_explain.proofs.Ready.{places_there}
+use Rattle.ffi3_transfer.specs.Places.{CanBeRead}
+use Rattle.ffi3_transfer.proofs.Ready.{pieces_there, places_there}
 use Rattle.ffi3_explain.proofs.Loops.{all_within}
 use Rattle.ffi3_transfer.specs.Calls.{IsLoaded, result_bytes}
 
@@ -37,17 +37,13 @@ buffer_within std s at buffer is =
     let ends = buffer_is std.copy_start (frame_copies_end std s) t p.result_spot at buffer is in
     omega (arith, ends, least_multiple-above 8 (size_of t), least_multiple-above 16 (buffer_end std.copy_start (frame_copies_end std s) t p.result_spot))
 
-pieces_there : (m : Image) (base : ℕ) (t : Tree) (ps : List Piece) → AllByRecursion (IsPieceOf t) ps → AllByRecursion (HasPlace m base) (piece_locs ps) → AllByRecursion (CanBeRead m base) ps
-pieces_there m base t [] parts there = tt
-pieces_there m base t (p ∷ ps) parts there = ((there.0, parts.0.short), pieces_there m base t ps parts.1 there.1)
-
 module _ (std : Standard) (s : Signature) (sound : IsSound std s) (pieces : List Piece) (is : (plan_of std s).res ≡ DirectRes pieces) where
   has_all : ResultHasAll s.result_type (DirectRes pieces)
   has_all = subst (ResultHasAll s.result_type) is sound.result_has_all
 
   pub result_there : (m : Image) → AllByRecursion (CanBeRead m 0) pieces
   result_there m =
-      let lie = subst (λ r. AllByRecursion (LiesIn (isa_of std.target) 0) (result_locs r)) is sound.result_in_registers in
+      let lie = subst (λ r. AllByRecursion (StandsIn (isa_of std.target) 0) (result_locs r)) is sound.result_in_registers in
       pieces_there m 0 s.result_type pieces has_all.each (places_there m 0 (isa_of std.target) 0 (piece_locs pieces) (omega arith) lie)
 
   pub result_within : (size : ℕ) → size ≡ size_of s.result_type → AllByRecursion (IsWithin size) pieces

@@ -15,7 +15,7 @@ use Rattle.ffi3_place_rules.proofs.Elements.{argument_read}
 use Rattle.ffi3_marshal.proofs.Arguments.{place_read}
 use Rattle.ffi3_explain_rules.specs.declared.Outside.{Outside}
 use Rattle.ffi3_explain_rules.specs.Arguments.{first_outside, is_in_image, or_later, outside_of, value_by_standard, values_by_standard}
-use Rattle.ffi3_explain.specs.Places.{ArgumentIsThere, ArgumentsAreReady}
+use Rattle.ffi3_transfer.specs.Places.{ArgumentIsThere, ArgumentsAreReady}
 use Rattle.ffi3_transfer.specs.Packed.{HasZeroPadding, HaveZeroPadding, packed_size, values_packed, first_in, behind}
 use Rattle.ffi3_transfer.proofs.Packing.{packed_open, behind_drop}
 

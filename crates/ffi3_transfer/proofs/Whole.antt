@@ -2,8 +2,8 @@
 use Rattle.std.specs.Prelude.{Option, ◌^◌}
 use Rattle.std.proofs.Common.{◌≡◌, ℕ, ◌+◌, ◌<◌, ◌≤◌, List, ◌++◌, length, subst, ◌∙◌, arith}
 use Rattle.std.specs.List.{AllByRecursion}
-use Rattle.ffi3_type_rules.specs.Signature.{Signature, SignatureHasNoFault}
-use Rattle.ffi3_type_rules.proofs.Right.{argument_is_laid_out}
+use Rattle.ffi3_type_rules.specs.Signature.{Signature, SignatureIsPlaced}
+use Rattle.ffi3_type_rules.proofs.Placed.{placed_argument_is_laid_out}
 use Rattle.ffi3_place_rules.specs.declared.Loc.{Loc}
 use Rattle.ffi3_place_rules.specs.declared.Res.{Res}
 use Rattle.ffi3_place_rules.specs.declared.Res.TheVariants.{Nothing, Direct as DirectRes, Hidden}
@@ -15,7 +15,7 @@ use Rattle.ffi3_place_rules.specs.Holds.{OwnsHidden, RegisterHolds}
 use Rattle.ffi3_place_rules.specs.Sound.{IsNoneOf, IsSound, hidden_locs}
 use Rattle.ffi3_marshal.specs.Standing.{PlacesKeep, all_uses}
 use Rattle.ffi3_marshal.specs.Stored.{Stays}
-use Rattle.ffi3_marshal.proofs.Arguments.{places_keep, ready_all}
+use Rattle.ffi3_marshal.proofs.Arguments.{places_keep, any_ready_all}
 use Rattle.ffi3_marshal.proofs.Composing.{same_word_at, stays_then}
 use Rattle.ffi3_transfer.proofs.Clear.{hidden_clear, count_clear, count_clear_of_hidden, count_is_register}
 use Rattle.ffi3_transfer.specs.Packed.{packed_size}
@@ -31,19 +31,19 @@ hidden_stays base (Hidden at buffer) ls a b none s stands =
 hidden_stays base Nothing ls a b none s stands = tt
 hidden_stays base (DirectRes pieces) ls a b none s stands = tt
 
-module _ (std : Standard) (s : Signature) (sound : IsSound std s) (right : SignatureHasNoFault s) (agrees : AgreesWithMachine std) (bytes : List ℕ) (o a b d : Image) where
+module _ (std : Standard) (s : Signature) (sound : IsSound std s) (right : SignatureIsPlaced s) (agrees : AgreesWithMachine std) (bytes : List ℕ) (o a b d : Image) where
   stored : length bytes ≡ packed_size s.arguments → std.link + frame_of std s ≤ length o.stack → o.sp + length o.stack < 2 ^ 64 → AllStand std.link a s.arguments (plan_of std s).places bytes → PlacesKeep std.link o a s.arguments (plan_of std s).places → Stays std.link (all_uses s.arguments (plan_of std s).places) o a → OwnsHidden b std.link (plan_of std s).res → Stays std.link (hidden_locs (plan_of std s).res) a b → RegisterHolds d std.vector_count (plan_of std s).vectors → Stays std.link (to_list std.vector_count) b d → IsCallStored std s bytes o d
   stored sized room low stand keep first hidden second told third =
       let ts = s.arguments in
       let ps = (plan_of std s).places in
-      let ready = ready_all std s sound right agrees in
+      let ready = any_ready_all std s sound agrees right in
       let stand_b = all_stay std.link std.target (frame_of std s) (hidden_locs (plan_of std s).res) a b ts ps bytes ready (hidden_clear std s sound) second stand in
       let stand_d = all_stay std.link std.target (frame_of std s) (to_list std.vector_count) b d ts ps bytes ready (count_clear std s sound (count_is_register std agrees)) third stand_b in
       record {
         holds = record {
           own = record {
             reaches = omega (arith, room, first.size, second.size, third.size);
-            arguments = owned std.link d ts ps bytes (argument_is_laid_out s right) (omega (arith, sized)) stand_d;
+            arguments = owned std.link d ts ps bytes (placed_argument_is_laid_out s right) (omega (arith, sized)) stand_d;
             hidden = hidden_stays std.link (plan_of std s).res (to_list std.vector_count) b d (count_clear_of_hidden std s sound) third hidden;
           };
           filled = filled std.link d ts ps bytes stand_d;

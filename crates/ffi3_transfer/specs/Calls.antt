@@ -13,7 +13,7 @@ use Rattle.ffi3_place_rules.specs.Image.{Image, word_at}
 use Rattle.ffi3_place_rules.specs.Standard.{Standard, frame_of, plan_of}
 use Rattle.ffi3_place_rules.specs.Holds.{Holds, HoldsResult, Kept, OwnResult, OwnsHidden, OwnsResult, FillsResult, RegisterHolds}
 use Rattle.ffi3_place_rules.specs.Sound.{IsNoneOf, hidden_locs, result_locs}
-use Rattle.ffi3_marshal.specs.Stored.{IsPlace, KeepsAbove, SameAt, Stays}
+use Rattle.ffi3_marshal.specs.Stored.{KeepsAbove, SameAt, Stays}
 use Rattle.ffi3_marshal.specs.Standing.{PlacesKeep, all_uses}
 use Rattle.ffi3_explain_rules.specs.Explain.{first_bytes}
 use Rattle.ffi3_explain_rules.specs.Arguments.{is_in_image, stack_end}
@@ -22,6 +22,7 @@ use Rattle.ffi3_transfer.specs.declared.Ungiven.TheVariants.{WrongSize as WrongV
 use Rattle.ffi3_transfer.specs.declared.Unstored.{Unstored}
 use Rattle.ffi3_transfer.specs.declared.Unstored.TheVariants.{WrongSize, ShortStack, HighStack}
 use Rattle.ffi3_transfer.specs.Packed.{packed_size, values_packed}
+use Rattle.ffi3_transfer.specs.Places.{IsPlace}
 
 -- the bytes from sp on that an entry takes: return address and frame
 abbrev pub entry_bytes : Standard → Signature → ℕ

@@ -1,4 +1,5 @@
 pub mod Stored
+pub mod Places
 pub mod Packed
 pub mod Standing
 pub mod Calls

@@ -1,8 +1,8 @@
 // Registers and stack of a call, as values are stored to them and read from them.
-ghost use Rattle.std.specs.Prelude.{◌≡◌, ℕ, ◌<◌, ⊤, List, get_or, length, refl};
+ghost use Rattle.std.specs.Prelude.{◌≡◌, ℕ, ◌<◌, ◌++◌, ⊤, List, get_or, length, refl};
 ghost use Rattle.std.proofs.Common.{◌∙◌};
 ghost use Rattle.ffi3_marshal.specs.Stored.{with_floating, with_general};
-ghost use Rattle.ffi3_transfer.specs.Stored.{image_in};
+ghost use Rattle.ffi3_transfer.specs.Stored.{floating_words, image_in};
 
 use crate::Registers;
 use ffi3_marshal::{ReadImage, WriteImage};
@@ -29,12 +29,16 @@ fn general_of(registers: &Registers, k: u8) -> u64
     registers.general[k as usize]
 }
 
-// What floating register `k` holds.
+// What word `k` of the floating file holds: those of all registers, and behind them the upper halves.
 fn floating_of(registers: &Registers, k: u8) -> u64
-    requires { k < 32 }
-    ensures { result ≡ get_or registers.now.floating k 0 }
+    requires { k < floating_words }
+    ensures { result ≡ get_or (registers.now.floating ++ registers.now.upper) k 0 }
 {
-    registers.floating[k as usize]
+    if k < 32 {
+        registers.floating[k as usize]
+    } else {
+        registers.upper[k as usize - 32]
+    }
 }
 
 // Sets general register `k`.
@@ -46,17 +50,23 @@ fn put_general(registers: &mut Registers, k: u8, value: u64)
     registers.general[k as usize] = value;
 }
 
-// Sets floating register `k`.
+// Sets word `k` of the floating file.
 fn put_floating(registers: &mut Registers, k: u8, value: u64)
-    requires { k < 32 }
+    requires { k < floating_words }
     ensures set { (stack : List ℕ) → image_in registers.new stack ≡ with_floating k value (image_in registers.old stack) }
-    ensures there { k < length registers.old.floating }
+    ensures there { k < length (registers.old.floating ++ registers.old.upper) }
 {
-    registers.floating[k as usize] = value;
+    if k < 32 {
+        registers.floating[k as usize] = value;
+    } else {
+        registers.upper[k as usize - 32] = value;
+    }
 }
 
 impl<'a> ReadImage for Seen<'a> {
     ghost image = { λ s. image_in s.registers.now s.stack.now };
+
+    ghost floatings = { floating_words };
 
     fn general(&self, k: u8) -> u64 {
         general_of(self.registers, k)
@@ -82,6 +92,8 @@ impl<'a> ReadImage for Seen<'a> {
 
 impl<'a> ReadImage for Call<'a> {
     ghost image = { λ s. image_in s.registers.now s.stack.now };
+
+    ghost floatings = { floating_words };
 
     fn general(&self, k: u8) -> u64 {
         general_of(&*self.registers, k)

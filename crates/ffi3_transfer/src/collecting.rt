@@ -4,7 +4,7 @@ ghost use Rattle.ffi3_type_rules.specs.Layout.{size_of};
 ghost use Rattle.ffi3_type_rules.specs.Value.{value_in};
 ghost use Rattle.ffi3_place_rules.specs.Standard.{plan_of, round8};
 ghost use Rattle.ffi3_place_rules.specs.Sound.{PlaceHasAll};
-ghost use Rattle.ffi3_explain.specs.Places.{ArgumentIsThere};
+ghost use Rattle.ffi3_transfer.specs.Places.{ArgumentIsThere};
 ghost use Rattle.ffi3_explain_rules.specs.Arguments.{first_outside, least_stack, outside_of, value_by_standard, values_by_standard};
 ghost use Rattle.ffi3_transfer.specs.Stored.{image_in};
 ghost use Rattle.ffi3_transfer.specs.Packed.{HasZeroPadding, HaveZeroPadding, first_in, packed_size, values_packed};
@@ -15,8 +15,8 @@ use crate::padding::clear_padding;
 use crate::reading::{place_word, read_pieces};
 use crate::storing::packed_size;
 use crate::{Registers, Uncollected};
-use ffi3_cif::Cif;
-use ffi3_explain::{Outside, least_stack};
+use ffi3_cif::Placed;
+use ffi3_explain::{Outside, least_stack_of};
 use ffi3_place::{Abi, Place};
 use ffi3_type_rules::round_up;
 use ffi3_types::CheckedType;
@@ -49,15 +49,19 @@ pub fn outside_of(
 }
 
 /// The first argument whose address points outside the stack's bytes.
-pub fn first_outside<A: Abi>(cif: &Cif<A>, registers: &Registers, stack: &[u8]) -> Option<Outside>
-    requires { least_stack A.standard cif.now ≤ length stack.now }
-    ensures { result ≡ first_outside (image_in registers.now stack.now) A.standard.link 0 cif.now.arguments (plan_of A.standard cif.now).places }
+pub fn first_outside<A: Abi>(
+    placed: &Placed<A>,
+    registers: &Registers,
+    stack: &[u8],
+) -> Option<Outside>
+    requires { least_stack A.standard placed.now ≤ length stack.now }
+    ensures { result ≡ first_outside (image_in registers.now stack.now) A.standard.link 0 placed.now.arguments (plan_of A.standard placed.now).places }
 {
-    let sig = cif.checked_sig();
+    let sig = placed.placed_sig();
     let base = A::LINK;
     let count = sig.count();
     for i in 0..count {
-        match outside_of(registers, stack, base, i, &sig.arg(i), cif.place(i)) {
+        match outside_of(registers, stack, base, i, &sig.arg(i), placed.place(i)) {
             Some(outside) => return Some(outside),
             None => {}
         }
@@ -118,15 +122,20 @@ fn collect_argument(
 }
 
 // The bytes of all arguments, where no address points outside.
-fn collect_arguments<A: Abi>(cif: &Cif<A>, registers: &Registers, stack: &[u8], values: &mut [u8])
-    requires long { least_stack A.standard cif.now ≤ length stack.now }
-    requires inside { first_outside (image_in registers.now stack.now) A.standard.link 0 cif.now.arguments (plan_of A.standard cif.now).places ≡ None }
-    requires sized { length values.old ≡ packed_size cif.now.arguments }
-    ensures values { values_packed cif.now.arguments values.new ≡ values_by_standard (image_in registers.now stack.now) A.standard.link cif.now.arguments (plan_of A.standard cif.now).places }
-    ensures padding { HaveZeroPadding cif.now.arguments values.new }
-    ensures sized { length values.new ≡ packed_size cif.now.arguments }
+fn collect_arguments<A: Abi>(
+    placed: &Placed<A>,
+    registers: &Registers,
+    stack: &[u8],
+    values: &mut [u8],
+)
+    requires long { least_stack A.standard placed.now ≤ length stack.now }
+    requires inside { first_outside (image_in registers.now stack.now) A.standard.link 0 placed.now.arguments (plan_of A.standard placed.now).places ≡ None }
+    requires sized { length values.old ≡ packed_size placed.now.arguments }
+    ensures values { values_packed placed.now.arguments values.new ≡ values_by_standard (image_in registers.now stack.now) A.standard.link placed.now.arguments (plan_of A.standard placed.now).places }
+    ensures padding { HaveZeroPadding placed.now.arguments values.new }
+    ensures sized { length values.new ≡ packed_size placed.now.arguments }
 {
-    let sig = cif.checked_sig();
+    let sig = placed.placed_sig();
     let base = A::LINK;
     let mut at = values.len();
     for i in (0..sig.count()).rev() {
@@ -139,7 +148,7 @@ fn collect_arguments<A: Abi>(cif: &Cif<A>, registers: &Registers, stack: &[u8], 
             stack,
             base,
             &ty,
-            cif.place(i),
+            placed.place(i),
             &mut values[at..at + room],
         );
     }
@@ -149,29 +158,29 @@ fn collect_arguments<A: Abi>(cif: &Cif<A>, registers: &Registers, stack: &[u8], 
 /// `registers.sp` on, by the standard alone: what that leaves free is not looked at, and an address is followed to
 /// wherever it points in the stack's bytes. Padding is 0, in values and between them.
 pub fn collect<A: Abi>(
-    cif: &Cif<A>,
+    placed: &Placed<A>,
     registers: &Registers,
     stack: &[u8],
     values: &mut [u8],
 ) -> Result<(), Uncollected>
-    ensures ok { OnOk result (IsCollected A.standard cif.now (image_in registers.now stack.now) values.new) }
-    ensures err { IfErr result (λ f. IsNotCollected A.standard cif.now (image_in registers.now stack.now) values.old f) }
+    ensures ok { OnOk result (IsCollected A.standard placed.now (image_in registers.now stack.now) values.new) }
+    ensures err { IfErr result (λ f. IsNotCollected A.standard placed.now (image_in registers.now stack.now) values.old f) }
     ensures values { OnErr result (values.new ≡ values.old) }
 {
     // its contract tells what is true of every interface
-    let _sig = cif.sig();
-    let wanted = packed_size(cif);
+    let _sig = placed.sig();
+    let wanted = packed_size(placed);
     if values.len() != wanted {
         return Err(Uncollected::WrongSize(wanted));
     }
-    let least = least_stack(cif);
+    let least = least_stack_of(placed);
     if (stack.len() as u64) < least {
         return Err(Uncollected::ShortStack(least as usize));
     }
-    match first_outside(cif, registers, stack) {
+    match first_outside(placed, registers, stack) {
         Some(outside) => Err(Uncollected::NotInStack(outside.argument, outside.address)),
         None => {
-            collect_arguments(cif, registers, stack, values);
+            collect_arguments(placed, registers, stack, values);
             Ok(())
         }
     }

@@ -5,16 +5,17 @@ ghost use Rattle.ffi3_type_rules.specs.Value.{part};
 ghost use Rattle.ffi3_place_rules.specs.Isa.{to_list};
 ghost use Rattle.ffi3_place_rules.specs.Holds.{RegisterHolds};
 ghost use Rattle.ffi3_place_rules.specs.Sound.{hidden_locs};
-ghost use Rattle.ffi3_marshal.specs.Stored.{IsPlace, Stays};
+ghost use Rattle.ffi3_marshal.specs.Stored.{Stays};
 ghost use Rattle.ffi3_explain_rules.specs.Arguments.{offset_in, stack_end};
 ghost use Rattle.ffi3_transfer.specs.Stored.{image_in};
+ghost use Rattle.ffi3_transfer.specs.Places.{IsPlace};
 ghost use Rattle.ffi3_transfer.specs.Calls.{IsGiven, IsNotGiven};
 
 use crate::putting::put_word;
 use crate::reading::place_word;
 use crate::storing::store_pieces;
 use crate::{Registers, Ungiven};
-use ffi3_cif::Cif;
+use ffi3_cif::Placed;
 use ffi3_place::{Abi, Loc, Res};
 
 /// Where in the stack's bytes so many bytes from an address on begin, where all of them are there.
@@ -81,31 +82,33 @@ fn tell_address(
 /// Gives the result of a call that was entered with these registers and this stack, which is the memory from
 /// `registers.sp` on: in registers, or in the buffer whose address the entry has.
 pub fn give<A: Abi>(
-    cif: &Cif<A>,
+    placed: &Placed<A>,
     value: &[u8],
     registers: &mut Registers,
     stack: &mut [u8],
 ) -> Result<(), Ungiven>
-    ensures ok { OnOk result (IsGiven A.standard cif.now value.now (image_in registers.old stack.old) (image_in registers.new stack.new)) }
-    ensures err { IfErr result (λ f. IsNotGiven A.standard cif.now value.now (image_in registers.old stack.old) f) }
+    ensures ok { OnOk result (IsGiven A.standard placed.now value.now (image_in registers.old stack.old) (image_in registers.new stack.new)) }
+    ensures err { IfErr result (λ f. IsNotGiven A.standard placed.now value.now (image_in registers.old stack.old) f) }
     ensures registers { OnErr result (registers.new ≡ registers.old) }
     ensures stack { OnErr result (stack.new ≡ stack.old) }
 {
-    let sig = cif.checked_sig();
+    // its contract tells what is true of every interface
+    let _sig = placed.sig();
+    let sig = placed.placed_sig();
     let ty = sig.ret();
     let wanted = ty.size();
     if value.len() as u64 != wanted {
         return Err(Ungiven::WrongSize(wanted as usize));
     }
     let base = A::LINK;
-    let least = base + hidden_end(cif.result_place());
+    let least = base + hidden_end(placed.result_place());
     if (stack.len() as u64) < least {
         return Err(Ungiven::ShortStack(least as usize));
     }
     if u64::MAX - registers.sp < stack.len() as u64 {
         return Err(Ungiven::HighStack);
     }
-    match cif.result_place() {
+    match placed.result_place() {
         Res::Nothing => {}
         Res::Direct(pieces) => store_pieces(registers, stack, base, pieces, &ty, value),
         Res::Hidden { at, .. } => {

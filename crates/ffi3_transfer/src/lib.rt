@@ -23,10 +23,13 @@ pub use storing::{packed_size, store};
 pub struct Registers {
     /// General registers, by their numbers.
     pub general: [u64; 32],
-    /// The low 64 bits of floating registers.
+    /// The low 64 bits of floating registers. On AMD64, which has 16 of them, 16 and 17 are st(0): the 64 bits of its
+    /// significand, and the 16 of its sign and exponent; and 18 and 19 are st(1).
     pub floating: [u64; 32],
     /// The stack pointer.
     pub sp: u64,
+    /// On AArch64 the high 64 bits of v0 to v7.
+    pub upper: [u64; 8],
 }
 
 /// Why values are not stored.

@@ -27,7 +27,7 @@ pub(crate) fn clear_padding(ty: &CheckedType<'_>, out: &mut [u8])
     for k in (0..ty.leaf_count()).rev() {
         let leaf = ty.leaf(k);
         let at = leaf.at as usize;
-        clear(out, at + leaf.kind.size() as usize, end);
+        clear(out, at + leaf.kind.value_size() as usize, end);
         end = at;
     }
     clear(out, 0, end);

@@ -2,8 +2,9 @@
 ghost use Rattle.std.specs.Prelude.{◌≡◌, ◌-◌, ◌≤◌, length};
 ghost use Rattle.ffi3_type_rules.specs.Layout.{size_of};
 ghost use Rattle.ffi3_place_rules.specs.Sound.{IsPieceOf, IsWhole, IsWithin, place_size};
-ghost use Rattle.ffi3_marshal.specs.Stored.{IsPlace, IsPut, IsSet, IsStored, IsWordPut};
+ghost use Rattle.ffi3_marshal.specs.Stored.{IsPut, IsSet, IsStored, IsWordPut};
 ghost use Rattle.ffi3_transfer.specs.Stored.{image_in};
+ghost use Rattle.ffi3_transfer.specs.Places.{IsPlace};
 
 use crate::Registers;
 use crate::call::Call;

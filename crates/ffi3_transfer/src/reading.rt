@@ -4,7 +4,7 @@ ghost use Rattle.std.specs.List.{AllByRecursion};
 ghost use Rattle.ffi3_place_rules.specs.Image.{word_at};
 ghost use Rattle.ffi3_place_rules.specs.Sound.{IsWithin};
 ghost use Rattle.ffi3_explain_rules.specs.Explain.{first_bytes};
-ghost use Rattle.ffi3_explain.specs.Places.{CanBeRead, HasPlace};
+ghost use Rattle.ffi3_transfer.specs.Places.{CanBeRead, HasPlace};
 ghost use Rattle.ffi3_transfer.specs.Stored.{image_in};
 
 use crate::Registers;

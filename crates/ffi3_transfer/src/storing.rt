@@ -6,10 +6,10 @@ ghost use Rattle.ffi3_place_rules.specs.Isa.{to_list};
 ghost use Rattle.ffi3_place_rules.specs.Standard.{plan_of};
 ghost use Rattle.ffi3_place_rules.specs.Holds.{OwnsHidden, RegisterHolds};
 ghost use Rattle.ffi3_place_rules.specs.Sound.{AreApart, hidden_locs, IsPieceOf, IsWhole, PlaceHasAll, piece_locs};
-ghost use Rattle.ffi3_marshal.specs.Stored.{IsPlace, KeepsAbove, Stays};
-ghost use Rattle.ffi3_marshal.specs.Standing.{PiecesStand, PlaceKeeps, PlaceLies, PlaceStands, PlacesKeep, all_uses, place_uses};
-ghost use Rattle.ffi3_explain.specs.Places.{HiddenIsThere};
-ghost use Rattle.ffi3_transfer.specs.Stored.{image_in};
+ghost use Rattle.ffi3_marshal.specs.Stored.{KeepsAbove, Stays};
+ghost use Rattle.ffi3_marshal.specs.Standing.{PiecesStand, PlaceKeeps, PlaceLiesIn, PlaceStands, PlacesKeep, all_uses, place_uses};
+ghost use Rattle.ffi3_transfer.specs.Places.{HiddenIsThere, IsPlace};
+ghost use Rattle.ffi3_transfer.specs.Stored.{floating_words, image_in};
 ghost use Rattle.ffi3_transfer.specs.Packed.{packed_size};
 ghost use Rattle.ffi3_transfer.specs.Standing.{AllStand};
 ghost use Rattle.ffi3_transfer.specs.Calls.{IsCallStored, IsNotStored, entry_bytes};
@@ -17,7 +17,7 @@ ghost use Rattle.ffi3_transfer.specs.Calls.{IsCallStored, IsNotStored, entry_byt
 use crate::call::Call;
 use crate::putting::put_word;
 use crate::{Registers, Unstored};
-use ffi3_cif::Cif;
+use ffi3_cif::Placed;
 use ffi3_place::{Abi, Loc, Pieces, Place, Res};
 use ffi3_type_rules::round_up;
 use ffi3_types::CheckedType;
@@ -53,7 +53,7 @@ fn store_place(
     bytes: &[u8],
 )
     requires base { base ≤ length stack.old }
-    requires lies { PlaceLies (length stack.old - base) ty.now place.now }
+    requires lies { PlaceLiesIn floating_words (length stack.old - base) ty.now place.now }
     requires high { registers.old.sp + length stack.old < 2 ^ 64 }
     requires apart { AreApart (place_uses ty.now place.now) }
     requires has_all { PlaceHasAll ty.now place.now }
@@ -67,15 +67,22 @@ fn store_place(
 }
 
 // Stores all arguments.
-fn store_arguments<A: Abi>(cif: &Cif<A>, values: &[u8], registers: &mut Registers, stack: &mut [u8])
-    requires sized { length values.now ≡ packed_size cif.now.arguments }
-    requires frame { entry_bytes A.standard cif.now ≤ length stack.old }
+fn store_arguments<A: Abi>(
+    placed: &Placed<A>,
+    values: &[u8],
+    registers: &mut Registers,
+    stack: &mut [u8],
+)
+    requires sized { length values.now ≡ packed_size placed.now.arguments }
+    requires frame { entry_bytes A.standard placed.now ≤ length stack.old }
     requires high { registers.old.sp + length stack.old < 2 ^ 64 }
-    ensures stand { AllStand A.standard.link (image_in registers.new stack.new) cif.now.arguments (plan_of A.standard cif.now).places values.now }
-    ensures kept { PlacesKeep A.standard.link (image_in registers.old stack.old) (image_in registers.new stack.new) cif.now.arguments (plan_of A.standard cif.now).places }
-    ensures stays { Stays A.standard.link (all_uses cif.now.arguments (plan_of A.standard cif.now).places) (image_in registers.old stack.old) (image_in registers.new stack.new) }
+    ensures stand { AllStand A.standard.link (image_in registers.new stack.new) placed.now.arguments (plan_of A.standard placed.now).places values.now }
+    ensures kept { PlacesKeep A.standard.link (image_in registers.old stack.old) (image_in registers.new stack.new) placed.now.arguments (plan_of A.standard placed.now).places }
+    ensures stays { Stays A.standard.link (all_uses placed.now.arguments (plan_of A.standard placed.now).places) (image_in registers.old stack.old) (image_in registers.new stack.new) }
 {
-    let sig = cif.checked_sig();
+    // its contract tells what is true of every interface
+    let _sig = placed.sig();
+    let sig = placed.placed_sig();
     let base = A::LINK;
     let mut at = values.len();
     for i in (0..sig.count()).rev() {
@@ -86,7 +93,7 @@ fn store_arguments<A: Abi>(cif: &Cif<A>, values: &[u8], registers: &mut Register
             registers,
             stack,
             base,
-            cif.place(i),
+            placed.place(i),
             &ty,
             &values[at..at + size as usize],
         );
@@ -124,10 +131,10 @@ fn store_count(
 }
 
 /// How many bytes the values of a signature's arguments take, one after another, each from a multiple of 8 on.
-pub fn packed_size<A: Abi>(cif: &Cif<A>) -> usize
-    ensures { result ≡ packed_size cif.now.arguments }
+pub fn packed_size<A: Abi>(placed: &Placed<A>) -> usize
+    ensures { result ≡ packed_size placed.now.arguments }
 {
-    let sig = cif.checked_sig();
+    let sig = placed.placed_sig();
     let mut size = 0;
     for i in (0..sig.count()).rev() {
         size += round_up(sig.arg(i).size(), 8) as usize;
@@ -139,32 +146,32 @@ pub fn packed_size<A: Abi>(cif: &Cif<A>) -> usize
 /// instruction: `stack` is the memory from `registers.sp` on, where the return address will stand, if the standard has
 /// it on the stack. The alignment of `registers.sp` is the caller's: it is not looked at.
 pub fn store<A: Abi>(
-    cif: &Cif<A>,
+    placed: &Placed<A>,
     values: &[u8],
     registers: &mut Registers,
     stack: &mut [u8],
 ) -> Result<(), Unstored>
-    ensures ok { OnOk result (IsCallStored A.standard cif.now values.now (image_in registers.old stack.old) (image_in registers.new stack.new)) }
-    ensures err { IfErr result (λ f. IsNotStored A.standard cif.now values.now (image_in registers.old stack.old) f) }
+    ensures ok { OnOk result (IsCallStored A.standard placed.now values.now (image_in registers.old stack.old) (image_in registers.new stack.new)) }
+    ensures err { IfErr result (λ f. IsNotStored A.standard placed.now values.now (image_in registers.old stack.old) f) }
     ensures registers { OnErr result (registers.new ≡ registers.old) }
     ensures stack { OnErr result (stack.new ≡ stack.old) }
 {
     // its contract tells what is true of every interface
-    let _sig = cif.sig();
-    let wanted = packed_size(cif);
+    let _sig = placed.sig();
+    let wanted = packed_size(placed);
     if values.len() != wanted {
         return Err(Unstored::WrongSize(wanted));
     }
     let base = A::LINK;
-    let wanted = base as usize + cif.frame() as usize;
+    let wanted = base as usize + placed.frame() as usize;
     if stack.len() < wanted {
         return Err(Unstored::ShortStack(wanted));
     }
     if u64::MAX - registers.sp < stack.len() as u64 {
         return Err(Unstored::HighStack);
     }
-    store_arguments(cif, values, registers, stack);
-    store_hidden(registers, stack, base, cif.result_place());
-    store_count(registers, stack, base, A::vector_count(), cif.vectors());
+    store_arguments(placed, values, registers, stack);
+    store_hidden(registers, stack, base, placed.result_place());
+    store_count(registers, stack, base, A::vector_count(), placed.vectors());
     Ok(())
 }

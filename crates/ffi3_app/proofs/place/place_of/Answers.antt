@@ -15,7 +15,7 @@ use Rattle.ffi3_app.proofs.place.place_of.Goals as goal
 pub returns-in_err-write_made_line : goal.returns-in_err-write_made_line
 returns-in_err-write_made_line g c =
     let std = g.A.Abi.standard in
-    let s = c.args.cif.now in
+    let s = c.args.placed.now in
     let n = c.args.number in
     let names = names_of c.args.names.now.items in
     let whole = concat (named_lines names std n s) in
@@ -25,7 +25,7 @@ returns-in_err-write_made_line g c =
 pub loop-j-init : goal.loop-j-init
 loop-j-init g c =
     let std = g.A.Abi.standard in
-    let s = c.args.cif.now in
+    let s = c.args.placed.now in
     let n = c.args.number in
     let names = names_of c.args.names.now.items in
     let whole = concat (named_lines names std n s) in
@@ -34,7 +34,7 @@ loop-j-init g c =
 pub returns-in_err-write_made_line-2 : goal.returns-in_err-write_made_line-2
 returns-in_err-write_made_line-2 g c =
     let std = g.A.Abi.standard in
-    let s = c.args.cif.now in
+    let s = c.args.placed.now in
     let n = c.args.number in
     let names = names_of c.args.names.now.items in
     let j = c.loop-j.j in
@@ -44,7 +44,7 @@ returns-in_err-write_made_line-2 g c =
 pub loop-j-preserved : goal.loop-j-preserved
 loop-j-preserved g c =
     let std = g.A.Abi.standard in
-    let s = c.args.cif.now in
+    let s = c.args.placed.now in
     let n = c.args.number in
     let names = names_of c.args.names.now.items in
     let j = c.loop-j.j in
@@ -53,7 +53,7 @@ loop-j-preserved g c =
 pub returns : goal.returns
 returns g c =
     let std = g.A.Abi.standard in
-    let s = c.args.cif.now in
+    let s = c.args.placed.now in
     let n = c.args.number in
     let names = names_of c.args.names.now.items in
     let j = c.loop-j.j in

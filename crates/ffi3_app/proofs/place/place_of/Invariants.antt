@@ -12,4 +12,4 @@ abbrev pub invariant-loop-j : goal.invariant-loop-j
 invariant-loop-j g l =
     let std = g.A.Abi.standard in
     let names = names_of l.names.items in
-    Continues (concat (named_lines names std l.number l.cif)) (concat (map (named_text_of names std l.cif) (arguments_from l.j (drop l.j l.cif.arguments)) ++ place_text_of std l.cif at_result ∷ [])) (g.O.Sink.state l.fn.output) (g.O.Sink.state l.output)
+    Continues (concat (named_lines names std l.number l.placed)) (concat (map (named_text_of names std l.placed) (arguments_from l.j (drop l.j l.placed.arguments)) ++ place_text_of std l.placed at_result ∷ [])) (g.O.Sink.state l.fn.output) (g.O.Sink.state l.output)

@@ -1,5 +1,7 @@
 use Rattle.std.proofs.Common.{◌≡◌, ◌<◌, ◌≤◌, [], length, ap, sym, ◌∙◌, subst, arith}
+use Rattle.ffi3_type_rules.proofs.Placed.{faultless_is_plain}
 use Rattle.ffi3_place_rules.specs.Standard.{plan_of}
+use Rattle.ffi3_place_rules.proofs.OnMachine.{as_before}
 use Rattle.ffi3_explain.proofs.Ready.{reached}
 use Rattle.ffi3_transfer.specs.Stored.{image_in}
 use Rattle.ffi3_transfer.proofs.Turns.{at_argument}
@@ -12,7 +14,7 @@ loop-i-init g c =
     let std = g.A.Abi.standard in
     let s = c.args.cif.now in
     let m = image_in c.args.registers.now c.args.stack.now in
-    none_seen m c.LINK-base.result s.arguments (plan_of std s).places c.new-bytes.result c.new-each.result c.new-bytes.ensures c.new-each.ensures (reached std s (g.met.A.Abi.sound s) m c.LINK-base.result (c.LINK-base.ensures ∙ sym g.met.A.Abi.link_is) c.requires)
+    none_seen m c.LINK-base.result s.arguments (plan_of std s).places c.new-bytes.result c.new-each.result c.new-bytes.ensures c.new-each.ensures (reached std s (as_before std s (g.met.A.Abi.sound s) (faultless_is_plain s c.checked_sig-sig.ensures.faultless)) m c.LINK-base.result (c.LINK-base.ensures ∙ sym g.met.A.Abi.link_is) c.requires)
 
 pub see_argument-requires-clause-there : goal.see_argument-requires-clause-there
 see_argument-requires-clause-there g c =

@@ -4,6 +4,7 @@ use Rattle.ffi3_type_rules.specs.declared.limits.TheConstants.{LARGEST_TYPE}
 use Rattle.ffi3_type_rules.specs.declared.Role.TheVariants.{Anywhere}
 use Rattle.ffi3_type_rules.specs.Tree.{tree_at}
 use Rattle.ffi3_type_rules.proofs.Faults.{right_is_small}
+use Rattle.ffi3_type_rules.proofs.Placed.{faultless_is_placed}
 use Rattle.ffi3_type_rules.proofs.Right.{argument_is_laid_out}
 use Rattle.ffi3_place_rules.specs.declared.Plan.{Plan}
 use Rattle.ffi3_place_rules.specs.Standard.{plan_of}
@@ -11,6 +12,9 @@ use Rattle.ffi3_place_rules.proofs.EachPlace.{places_length}
 use Rattle.ffi3_capi.specs.Within.{PlaceEndsWithin}
 use Rattle.ffi3_capi.proofs.Within.{places_end}
 use Rattle.ffi3_capi.proofs.placing.placed.Goals as goal
+
+pub plan-requires : goal.plan-requires
+plan-requires g c = faultless_is_placed c.as_sig.result.now c.as_sig.ensures.right
 
 pub put_arguments-requires-clause-within : goal.put_arguments-requires-clause-within
 put_arguments-requires-clause-within g c =

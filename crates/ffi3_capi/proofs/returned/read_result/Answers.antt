@@ -1,5 +1,7 @@
 use Rattle.std.proofs.Common.{◌≡◌, ap, sym, ◌∙◌, length}
 use Rattle.ffi3_type_rules.specs.Layout.{size_of}
+use Rattle.ffi3_type_rules.proofs.Placed.{faultless_is_plain}
+use Rattle.ffi3_place_rules.proofs.OnMachine.{as_before}
 use Rattle.ffi3_explain_rules.proofs.Pieces.{first_bytes-length}
 use Rattle.ffi3_transfer.specs.Stored.{image_in}
 use Rattle.ffi3_transfer.proofs.Results.{result_there, result_within}
@@ -8,13 +10,13 @@ use Rattle.ffi3_capi.proofs.returned.read_result.Goals as goal
 pub direct_bytes-requires-clause-there : goal.direct_bytes-requires-clause-there
 direct_bytes-requires-clause-there g c =
     let s = c.args.cif.now in
-    result_there g.A.Abi.standard s (g.met.A.Abi.sound s) c.in-Direct.pieces (sym c.result_place.ensures ∙ c.in-Direct.is) (image_in c.args.registers.now c.args.stack.now)
+    result_there g.A.Abi.standard s (as_before g.A.Abi.standard s (g.met.A.Abi.sound s) (faultless_is_plain s c.checked_sig-sig.ensures.faultless)) c.in-Direct.pieces (sym c.result_place.ensures ∙ c.in-Direct.is) (image_in c.args.registers.now c.args.stack.now)
 
 pub direct_bytes-requires-clause-within : goal.direct_bytes-requires-clause-within
 direct_bytes-requires-clause-within g c =
     let s = c.args.cif.now in
     let sized : c.size.result ≡ size_of s.result_type = c.size.ensures.value ∙ ap size_of c.ret-ty.ensures ∙ ap (λ r. size_of r.result_type) c.checked_sig-sig.ensures.value in
-    result_within g.A.Abi.standard s (g.met.A.Abi.sound s) c.in-Direct.pieces (sym c.result_place.ensures ∙ c.in-Direct.is) c.size.result sized
+    result_within g.A.Abi.standard s (as_before g.A.Abi.standard s (g.met.A.Abi.sound s) (faultless_is_plain s c.checked_sig-sig.ensures.faultless)) c.in-Direct.pieces (sym c.result_place.ensures ∙ c.in-Direct.is) c.size.result sized
 
 pub returns-in-Ok-clause-sized : goal.returns-in-Ok-clause-sized
 returns-in-Ok-clause-sized g c =

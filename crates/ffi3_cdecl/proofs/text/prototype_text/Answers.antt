@@ -2,13 +2,12 @@ use Rattle.std.proofs.Common.{[], ◌∷◌, ◌≤◌, length, sym, subst, ◌�
 use Rattle.ffi3_types.specs.TreeOf.{tree_of}
 use Rattle.ffi3_cdecl_rules.specs.Tokens.{name, open_round, semicolon}
 use Rattle.ffi3_cdecl_rules.specs.Prototype.{fixed_tokens}
-use Rattle.ffi3_cdecl_rules.proofs.PrototypeTexts.{some_are_fixed}
 use Rattle.ffi3_cdecl.proofs.Writing.{all_written, prototype_is}
 use Rattle.ffi3_cdecl.proofs.text.prototype_text.Goals as goal
 
 pub put_list-requires : goal.put_list-requires
 put_list-requires c n e =
-    let some = some_are_fixed c.args.sig.now c.requires n (sym c.fixed.ensures ∙ e) in
+    let some = c.requires n (sym c.fixed.ensures ∙ e) in
     (some.0, subst (λ ts. n ≤ length ts) (sym c.args-2.ensures) some.1)
 
 pub returns : goal.returns

@@ -5,4 +5,4 @@ use Rattle.ffi3_explain.proofs.Ends.{IsPlaceEnd}
 use Rattle.ffi3_explain.proofs.reach.arguments_end.Given as goal
 
 abbrev pub invariant-loop-i : goal.invariant-loop-i
-invariant-loop-i g l = IsPlaceEnd (plan_of g.A.Abi.standard l.cif).places l.i l.end × (l.end < 2 ^ 33)
+invariant-loop-i g l = IsPlaceEnd (plan_of g.A.Abi.standard l.placed).places l.i l.end × (l.end < 2 ^ 33)

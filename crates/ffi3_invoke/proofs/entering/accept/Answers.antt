@@ -169,4 +169,4 @@ returns-clause-in_callee g c = λ back events bytes.
     let target = c.requires.target ∙ sym g.met.A.Abi.target_is in
     let stay = c.receive.ensures.reserved in
     let reserved = reserved_beside std s g.met.A.Abi.agrees m c.receive.new.machine received (subst (λ x. ReservedStay std x c.receive.new.machine) e_is stay) in
-    in_callee std s g.met.A.Abi.agrees m c.receive.new.machine received c.requires.some.0 sound target c.requires.room c.requires.frame c.requires.some.1 reserved back events bytes
+    in_callee std s g.met.A.Abi.agrees m c.receive.new.machine received c.requires.some.0 sound c.sig-sig.ensures.faultless target c.requires.room c.requires.frame c.requires.some.1 reserved back events bytes

@@ -1,7 +1,7 @@
 use Rattle.std.proofs.Common.{◌-◌, ◌≤◌, length, sym, subst, arith}
 use Rattle.ffi3_place_rules.specs.declared.Loc.TheVariants.{G, F, S}
 use Rattle.ffi3_place_rules.specs.Sound.{place_size}
-use Rattle.ffi3_marshal.specs.Stored.{HasLow, IsPlace, IsPut}
+use Rattle.ffi3_marshal.specs.Stored.{HasLow, IsPlaceIn, IsPut}
 use Rattle.ffi3_marshal.proofs.Puts.{general_put, floating_put, stack_put}
 use Rattle.ffi3_marshal.proofs.putting.put.Goals as goal
 
@@ -22,7 +22,7 @@ returns-in-F-clause-put g c =
 pub returns-in-S-clause-put : goal.returns-in-S-clause-put
 returns-in-S-clause-put g c =
     let old = g.W.ReadImage.image c.args.state.now in
-    let lies = subst (IsPlace (length old.stack - c.args.base)) c.in-S.is c.requires.lies in
+    let lies = subst (IsPlaceIn g.W.ReadImage.floatings (length old.stack - c.args.base)) c.in-S.is c.requires.lies in
     let few = subst (λ l. length c.args.bytes.now ≤ place_size l) c.in-S.is c.requires.few in
     subst (λ l. IsPut c.args.base l c.args.bytes.now old (g.W.ReadImage.image c.write_stack.new.self)) (sym c.in-S.is)
     (subst (IsPut c.args.base (S c.in-S.n c.in-S.field-1) c.args.bytes.now old) (sym c.write_stack.ensures.stored) (stack_put c.args.base c.in-S.n c.in-S.field-1 c.args.bytes.now old few (omega (arith, lies.0, few))))

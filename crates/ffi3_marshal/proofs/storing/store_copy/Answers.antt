@@ -1,5 +1,5 @@
 use Rattle.std.proofs.Common.{◌≡◌, ◌+◌, ◌-◌, length, ap, sym, ◌∙◌, subst, arith}
-use Rattle.ffi3_marshal.specs.Stored.{IsPlace, IsWordPut, stored}
+use Rattle.ffi3_marshal.specs.Stored.{IsPlaceIn, IsWordPut, stored}
 use Rattle.ffi3_marshal.proofs.Puts.{stored_size}
 use Rattle.ffi3_marshal.proofs.Copying.{copied}
 use Rattle.ffi3_marshal.proofs.Taking.{still_takes_at}
@@ -9,7 +9,7 @@ pub put_word-requires-clause-lies : goal.put_word-requires-clause-lies
 put_word-requires-clause-lies g c =
     let old = g.W.ReadImage.image c.args.state.now in
     let same : length (g.W.ReadImage.image c.write_stack.new.self).stack ≡ length old.stack = ap (λ m. length m.stack) c.write_stack.ensures.stored ∙ stored_size (c.args.base + c.args.copy) c.args.bytes.now old (omega (arith, c.requires.fits, c.requires.sized)) in
-    subst (λ n. IsPlace (n - c.args.base) c.args.at) (sym same) c.requires.lies
+    subst (λ n. IsPlaceIn g.W.ReadImage.floatings (n - c.args.base) c.args.at) (sym same) c.requires.lies
 
 pub put_word-requires-clause-takes : goal.put_word-requires-clause-takes
 put_word-requires-clause-takes g c =

@@ -1,6 +1,6 @@
 use Rattle.std.proofs.Common.{◌≡◌, ◌+◌, ◌-◌, length, sym, subst, arith}
 use Rattle.ffi3_place_rules.specs.Sound.{IsPieceOf}
-use Rattle.ffi3_marshal.specs.Stored.{IsPlace, TakesAt}
+use Rattle.ffi3_marshal.specs.Stored.{IsPlaceIn, TakesAt}
 use Rattle.ffi3_marshal.proofs.Stepping.{AreStored, each_loc, each_read, piece_step, none_stored, all_stored}
 use Rattle.ffi3_marshal.proofs.Taking.{still_takes_at}
 use Rattle.ffi3_marshal.proofs.storing.store_pieces.Goals as goal
@@ -14,8 +14,8 @@ loop-j-init g c = (
 pub fill_piece-requires-clause-lies : goal.fill_piece-requires-clause-lies
 fill_piece-requires-clause-lies g c =
     let old = g.W.ReadImage.image c.args.state.now in
-    subst (λ n. IsPlace (n - c.args.base) c.get.result.now.loc) (sym c.loop-j.invariant.0.stays.size)
-    (each_read (λ q. IsPlace (length old.stack - c.args.base) q.loc) c.args.pieces.now (c.loop-j.j - 1) c.get.result.now (omega arith) c.get.ensures (each_loc (IsPlace (length old.stack - c.args.base)) c.args.pieces.now c.requires.lie))
+    subst (λ n. IsPlaceIn g.W.ReadImage.floatings (n - c.args.base) c.get.result.now.loc) (sym c.loop-j.invariant.0.stays.size)
+    (each_read (λ q. IsPlaceIn g.W.ReadImage.floatings (length old.stack - c.args.base) q.loc) c.args.pieces.now (c.loop-j.j - 1) c.get.result.now (omega arith) c.get.ensures (each_loc (IsPlaceIn g.W.ReadImage.floatings (length old.stack - c.args.base)) c.args.pieces.now c.requires.lie))
 
 pub fill_piece-requires-clause-takes : goal.fill_piece-requires-clause-takes
 fill_piece-requires-clause-takes g c =
@@ -37,7 +37,7 @@ loop-j-preserved g c =
     let before = subst (λ i. AreStored c.args.base c.args.ty.now c.args.bytes.now c.args.pieces.now i (g.W.ReadImage.image c.args.state.now) (g.W.ReadImage.image c.loop-j.state)) back c.loop-j.invariant.0 in (
       piece_step c.args.base c.args.ty.now c.args.bytes.now c.args.pieces.now (c.loop-j.j - 1) c.get.result.now first before_image (g.W.ReadImage.image c.fill_piece.new.state) (omega arith) c.get.ensures c.requires.parts c.requires.apart c.fill_piece.ensures.stored before,
       λ room lie. g.met.W.WriteImage.wrote_then c.args.base (c.args.base + room) c.args.state.now c.loop-j.state c.fill_piece.new.state (c.loop-j.invariant.1 room lie)
-          (c.fill_piece.ensures.within room (each_read (λ q. IsPlace room q.loc) c.args.pieces.now (c.loop-j.j - 1) c.get.result.now (omega arith) c.get.ensures (each_loc (IsPlace room) c.args.pieces.now lie))),
+          (c.fill_piece.ensures.within room (each_read (λ q. IsPlaceIn g.W.ReadImage.floatings room q.loc) c.args.pieces.now (c.loop-j.j - 1) c.get.result.now (omega arith) c.get.ensures (each_loc (IsPlaceIn g.W.ReadImage.floatings room) c.args.pieces.now lie))),
     )
 
 pub returns-clause-stand : goal.returns-clause-stand

@@ -6,4 +6,4 @@ pub returns : goal.returns
 returns g c =
     let std = g.A.Abi.standard in
     let s = c.args.cif.now in
-    returned std s (g.met.A.Abi.sound s) c.args._sp c.args._exchange.now (λ k. omega (arith, c.type_inv._exchange k)) c.requires.room c.sig-sig.ensures.faultless g.met.A.Abi.agrees c.args._result.now (λ k. omega (arith, c.type_inv._result k)) c.requires.result c.requires.high c.requires.in_buffer
+    returned std s (g.met.A.Abi.sound s) c.args._sp c.args._exchange.now (λ k. omega (arith, c.type_inv._exchange k)) c.requires.room c.sig-sig.ensures.can_be g.met.A.Abi.agrees c.args._result.now (λ k. omega (arith, c.type_inv._result k)) c.requires.result c.requires.high c.requires.in_buffer

@@ -14,7 +14,7 @@ loop-i-preserved g c =
     let j = c.loop-i.i in
     let t = tree_at ts j in
     let p = c.place.result.now in
-    let below : c.loop-i.i < length c.args.cif.now.arguments = omega (arith, c.loop-i-test.true, c.count-i-end.ensures.value, ap (λ r. length r.arguments) c.checked_sig-sig.ensures.value) in
+    let below : c.loop-i.i < length c.args.cif.now.arguments = omega (arith, c.loop-i-test.true, c.count-i-end.ensures.value, ap (λ r. length r.arguments) c.placed_sig-sig.ensures) in
     let types = argument_read ts j t below refl in
     let places = place_read ps j p c.place.ensures in
     record {
@@ -29,7 +29,7 @@ returns-in_default g c =
     let j = c.loop-i.i in
     let t = tree_at ts j in
     let p = c.place.result.now in
-    let below : c.loop-i.i < length c.args.cif.now.arguments = omega (arith, c.loop-i-test.true, c.count-i-end.ensures.value, ap (λ r. length r.arguments) c.checked_sig-sig.ensures.value) in
+    let below : c.loop-i.i < length c.args.cif.now.arguments = omega (arith, c.loop-i-test.true, c.count-i-end.ensures.value, ap (λ r. length r.arguments) c.placed_sig-sig.ensures) in
     let types = argument_read ts j t below refl in
     let places = place_read ps j p c.place.ensures in
     uncounted_in ts ps j t p types places c.loop-i.count c.count_of_argument_in-here.result (2 ^ 64) (length (arguments_in 0 0 ts ps)) c.in_default.ensures (c.count_of_argument_in-here.ensures j 0 t) c.loop-i.invariant.all
@@ -38,5 +38,5 @@ pub returns : goal.returns
 returns g c =
     let ts = c.args.cif.now.arguments in
     let ps = (plan_of g.A.Abi.standard c.args.cif.now).places in
-    let ended : length c.args.cif.now.arguments ≤ c.loop-i.i = omega (arith, c.loop-i-test.false, c.count-i-end.ensures.value, ap (λ r. length r.arguments) c.checked_sig-sig.ensures.value) in
+    let ended : length c.args.cif.now.arguments ≤ c.loop-i.i = omega (arith, c.loop-i-test.false, c.count-i-end.ensures.value, ap (λ r. length r.arguments) c.placed_sig-sig.ensures) in
     all_in ts ps c.loop-i.i c.loop-i.count (length (arguments_in 0 0 ts ps)) (2 ^ 64) ended c.loop-i.invariant.small c.loop-i.invariant.all

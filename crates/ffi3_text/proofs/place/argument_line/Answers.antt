@@ -22,4 +22,4 @@ returns g c =
     let start : List ℕ = codes "arg " ++ decimal c.args.i in
     let wrote : c.write_argument.new.text ≡ start ++ argument_text c.isa.result c.place.result.now = search rules in
     let same_isa : c.isa.result ≡ isa_of g.A.Abi.standard.target = search rules in
-    a_line start c.write_argument.new.text c.push.new.self c.isa.result _ c.place.result.now _ wrote c.in_ok-push.ensures.ok same_isa (place_at (plan_of g.A.Abi.standard c.args.cif.now).places c.args.i _ c.place.ensures)
+    a_line start c.write_argument.new.text c.push.new.self c.isa.result _ c.place.result.now _ wrote c.in_ok-push.ensures.ok same_isa (place_at (plan_of g.A.Abi.standard c.args.placed.now).places c.args.i _ c.place.ensures)

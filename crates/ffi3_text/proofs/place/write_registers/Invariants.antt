@@ -1,6 +1,10 @@
-use Rattle.std.proofs.Common.{◌≡◌, ◌++◌, take}
+use Rattle.std.proofs.Common.{◌≡◌, ◌*◌, ◌≤◌, ◌++◌}
 use Rattle.ffi3_text.specs.PlaceLines.{register_texts}
+use Rattle.ffi3_text.proofs.Parts.{texts_from}
 use Rattle.ffi3_text.proofs.place.write_registers.Given as goal
 
 abbrev pub invariant-loop-k : goal.invariant-loop-k
-invariant-loop-k l = l.text ≡ l.initial.text ++ register_texts l.isa (take l.k l.pieces)
+invariant-loop-k l = record {
+  told : l.text ++ texts_from l.isa l.part l.pieces l.k ≡ l.initial.text ++ register_texts l.isa l.pieces;
+  bound : l.part.len ≤ 255 * l.k;
+}

@@ -2,7 +2,7 @@ use Rattle.std.proofs.Common.{◌≡◌, ◌+◌, ◌-◌, ◌<◌, ◌++◌, ta
 use Rattle.ffi3_type_rules.specs.Layout.{size_of, least_multiple}
 use Rattle.ffi3_place_rules.specs.Standard.{plan_of, round8}
 use Rattle.ffi3_explain_rules.specs.Arguments.{outside_of, value_by_standard}
-use Rattle.ffi3_explain.proofs.Ready.{reached}
+use Rattle.ffi3_transfer.proofs.Ready.{reached}
 use Rattle.ffi3_type_rules.specs.Tree.{tree_at}
 use Rattle.ffi3_place_rules.proofs.Elements.{argument_read}
 use Rattle.std.specs.Prelude.{None}
@@ -15,71 +15,71 @@ use Rattle.ffi3_transfer.proofs.collecting.collect_arguments.Goals as goal
 
 pub overflow_sub-at : goal.overflow_sub-at
 overflow_sub-at g c =
-    let s = c.args.cif.now in
-    let ts = c.args.cif.now.arguments in
+    let s = c.args.placed.now in
+    let ts = c.args.placed.now.arguments in
     let t = c.arg-ty.result in
     let j = c.loop-i.i - 1 in
-    let below : c.loop-i.i - 1 < length c.args.cif.now.arguments = omega (arith, c.count-i.ensures.value, ap (λ r. length r.arguments) c.checked_sig-sig.ensures.value) in
+    let below : c.loop-i.i - 1 < length c.args.placed.now.arguments = omega (arith, c.count-i.ensures.value, ap (λ r. length r.arguments) c.placed_sig-sig.ensures) in
     let back : c.loop-i.i ≡ c.loop-i.i - 1 + 1 = omega arith in
-    let left = subst (λ i. c.loop-i.at + packed_size (drop i c.args.cif.now.arguments) ≡ length c.args.values.now) back c.loop-i.invariant.left in
-    let types = argument_read ts j t below (c.arg-ty.ensures ∙ ap (λ r. tree_at r.arguments (c.loop-i.i - 1)) c.checked_sig-sig.ensures.value) in
+    let left = subst (λ i. c.loop-i.at + packed_size (drop i c.args.placed.now.arguments) ≡ length c.args.values.now) back c.loop-i.invariant.left in
+    let types = argument_read ts j t below (c.arg-ty.ensures ∙ ap (λ r. tree_at r.arguments (c.loop-i.i - 1)) c.placed_sig-sig.ensures) in
     let room = room_before ts j t c.loop-i.at (length c.args.values.now) types c.requires.sized left in
     omega (arith, room, c.round_up-room.ensures.value, ap (least_multiple 8) c.size-size.ensures.value)
 
 pub slice_bounds-collect_argument-end : goal.slice_bounds-collect_argument-end
 slice_bounds-collect_argument-end g c =
-    let ts = c.args.cif.now.arguments in
+    let ts = c.args.placed.now.arguments in
     let t = c.arg-ty.result in
     let j = c.loop-i.i - 1 in
-    let below : c.loop-i.i - 1 < length c.args.cif.now.arguments = omega (arith, c.count-i.ensures.value, ap (λ r. length r.arguments) c.checked_sig-sig.ensures.value) in
+    let below : c.loop-i.i - 1 < length c.args.placed.now.arguments = omega (arith, c.count-i.ensures.value, ap (λ r. length r.arguments) c.placed_sig-sig.ensures) in
     let back : c.loop-i.i ≡ c.loop-i.i - 1 + 1 = omega arith in
-    let left = subst (λ i. c.loop-i.at + packed_size (drop i c.args.cif.now.arguments) ≡ length c.args.values.now) back c.loop-i.invariant.left in
-    let types = argument_read ts j t below (c.arg-ty.ensures ∙ ap (λ r. tree_at r.arguments (c.loop-i.i - 1)) c.checked_sig-sig.ensures.value) in
+    let left = subst (λ i. c.loop-i.at + packed_size (drop i c.args.placed.now.arguments) ≡ length c.args.values.now) back c.loop-i.invariant.left in
+    let types = argument_read ts j t below (c.arg-ty.ensures ∙ ap (λ r. tree_at r.arguments (c.loop-i.i - 1)) c.placed_sig-sig.ensures) in
     let room = room_before ts j t c.loop-i.at (length c.args.values.now) types c.requires.sized left in
     omega (arith, room, c.round_up-room.ensures.value, ap (least_multiple 8) c.size-size.ensures.value, c.round_up-room.ensures.least.not_below, left, c.loop-i.invariant.sized)
 
 pub collect_argument-requires-clause-there : goal.collect_argument-requires-clause-there
 collect_argument-requires-clause-there g c =
     let std = g.A.Abi.standard in
-    let s = c.args.cif.now in
+    let s = c.args.placed.now in
     let ps = (plan_of g.A.Abi.standard s).places in
     let m = image_in c.args.registers.now c.args.stack.now in
-    let below : c.loop-i.i - 1 < length c.args.cif.now.arguments = omega (arith, c.count-i.ensures.value, ap (λ r. length r.arguments) c.checked_sig-sig.ensures.value) in
-    let here = at_argument s.arguments _ ps (c.loop-i.i - 1) c.arg-ty.result c.place.result.now (ap (λ r. r.arguments) c.checked_sig-sig.ensures.value) below c.arg-ty.ensures c.place.ensures in
+    let below : c.loop-i.i - 1 < length c.args.placed.now.arguments = omega (arith, c.count-i.ensures.value, ap (λ r. length r.arguments) c.placed_sig-sig.ensures) in
+    let here = at_argument s.arguments _ ps (c.loop-i.i - 1) c.arg-ty.result c.place.result.now (ap (λ r. r.arguments) c.placed_sig-sig.ensures) below c.arg-ty.ensures c.place.ensures in
     (ready_at m c.LINK-base.result (c.loop-i.i - 1) s.arguments ps c.arg-ty.result c.place.result.now here.types here.places (reached std s (g.met.A.Abi.sound s) m c.LINK-base.result (c.LINK-base.ensures ∙ sym g.met.A.Abi.link_is) c.requires.long)).0
 
 pub collect_argument-requires-clause-has_all : goal.collect_argument-requires-clause-has_all
 collect_argument-requires-clause-has_all g c =
     let std = g.A.Abi.standard in
-    let s = c.args.cif.now in
+    let s = c.args.placed.now in
     let ps = (plan_of g.A.Abi.standard s).places in
     let m = image_in c.args.registers.now c.args.stack.now in
-    let below : c.loop-i.i - 1 < length c.args.cif.now.arguments = omega (arith, c.count-i.ensures.value, ap (λ r. length r.arguments) c.checked_sig-sig.ensures.value) in
-    let here = at_argument s.arguments _ ps (c.loop-i.i - 1) c.arg-ty.result c.place.result.now (ap (λ r. r.arguments) c.checked_sig-sig.ensures.value) below c.arg-ty.ensures c.place.ensures in
+    let below : c.loop-i.i - 1 < length c.args.placed.now.arguments = omega (arith, c.count-i.ensures.value, ap (λ r. length r.arguments) c.placed_sig-sig.ensures) in
+    let here = at_argument s.arguments _ ps (c.loop-i.i - 1) c.arg-ty.result c.place.result.now (ap (λ r. r.arguments) c.placed_sig-sig.ensures) below c.arg-ty.ensures c.place.ensures in
     (ready_at m c.LINK-base.result (c.loop-i.i - 1) s.arguments ps c.arg-ty.result c.place.result.now here.types here.places (reached std s (g.met.A.Abi.sound s) m c.LINK-base.result (c.LINK-base.ensures ∙ sym g.met.A.Abi.link_is) c.requires.long)).1
 
 pub collect_argument-requires-clause-inside : goal.collect_argument-requires-clause-inside
 collect_argument-requires-clause-inside g c =
     let std = g.A.Abi.standard in
-    let s = c.args.cif.now in
+    let s = c.args.placed.now in
     let ps = (plan_of g.A.Abi.standard s).places in
     let m = image_in c.args.registers.now c.args.stack.now in
-    let below : c.loop-i.i - 1 < length c.args.cif.now.arguments = omega (arith, c.count-i.ensures.value, ap (λ r. length r.arguments) c.checked_sig-sig.ensures.value) in
-    let here = at_argument s.arguments _ ps (c.loop-i.i - 1) c.arg-ty.result c.place.result.now (ap (λ r. r.arguments) c.checked_sig-sig.ensures.value) below c.arg-ty.ensures c.place.ensures in
+    let below : c.loop-i.i - 1 < length c.args.placed.now.arguments = omega (arith, c.count-i.ensures.value, ap (λ r. length r.arguments) c.placed_sig-sig.ensures) in
+    let here = at_argument s.arguments _ ps (c.loop-i.i - 1) c.arg-ty.result c.place.result.now (ap (λ r. r.arguments) c.placed_sig-sig.ensures) below c.arg-ty.ensures c.place.ensures in
     let base_is : c.LINK-base.result ≡ std.link = c.LINK-base.ensures ∙ sym g.met.A.Abi.link_is in
     subst (λ b. outside_of (image_in c.args.registers.now c.args.stack.now) b 0 c.arg-ty.result c.place.result.now ≡ None) (sym base_is) (each_inside m std.link (c.loop-i.i - 1) 0 s.arguments ps c.arg-ty.result c.place.result.now c.requires.inside here.types here.places)
 
 pub loop-i-preserved : goal.loop-i-preserved
 loop-i-preserved g c =
     let std = g.A.Abi.standard in
-    let s = c.args.cif.now in
-    let ts = c.args.cif.now.arguments in
+    let s = c.args.placed.now in
+    let ts = c.args.placed.now.arguments in
     let t = c.arg-ty.result in
     let p = c.place.result.now in
     let ps = (plan_of g.A.Abi.standard s).places in
     let m = image_in c.args.registers.now c.args.stack.now in
-    let below : c.loop-i.i - 1 < length c.args.cif.now.arguments = omega (arith, c.count-i.ensures.value, ap (λ r. length r.arguments) c.checked_sig-sig.ensures.value) in
-    let here = at_argument s.arguments _ ps (c.loop-i.i - 1) c.arg-ty.result c.place.result.now (ap (λ r. r.arguments) c.checked_sig-sig.ensures.value) below c.arg-ty.ensures c.place.ensures in
+    let below : c.loop-i.i - 1 < length c.args.placed.now.arguments = omega (arith, c.count-i.ensures.value, ap (λ r. length r.arguments) c.placed_sig-sig.ensures) in
+    let here = at_argument s.arguments _ ps (c.loop-i.i - 1) c.arg-ty.result c.place.result.now (ap (λ r. r.arguments) c.placed_sig-sig.ensures) below c.arg-ty.ensures c.place.ensures in
     let base_is : c.LINK-base.result ≡ std.link = c.LINK-base.ensures ∙ sym g.met.A.Abi.link_is in
     let back : c.loop-i.i ≡ c.loop-i.i - 1 + 1 = omega arith in
     let before = subst (λ i. AreCollected (image_in c.args.registers.now c.args.stack.now) std.link ts ps (length c.args.values.now) i c.loop-i.at c.loop-i.values) back c.loop-i.invariant in
@@ -94,12 +94,12 @@ loop-i-preserved g c =
 
 pub returns-clause-values : goal.returns-clause-values
 returns-clause-values g c =
-    let s = c.args.cif.now in
+    let s = c.args.placed.now in
     all_collected (image_in c.args.registers.now c.args.stack.now) g.A.Abi.standard.link s.arguments (plan_of g.A.Abi.standard s).places (length c.args.values.now) c.loop-i.i c.loop-i.at c.loop-i.values (omega arith) c.requires.sized c.loop-i.invariant
 
 pub returns-clause-padding : goal.returns-clause-padding
 returns-clause-padding g c =
-    let s = c.args.cif.now in
+    let s = c.args.placed.now in
     all_clear (image_in c.args.registers.now c.args.stack.now) g.A.Abi.standard.link s.arguments (plan_of g.A.Abi.standard s).places (length c.args.values.now) c.loop-i.i c.loop-i.at c.loop-i.values (omega arith) c.requires.sized c.loop-i.invariant
 
 pub returns-clause-sized : goal.returns-clause-sized

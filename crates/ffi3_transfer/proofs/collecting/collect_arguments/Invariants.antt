@@ -5,4 +5,4 @@ use Rattle.ffi3_transfer.proofs.Turns.{AreCollected}
 use Rattle.ffi3_transfer.proofs.collecting.collect_arguments.Given as goal
 
 abbrev pub invariant-loop-i : goal.invariant-loop-i
-invariant-loop-i g l = AreCollected (image_in l.registers l.stack) g.A.Abi.standard.link l.cif.arguments (plan_of g.A.Abi.standard l.cif).places (length l.fn.values) l.i l.at l.values
+invariant-loop-i g l = AreCollected (image_in l.registers l.stack) g.A.Abi.standard.link l.placed.arguments (plan_of g.A.Abi.standard l.placed).places (length l.fn.values) l.i l.at l.values

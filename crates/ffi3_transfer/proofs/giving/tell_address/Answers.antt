@@ -1,8 +1,8 @@
 use Rattle.std.proofs.Common.{subst}
 use Rattle.std.specs.List.{AllByRecursion}
 use Rattle.ffi3_place_rules.specs.Isa.{to_list}
-use Rattle.ffi3_marshal.specs.Stored.{IsPlace}
-use Rattle.ffi3_marshal.proofs.Composing.{register_is_whole}
+use Rattle.ffi3_transfer.specs.Places.{IsPlace}
+use Rattle.ffi3_transfer.proofs.Ready.{register_is_whole}
 use Rattle.ffi3_transfer.specs.Stored.{image_in}
 use Rattle.ffi3_transfer.proofs.Given.{stack_same}
 use Rattle.ffi3_transfer.proofs.giving.tell_address.Goals as goal

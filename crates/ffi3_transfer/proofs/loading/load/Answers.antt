@@ -8,24 +8,24 @@ use Rattle.ffi3_transfer.proofs.loading.load.Goals as goal
 
 pub read_pieces-requires-clause-there : goal.read_pieces-requires-clause-there
 read_pieces-requires-clause-there g c =
-    let s = c.args.cif.now in
+    let s = c.args.placed.now in
     result_there g.A.Abi.standard s (g.met.A.Abi.sound s) c.in-Direct.pieces (sym c.result_place.ensures ∙ c.in-Direct.is) (image_in c.args.registers.now c.args.stack.now)
 
 pub read_pieces-requires-clause-within : goal.read_pieces-requires-clause-within
 read_pieces-requires-clause-within g c =
-    let s = c.args.cif.now in
-    let sized : length c.args.out.now ≡ size_of s.result_type = omega (arith, c.if-out-wanted.false, c.size-wanted.ensures.value, ap size_of c.ret.ensures, ap (λ r. size_of r.result_type) c.checked_sig.ensures.value) in
+    let s = c.args.placed.now in
+    let sized : length c.args.out.now ≡ size_of s.result_type = omega (arith, c.if-out-wanted.false, c.size-wanted.ensures.value, ap size_of c.ret.ensures, ap (λ r. size_of r.result_type) c.placed_sig.ensures) in
     result_within g.A.Abi.standard s (g.met.A.Abi.sound s) c.in-Direct.pieces (sym c.result_place.ensures ∙ c.in-Direct.is) (length c.args.out.now) sized
 
 pub slice_bounds-copy_from_slice-end : goal.slice_bounds-copy_from_slice-end
 slice_bounds-copy_from_slice-end g c =
-    let s = c.args.cif.now in
+    let s = c.args.placed.now in
     let within = buffer_within g.A.Abi.standard s c.in-Hidden.at c.in-Hidden.buffer (sym c.result_place.ensures ∙ c.in-Hidden.is) in
-    omega (arith, within, c.if-stack-frame.false, c.frame-frame.ensures, c.size-wanted.ensures.value, ap size_of c.ret.ensures, ap (λ r. size_of r.result_type) c.checked_sig.ensures.value)
+    omega (arith, within, c.if-stack-frame.false, c.frame-frame.ensures, c.size-wanted.ensures.value, ap size_of c.ret.ensures, ap (λ r. size_of r.result_type) c.placed_sig.ensures)
 
 pub returns-in-Direct-clause-ok : goal.returns-in-Direct-clause-ok
 returns-in-Direct-clause-ok g c =
-    let s = c.args.cif.now in
+    let s = c.args.placed.now in
     let m = image_in c.args.registers.now c.args.stack.now in
-    let sized : length c.args.out.now ≡ size_of s.result_type = omega (arith, c.if-out-wanted.false, c.size-wanted.ensures.value, ap size_of c.ret.ensures, ap (λ r. size_of r.result_type) c.checked_sig.ensures.value) in
+    let sized : length c.args.out.now ≡ size_of s.result_type = omega (arith, c.if-out-wanted.false, c.size-wanted.ensures.value, ap size_of c.ret.ensures, ap (λ r. size_of r.result_type) c.placed_sig.ensures) in
     is_loaded g.A.Abi.standard s m (Direct c.in-Direct.pieces) c.read_pieces.new.out (g.met.A.Abi.sound s) (sym c.in-Direct.is ∙ c.result_place.ensures) (c.read_pieces.ensures ∙ ap (first_bytes m 0 c.in-Direct.pieces 0) sized) (omega (arith, c.if-stack-frame.false, c.frame-frame.ensures))

@@ -12,7 +12,7 @@ loop-k-preserved c =
     let old = c.args.out.now in
     let back : c.loop-k.k ≡ c.loop-k.k - 1 + 1 = omega arith in
     let are = subst (λ j. AreCleared c.args.ty.now c.args.out.now j c.loop-k.end c.loop-k.out) back c.loop-k.invariant in
-    one_cleared t old (c.loop-k.k - 1) c.loop-k.end c.leaf-leaf.result.at (c.leaf-leaf.result.at + c.size.result) c.loop-k.out c.clear.new.out (omega (arith, c.loop-k.invariant.few)) c.leaf-leaf.ensures.at (search rules) are c.clear.ensures.size c.clear.ensures.zeros c.clear.ensures.beside
+    one_cleared t old (c.loop-k.k - 1) c.loop-k.end c.leaf-leaf.result.at (c.leaf-leaf.result.at + c.value_size.result) c.loop-k.out c.clear.new.out (omega (arith, c.loop-k.invariant.few)) c.leaf-leaf.ensures.at (search rules) are c.clear.ensures.size c.clear.ensures.zeros c.clear.ensures.beside
 
 pub returns : goal.returns
 returns c =

@@ -1,11 +1,9 @@
 use Rattle.std.proofs.Common.{◌≡◌, ◌+◌, ◌-◌, ◌<◌, length, subst, sym, arith, rules}
 use Rattle.ffi3_place_rules.specs.Sound.{IsWithin}
-use Rattle.ffi3_explain.specs.Places.{CanBeRead}
+use Rattle.ffi3_transfer.specs.Places.{CanBeRead}
 use Rattle.ffi3_explain.proofs.Loops.{ArePiecesRead, each_from, one_more_read, all_read, none_read}
 use Rattle.ffi3_transfer.specs.Stored.{image_in}
-use Rattle.ffi3_transfer.proofs.Lent.{is_there, is_read}
-use Rattle.ffi3_transfer.proofs.Lent.{is_there, is_read}
-use Rattle.ffi3_transfer.proofs.Lent.{is_there, is_read}
+use Rattle.ffi3_transfer.proofs.Lent.{is_read}
 use Rattle.ffi3_transfer.proofs.reading.read_pieces.Goals as goal
 
 pub loop-j-init : goal.loop-j-init
@@ -14,7 +12,6 @@ loop-j-init c = none_read (image_in c.args.registers.now c.args.stack.now) c.arg
 pub read_piece-requires-clause-there : goal.read_piece-requires-clause-there
 read_piece-requires-clause-there c =
     let below : c.loop-j.j - 1 < length c.args.pieces.now = omega (arith, c.loop-j.invariant.few) in
-    is_there (image_in c.args.registers.now c.args.stack.now) c.args.base c.get.result.now.loc
     (each_from (CanBeRead (image_in c.args.registers.now c.args.stack.now) c.args.base) c.args.pieces.now (c.loop-j.j - 1) c.get.result.now below c.get.ensures c.requires.there).0
 
 pub read_piece-requires-clause-within : goal.read_piece-requires-clause-within

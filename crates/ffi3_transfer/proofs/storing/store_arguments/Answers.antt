@@ -5,10 +5,10 @@ use Rattle.ffi3_place_rules.specs.Standard.{plan_of, frame_of, round8}
 use Rattle.ffi3_place_rules.proofs.Elements.{argument_read}
 use Rattle.ffi3_marshal.specs.Standing.{PlaceKeeps, PlaceStands, place_uses}
 use Rattle.ffi3_marshal.specs.Stored.{Stays}
-use Rattle.ffi3_marshal.proofs.Arguments.{lawful_argument, lies_more, ready_all}
+use Rattle.ffi3_marshal.proofs.Arguments.{any_argument, lies_more_in, any_ready_all}
 use Rattle.ffi3_marshal.proofs.Lawful.{apart_first}
 use Rattle.ffi3_transfer.specs.Packed.{packed_size, first_in}
-use Rattle.ffi3_transfer.specs.Stored.{image_in}
+use Rattle.ffi3_transfer.specs.Stored.{floating_words, image_in}
 use Rattle.ffi3_transfer.proofs.Packing.{room_before}
 use Rattle.ffi3_transfer.proofs.Arguments.{AllStored, none_yet, argument_step, stored_at_end}
 use Rattle.ffi3_transfer.proofs.storing.store_arguments.Goals as goal
@@ -16,80 +16,80 @@ use Rattle.ffi3_transfer.proofs.storing.store_arguments.Goals as goal
 pub loop-i-init : goal.loop-i-init
 loop-i-init g c =
     let std = g.A.Abi.standard in
-    let s = c.args.cif.now in
-    none_yet std.link std.target (frame_of std s) s.arguments (plan_of std s).places c.args.values.now c.count-i.result (length c.args.values.now) (image_in c.args.registers.now c.args.stack.now) (ready_all std s (g.met.A.Abi.sound s) c.checked_sig-sig.ensures.faultless g.met.A.Abi.agrees) (c.count-i.ensures.value ∙ ap (λ r. length r.arguments) c.checked_sig-sig.ensures.value) refl
+    let s = c.args.placed.now in
+    none_yet std.link std.target (frame_of std s) s.arguments (plan_of std s).places c.args.values.now c.count-i.result (length c.args.values.now) (image_in c.args.registers.now c.args.stack.now) (any_ready_all std s (g.met.A.Abi.sound s) g.met.A.Abi.agrees c.sig-sig.ensures.can_be) (c.count-i.ensures.value ∙ ap (λ r. length r.arguments) c.placed_sig-sig.ensures) refl
   where
     refl : {X : Type 0} {x : X} → x ≡ x
     refl = cc
 
 pub overflow_sub-at : goal.overflow_sub-at
 overflow_sub-at g c =
-    let ts = c.args.cif.now.arguments in
+    let ts = c.args.placed.now.arguments in
     let t = c.arg-ty.result in
     let j = c.loop-i.i - 1 in
-    let below : c.loop-i.i - 1 < length c.args.cif.now.arguments = omega (arith, c.count-i.ensures.value, ap (λ r. length r.arguments) c.checked_sig-sig.ensures.value) in
-    let type_is = c.arg-ty.ensures ∙ ap (λ r. tree_at r.arguments (c.loop-i.i - 1)) c.checked_sig-sig.ensures.value in
+    let below : c.loop-i.i - 1 < length c.args.placed.now.arguments = omega (arith, c.count-i.ensures.value, ap (λ r. length r.arguments) c.placed_sig-sig.ensures) in
+    let type_is = c.arg-ty.ensures ∙ ap (λ r. tree_at r.arguments (c.loop-i.i - 1)) c.placed_sig-sig.ensures in
     let back : c.loop-i.i ≡ c.loop-i.i - 1 + 1 = omega arith in
-    let left = subst (λ i. c.loop-i.at + packed_size (drop i c.args.cif.now.arguments) ≡ length c.args.values.now) back c.loop-i.invariant.left in
+    let left = subst (λ i. c.loop-i.at + packed_size (drop i c.args.placed.now.arguments) ≡ length c.args.values.now) back c.loop-i.invariant.left in
     let room = room_before ts j t c.loop-i.at (length c.args.values.now) (argument_read ts j t below type_is) c.requires.sized left in
     omega (arith, room, c.round_up.ensures.value, ap (least_multiple 8) c.size-size.ensures.value)
 
 pub slice_bounds-store_place-end : goal.slice_bounds-store_place-end
 slice_bounds-store_place-end g c =
-    let ts = c.args.cif.now.arguments in
+    let ts = c.args.placed.now.arguments in
     let t = c.arg-ty.result in
     let j = c.loop-i.i - 1 in
-    let below : c.loop-i.i - 1 < length c.args.cif.now.arguments = omega (arith, c.count-i.ensures.value, ap (λ r. length r.arguments) c.checked_sig-sig.ensures.value) in
-    let type_is = c.arg-ty.ensures ∙ ap (λ r. tree_at r.arguments (c.loop-i.i - 1)) c.checked_sig-sig.ensures.value in
+    let below : c.loop-i.i - 1 < length c.args.placed.now.arguments = omega (arith, c.count-i.ensures.value, ap (λ r. length r.arguments) c.placed_sig-sig.ensures) in
+    let type_is = c.arg-ty.ensures ∙ ap (λ r. tree_at r.arguments (c.loop-i.i - 1)) c.placed_sig-sig.ensures in
     let back : c.loop-i.i ≡ c.loop-i.i - 1 + 1 = omega arith in
-    let left = subst (λ i. c.loop-i.at + packed_size (drop i c.args.cif.now.arguments) ≡ length c.args.values.now) back c.loop-i.invariant.left in
+    let left = subst (λ i. c.loop-i.at + packed_size (drop i c.args.placed.now.arguments) ≡ length c.args.values.now) back c.loop-i.invariant.left in
     let room = room_before ts j t c.loop-i.at (length c.args.values.now) (argument_read ts j t below type_is) c.requires.sized left in
     omega (arith, room, c.round_up.ensures.value, ap (least_multiple 8) c.size-size.ensures.value, c.round_up.ensures.least.not_below, left)
 
 pub store_place-requires-clause-lies : goal.store_place-requires-clause-lies
 store_place-requires-clause-lies g c =
     let std = g.A.Abi.standard in
-    let s = c.args.cif.now in
+    let s = c.args.placed.now in
     let t = c.arg-ty.result in
-    let below : c.loop-i.i - 1 < length c.args.cif.now.arguments = omega (arith, c.count-i.ensures.value, ap (λ r. length r.arguments) c.checked_sig-sig.ensures.value) in
-    let type_is = c.arg-ty.ensures ∙ ap (λ r. tree_at r.arguments (c.loop-i.i - 1)) c.checked_sig-sig.ensures.value in
-    let here = lawful_argument std s (g.met.A.Abi.sound s) c.checked_sig-sig.ensures.faultless g.met.A.Abi.agrees (c.loop-i.i - 1) t c.place.result.now below type_is c.place.ensures in
+    let below : c.loop-i.i - 1 < length c.args.placed.now.arguments = omega (arith, c.count-i.ensures.value, ap (λ r. length r.arguments) c.placed_sig-sig.ensures) in
+    let type_is = c.arg-ty.ensures ∙ ap (λ r. tree_at r.arguments (c.loop-i.i - 1)) c.placed_sig-sig.ensures in
+    let here = any_argument std s (g.met.A.Abi.sound s) g.met.A.Abi.agrees c.sig-sig.ensures.can_be (c.loop-i.i - 1) t c.place.result.now below type_is c.place.ensures in
     let base_is : c.LINK-base.result ≡ std.link = c.LINK-base.ensures ∙ sym g.met.A.Abi.link_is in
-    lies_more (frame_of std s) (length c.loop-i.stack - c.LINK-base.result) t c.place.result.now (omega (arith, c.requires.frame, c.loop-i.invariant.stays.size, base_is)) here.ready.lies
+    lies_more_in floating_words (frame_of std s) (length c.loop-i.stack - c.LINK-base.result) t c.place.result.now (omega (arith, c.requires.frame, c.loop-i.invariant.stays.size, base_is)) here.ready.lies
 
 pub store_place-requires-clause-apart : goal.store_place-requires-clause-apart
 store_place-requires-clause-apart g c =
     let std = g.A.Abi.standard in
-    let s = c.args.cif.now in
+    let s = c.args.placed.now in
     let t = c.arg-ty.result in
-    let below : c.loop-i.i - 1 < length c.args.cif.now.arguments = omega (arith, c.count-i.ensures.value, ap (λ r. length r.arguments) c.checked_sig-sig.ensures.value) in
-    let type_is = c.arg-ty.ensures ∙ ap (λ r. tree_at r.arguments (c.loop-i.i - 1)) c.checked_sig-sig.ensures.value in
-    let here = lawful_argument std s (g.met.A.Abi.sound s) c.checked_sig-sig.ensures.faultless g.met.A.Abi.agrees (c.loop-i.i - 1) t c.place.result.now below type_is c.place.ensures in
+    let below : c.loop-i.i - 1 < length c.args.placed.now.arguments = omega (arith, c.count-i.ensures.value, ap (λ r. length r.arguments) c.placed_sig-sig.ensures) in
+    let type_is = c.arg-ty.ensures ∙ ap (λ r. tree_at r.arguments (c.loop-i.i - 1)) c.placed_sig-sig.ensures in
+    let here = any_argument std s (g.met.A.Abi.sound s) g.met.A.Abi.agrees c.sig-sig.ensures.can_be (c.loop-i.i - 1) t c.place.result.now below type_is c.place.ensures in
     apart_first (place_uses t c.place.result.now) _ here.apart
 
 pub store_place-requires-clause-has_all : goal.store_place-requires-clause-has_all
 store_place-requires-clause-has_all g c =
     let std = g.A.Abi.standard in
-    let s = c.args.cif.now in
+    let s = c.args.placed.now in
     let t = c.arg-ty.result in
-    let below : c.loop-i.i - 1 < length c.args.cif.now.arguments = omega (arith, c.count-i.ensures.value, ap (λ r. length r.arguments) c.checked_sig-sig.ensures.value) in
-    let type_is = c.arg-ty.ensures ∙ ap (λ r. tree_at r.arguments (c.loop-i.i - 1)) c.checked_sig-sig.ensures.value in
-    let here = lawful_argument std s (g.met.A.Abi.sound s) c.checked_sig-sig.ensures.faultless g.met.A.Abi.agrees (c.loop-i.i - 1) t c.place.result.now below type_is c.place.ensures in
+    let below : c.loop-i.i - 1 < length c.args.placed.now.arguments = omega (arith, c.count-i.ensures.value, ap (λ r. length r.arguments) c.placed_sig-sig.ensures) in
+    let type_is = c.arg-ty.ensures ∙ ap (λ r. tree_at r.arguments (c.loop-i.i - 1)) c.placed_sig-sig.ensures in
+    let here = any_argument std s (g.met.A.Abi.sound s) g.met.A.Abi.agrees c.sig-sig.ensures.can_be (c.loop-i.i - 1) t c.place.result.now below type_is c.place.ensures in
     here.ready.has_all
 
 pub loop-i-preserved : goal.loop-i-preserved
 loop-i-preserved g c =
     let std = g.A.Abi.standard in
-    let s = c.args.cif.now in
-    let ts = c.args.cif.now.arguments in
+    let s = c.args.placed.now in
+    let ts = c.args.placed.now.arguments in
     let t = c.arg-ty.result in
     let p = c.place.result.now in
     let first = image_in c.args.registers.now c.args.stack.now in
     let a = image_in c.loop-i.registers c.loop-i.stack in
     let b = image_in c.store_place.new.registers c.store_place.new.stack in
-    let below : c.loop-i.i - 1 < length c.args.cif.now.arguments = omega (arith, c.count-i.ensures.value, ap (λ r. length r.arguments) c.checked_sig-sig.ensures.value) in
-    let type_is = c.arg-ty.ensures ∙ ap (λ r. tree_at r.arguments (c.loop-i.i - 1)) c.checked_sig-sig.ensures.value in
-    let here = lawful_argument std s (g.met.A.Abi.sound s) c.checked_sig-sig.ensures.faultless g.met.A.Abi.agrees (c.loop-i.i - 1) t c.place.result.now below type_is c.place.ensures in
+    let below : c.loop-i.i - 1 < length c.args.placed.now.arguments = omega (arith, c.count-i.ensures.value, ap (λ r. length r.arguments) c.placed_sig-sig.ensures) in
+    let type_is = c.arg-ty.ensures ∙ ap (λ r. tree_at r.arguments (c.loop-i.i - 1)) c.placed_sig-sig.ensures in
+    let here = any_argument std s (g.met.A.Abi.sound s) g.met.A.Abi.agrees c.sig-sig.ensures.can_be (c.loop-i.i - 1) t c.place.result.now below type_is c.place.ensures in
     let base_is : c.LINK-base.result ≡ std.link = c.LINK-base.ensures ∙ sym g.met.A.Abi.link_is in
     let back : c.loop-i.i ≡ c.loop-i.i - 1 + 1 = omega arith in
     let before = subst (λ i. AllStored std.link std.target (frame_of std s) ts (plan_of std s).places c.args.values.now i c.loop-i.at (image_in c.args.registers.now c.args.stack.now) (image_in c.loop-i.registers c.loop-i.stack)) back c.loop-i.invariant in
@@ -102,17 +102,17 @@ loop-i-preserved g c =
 pub returns-clause-stand : goal.returns-clause-stand
 returns-clause-stand g c =
     let std = g.A.Abi.standard in
-    let s = c.args.cif.now in
+    let s = c.args.placed.now in
     (stored_at_end std.link std.target (frame_of std s) s.arguments (plan_of std s).places c.args.values.now c.loop-i.i c.loop-i.at (image_in c.args.registers.now c.args.stack.now) (image_in c.loop-i.registers c.loop-i.stack) (omega arith) c.requires.sized c.loop-i.invariant).0
 
 pub returns-clause-stays : goal.returns-clause-stays
 returns-clause-stays g c =
     let std = g.A.Abi.standard in
-    let s = c.args.cif.now in
+    let s = c.args.placed.now in
     (stored_at_end std.link std.target (frame_of std s) s.arguments (plan_of std s).places c.args.values.now c.loop-i.i c.loop-i.at (image_in c.args.registers.now c.args.stack.now) (image_in c.loop-i.registers c.loop-i.stack) (omega arith) c.requires.sized c.loop-i.invariant).1
 
 pub returns-clause-kept : goal.returns-clause-kept
 returns-clause-kept g c =
     let std = g.A.Abi.standard in
-    let s = c.args.cif.now in
+    let s = c.args.placed.now in
     (stored_at_end std.link std.target (frame_of std s) s.arguments (plan_of std s).places c.args.values.now c.loop-i.i c.loop-i.at (image_in c.args.registers.now c.args.stack.now) (image_in c.loop-i.registers c.loop-i.stack) (omega arith) c.requires.sized c.loop-i.invariant).2

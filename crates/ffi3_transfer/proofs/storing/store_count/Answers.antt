@@ -1,8 +1,8 @@
 use Rattle.std.proofs.Common.{subst}
 use Rattle.std.specs.List.{AllByRecursion}
 use Rattle.ffi3_place_rules.specs.Isa.{to_list}
-use Rattle.ffi3_marshal.specs.Stored.{IsPlace}
-use Rattle.ffi3_marshal.proofs.Composing.{register_is_whole}
+use Rattle.ffi3_transfer.specs.Places.{IsPlace}
+use Rattle.ffi3_transfer.proofs.Ready.{register_is_whole}
 use Rattle.ffi3_transfer.proofs.storing.store_count.Goals as goal
 
 pub put_word-requires-clause-whole : goal.put_word-requires-clause-whole
