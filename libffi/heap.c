@@ -91,7 +91,7 @@ void answer_free(void *at)
 #define CHUNK_BYTES 16384
 #endif
 
-static char *chunk, *kept, *chunk_end; /* the last one, of which all is free from `kept` on */
+static char *kept, *chunk_end; /* of the last one all is free from `kept` on */
 
 static inline size_t in_words(size_t size) { return (size + 7) & ~(size_t)7; }
 
@@ -103,15 +103,9 @@ void *kept_room(size_t most)
     char *next = malloc(size);
     if (!next)
         return NULL;
-    chunk = kept = next;
+    kept = next;
     chunk_end = next + size;
     return kept;
 }
 
 void kept_take(size_t size) { kept += in_words(size); }
-
-void kept_back(void *piece)
-{
-    if ((uintptr_t)piece - (uintptr_t)chunk < (uintptr_t)kept - (uintptr_t)chunk)
-        kept = piece;
-}

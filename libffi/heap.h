@@ -21,6 +21,5 @@ uint64_t library_answer(void);
 /* Memory that stays for as long as the process, one piece behind another. */
 void *kept_room(size_t most); /* the next piece, with room for `most` bytes, aligned to 8; or NULL */
 void kept_take(size_t bytes); /* how many of them it has */
-void kept_back(void *piece);  /* frees a piece, and those that were taken after it */
 
 #endif

@@ -93,15 +93,27 @@ bool is_natural(const ffi_type *type)
 
 static bool put_type(struct key *key, const ffi_type *type, int depth);
 
-/* A complex number is passed as a struct of its two parts. */
+/* A long double is what the convention says; or there is none. */
+static bool put_long_double(struct key *key, const ffi_type *type)
+{
+    uint32_t kind = host_long_double(key_abi(key));
+    if (kind == FFI3_STRUCT || is_sized_otherwise(type))
+        return false;
+    key_put(key, kind, 0);
+    return true;
+}
+
+/* Of parts for which the library has no complex kind it is told the struct of two. */
 static bool put_complex(struct key *key, const ffi_type *type, int depth)
 {
     const ffi_type *part = type->elements ? type->elements[0] : NULL;
     if (!part || is_sized_otherwise(part) || type->size != 2 * part->size || type->alignment != part->alignment)
         return false;
-    switch (part->type) {
-    case FFI_TYPE_FLOAT: key_put(key, FFI3_COMPLEX_FLOAT, 0); return true;
-    case FFI_TYPE_DOUBLE: key_put(key, FFI3_COMPLEX_DOUBLE, 0); return true;
+    uint32_t kind = part->type == FFI_TYPE_LONGDOUBLE ? host_long_double(key_abi(key)) : scalar_kind(part->type);
+    switch (kind) {
+    case FFI3_FLOAT: key_put(key, FFI3_COMPLEX_FLOAT, 0); return true;
+    case FFI3_DOUBLE: key_put(key, FFI3_COMPLEX_DOUBLE, 0); return true;
+    case FFI3_LONG_DOUBLE: key_put(key, FFI3_COMPLEX_LONG_DOUBLE, 0); return true;
     default:
         key_put(key, FFI3_STRUCT, 2);
         return put_type(key, part, depth + 1) && put_type(key, part, depth + 1);
@@ -139,6 +151,8 @@ static bool put_type(struct key *key, const ffi_type *type, int depth)
         key_put(key, kind, 0);
         return true;
     }
+    if (type->type == FFI_TYPE_LONGDOUBLE)
+        return put_long_double(key, type);
     if (depth >= DEEPEST && type->type == FFI_TYPE_STRUCT)
         key->status = FFI_BAD_TYPEDEF;
     if (depth >= DEEPEST || key->status != FFI_OK)
@@ -151,20 +165,18 @@ static bool put_type(struct key *key, const ffi_type *type, int depth)
 }
 
 /* Adds an aggregate, or a long double. */
-static void put_other(struct key *key, const ffi_type *type, ffi_abi abi, bool is_result)
+static void put_other(struct key *key, const ffi_type *type)
 {
     size_t before = key->length;
     if (put_type(key, type, 0) || key->status != FFI_OK)
         return;
     key->length = before;
-    if (host_put_long_double(key, type, abi, is_result))
-        return;
-    if (!is_aggregate(type) || !is_alignment(type->alignment) || !host_put_stand_in(key, type, abi))
+    if (!is_aggregate(type) || !is_alignment(type->alignment) || !host_put_stand_in(key, type, key_abi(key)))
         key->status = FFI_BAD_TYPEDEF;
 }
 
 /* Adds the type of an argument or of the result. */
-static inline void put_value(struct key *key, ffi_type *type, ffi_abi abi, bool is_result)
+static inline void put_value(struct key *key, ffi_type *type, bool is_result)
 {
     uint32_t kind = scalar_kind(type->type);
     if (__builtin_expect(!is_laid_out(type), 0))
@@ -172,7 +184,7 @@ static inline void put_value(struct key *key, ffi_type *type, ffi_abi abi, bool 
     else if (kind != FFI3_STRUCT)
         key_put(key, kind, 0);
     else
-        put_other(key, type, abi, is_result);
+        put_other(key, type);
     if (kind == FFI3_VOID && !is_result)
         key->kinds |= NODES_OF_OWN;
 }
@@ -211,7 +223,7 @@ void key_tell(struct key *key, const ffi_cif *cif, unsigned fixed)
     key_put(key, NODE_SIGNATURE, cif->abi);
     key_put(key, NODE_FIXED, fixed);
     key->kinds = 0;
-    put_value(key, cif->rtype, cif->abi, true);
+    put_value(key, cif->rtype, true);
     for (unsigned i = 0; i < cif->nargs && key->status == FFI_OK; i++)
-        put_value(key, cif->arg_types[i], cif->abi, false);
+        put_value(key, cif->arg_types[i], false);
 }

@@ -7,16 +7,18 @@
 #include <stdbool.h>
 
 /* Kinds of node of these files' own, beside those of ffi3.h. None is told to the proved library. */
-#define NODE_SIGNATURE 0x100u    /* the first of each key: `count` is the convention, an ffi_abi */
-#define NODE_FIXED 0x101u        /* the second: how many arguments are fixed, or FFI3_NOT_VARIADIC */
-#define NODE_SIZED 0x102u        /* the type that follows stands in for one of `count` bytes */
-#define NODE_LONG_DOUBLES 0x103u /* `count` long doubles that have registers of their own: long_double.c of the host */
+#define NODE_SIGNATURE 0x100u /* the first of each key: `count` is the convention, an ffi_abi */
+#define NODE_FIXED 0x101u     /* the second: how many arguments are fixed, or FFI3_NOT_VARIADIC */
+#define NODE_SIZED 0x102u     /* the type that follows stands in for one of `count` bytes */
 #define NODES_BEFORE_TYPES 2
 
 #define DEEPEST 16 /* structs in structs: the library's own limit */
 
 /* The bit of all these kinds, and of arguments that are void: the library is told other nodes than a key has. */
 #define NODES_OF_OWN 0x100u
+
+/* The bit of the kinds of long doubles, and of those that may have them in them. */
+#define NODES_OF_LONG_DOUBLES 0x10u
 
 struct key {
     struct ffi3_node *nodes; /* own_nodes, or malloc's: the two, the result, the arguments, those that are void too */
@@ -48,9 +50,11 @@ static inline uint64_t word_of(ffi_abi abi, unsigned nargs, const ffi_type *rtyp
     return word;
 }
 
-/* The key of an interface that has this word, from the word alone. Answers false, and makes none, where a type is
- * passed otherwise than by its node: long double. */
+/* The key of an interface that has this word, from the word alone. Answers false, and makes none, where it has a long
+ * double, whose node goes by the convention. */
 bool key_tell_word(struct key *key, const ffi_cif *cif, uint64_t word);
+
+static inline ffi_abi key_abi(const struct key *key) { return (ffi_abi)key->nodes[0].count; }
 
 bool key_has_more_room(struct key *key);
 
@@ -80,7 +84,7 @@ static inline bool is_aggregate(const ffi_type *type)
 /* Whether the library has types of this alignment. */
 static inline bool is_alignment(size_t it) { return it != 0 && it <= 16 && (it & (it - 1)) == 0; }
 
-/* By libffi's code of a scalar: the library's kind, or FFI3_STRUCT where it has none for it; and how many bytes. */
+/* By libffi's code of a scalar: the library's kind, or FFI3_STRUCT where none is it always; and how many bytes. */
 extern const uint8_t scalar_kinds[FFI_TYPE_LAST + 1], scalar_sizes[FFI_TYPE_LAST + 1];
 
 static inline uint32_t scalar_kind(unsigned short type)

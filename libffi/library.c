@@ -7,7 +7,7 @@
 
 #define OWN_MOVES (sizeof ((struct told *)NULL)->own_moves / sizeof(struct ffi3_move))
 
-/* The nodes that the library is told for those of a key; answers how many. The room is enough: see has_asked_moves. */
+/* The nodes that the library is told for those of a key; answers how many: no more than those. */
 static size_t told_nodes(const struct key *key, struct ffi3_node *told, uint32_t *fixed)
 {
     size_t count = 0, result_end = type_end(key->nodes, NODES_BEFORE_TYPES);
@@ -18,9 +18,7 @@ static size_t told_nodes(const struct key *key, struct ffi3_node *told, uint32_t
         if (!is_result && position++ == key->fixed)
             *fixed = not_void;
         for (; at < end; at++)
-            if (key->nodes[at].kind == NODE_LONG_DOUBLES)
-                count += host_tell_long_doubles(key->nodes[at].count, is_result, told + count);
-            else if (key->nodes[at].kind != NODE_SIZED && (is_result || key->nodes[at].kind != FFI3_VOID))
+            if (key->nodes[at].kind != NODE_SIZED && (is_result || key->nodes[at].kind != FFI3_VOID))
                 told[count++] = key->nodes[at];
         if (!is_result)
             not_void += key->nodes[end - 1].kind != FFI3_VOID;
@@ -70,55 +68,59 @@ static uint64_t stack_of(const struct told *told)
     return (stack + 15) / 16 * 16;
 }
 
-static bool has_told_all(struct ffi3_interface *interface, struct told *told)
+static bool has_told_caller(struct ffi3_interface *interface, struct told *told)
 {
-    bool has = ffi3_sizes(interface, &told->sizes) == FFI3_OK && told->sizes.frame <= INT32_MAX;
-    for (uint32_t list = 0; list < LISTS && has; list++)
-        if (told->asked >> list & 1)
-            has = has_told(interface, list, told);
-    return has;
+    const struct moves *loads = &told->lists[FFI3_MOVES_TO_LOAD];
+    if (ffi3_sizes(interface, &told->sizes) != FFI3_OK || told->sizes.frame > INT32_MAX ||
+        !has_told(interface, FFI3_MOVES_TO_STORE, told) || !has_told(interface, FFI3_MOVES_TO_LOAD, told))
+        return false;
+    /* A hidden result is in the frame. */
+    if (loads->count && loads->first->from >= FRAME_AT && !has_told(interface, FFI3_MOVES_OF_HIDDEN, told))
+        return false;
+    told->stack = stack_of(told);
+    return true;
+}
+
+static bool has_told_callee(struct ffi3_interface *interface, struct told *told)
+{
+    return has_told(interface, FFI3_MOVES_TO_COLLECT, told) && has_told(interface, FFI3_MOVES_TO_GIVE, told);
 }
 
 static bool has_asked(const struct key *key, const struct ffi3_node *nodes, size_t length, uint32_t fixed,
-                      uint32_t lists, uint64_t answer, struct told *told)
+                      bool is_callee, uint64_t answer, struct told *told)
 {
     struct ffi3_fault fault;
-    uint32_t target = host_target((ffi_abi)key->nodes[0].count);
+    uint32_t target = host_target(key_abi(key));
     /* The library wants one that is fixed, and libffi none; all of these standards place it as if it were not. */
     if (fixed == 0)
         fixed = length > type_end(nodes, 0) ? 1 : FFI3_NOT_VARIADIC;
     memset(told->lists, 0, sizeof told->lists);
     told->malloced = told->used = 0;
-    told->asked = lists;
     bool has = library_goes_on(answer);
     if (!has) {
         last = (struct ffi3_interface)FFI3_NO_INTERFACE;
         has = ffi3_prepare(target, nodes, length, fixed, &last, &fault) == FFI3_OK;
     }
-    has = has && has_told_all(&last, told);
+    has = has && (is_callee ? has_told_callee(&last, told) : has_told_caller(&last, told));
     told->answer = library_answer();
     if (!told->answer)
         ffi3_release(&last);
-    if (has)
-        told->stack = stack_of(told);
-    else
+    if (!has)
         told_end(told);
     return has;
 }
 
-bool has_asked_moves(const struct key *key, uint32_t lists, uint64_t answer, struct told *told)
+bool has_asked_moves(const struct key *key, bool is_callee, uint64_t answer, struct told *told)
 {
     uint32_t fixed = key->fixed;
     struct ffi3_node own_nodes[96], *nodes = own_nodes;
     if (!(key->kinds & NODES_OF_OWN))
-        return has_asked(key, key->nodes + NODES_BEFORE_TYPES, key->length - NODES_BEFORE_TYPES, fixed, lists, answer,
-                         told);
-    if (3 * key->length > sizeof own_nodes / sizeof *own_nodes)
-        nodes = malloc(3 * key->length * sizeof *nodes);
+        return has_asked(key, key->nodes + NODES_BEFORE_TYPES, key->length - NODES_BEFORE_TYPES, fixed, is_callee,
+                         answer, told);
+    if (key->length > sizeof own_nodes / sizeof *own_nodes)
+        nodes = malloc(key->length * sizeof *nodes);
     size_t length = nodes ? told_nodes(key, nodes, &fixed) : 0;
-    bool has = length && has_asked(key, nodes, length, fixed, LISTS_OF_CALLS | LISTS_OF_CLOSURES, 0, told);
-    if (has)
-        host_correct(key, told);
+    bool has = length && has_asked(key, nodes, length, fixed, is_callee, answer, told);
     if (nodes != own_nodes)
         free(nodes);
     return has;

@@ -21,6 +21,12 @@ static bool is_signed(const ffi_type *type)
            type->type == FFI_TYPE_INT;
 }
 
+/* A place of the library's, where these files have it. */
+static inline uint32_t place_of(uint64_t told)
+{
+    return (uint32_t)(told >= HIGH_AT && told < FRAME_AT ? told - HIGH_AT + BESIDE_AT : told);
+}
+
 /* Bytes as they are. */
 static inline uint16_t as_they_are(uint32_t length)
 {
@@ -105,7 +111,7 @@ static inline const struct ffi3_move *end_of(const struct ffi3_move *next, const
 static inline struct move move_of(const struct ffi3_move *told, uint64_t start, uint32_t number, const ffi_type *type)
 {
     uint32_t from = (uint32_t)(told->from - start), length = length_of(told, from, type);
-    return (struct move){kind_in(told, length), (uint16_t)number, from, (uint32_t)told->to, length};
+    return (struct move){kind_in(told, length), (uint16_t)number, from, place_of(told->to), length};
 }
 
 /* Adds the caller's moves of an argument, from `next` on, and answers how many they are. The first of them reads its
@@ -162,7 +168,7 @@ static struct source source_of(struct served *served, const struct ffi3_move *ne
     if (next->kind == FFI3_MOVE_BEHIND)
         return (struct source){AT_ADDRESS, (uint32_t)next->from, 0, 0};
     for (; next < end; next++) {
-        struct move move = {.from = (uint32_t)next->from, .to = (uint32_t)(next->to - start)};
+        struct move move = {.from = place_of(next->from), .to = (uint32_t)(next->to - start)};
         move.length = length_of(next, move.to, type);
         move.kind = as_they_are(move.length);
         count = add(moves, count, &move);
@@ -209,7 +215,7 @@ static bool has_filled_sources(struct served *served, const struct told *told, c
 /* libffi widens an integer to a word. */
 static struct move load_of(const struct ffi3_move *told, const ffi_type *type)
 {
-    struct move move = {.from = (uint32_t)told->from, .to = (uint32_t)told->to};
+    struct move move = {.from = place_of(told->from), .to = (uint32_t)told->to};
     move.length = length_of(told, told->to, type);
     move.kind = is_integer(type) ? filling(move.length, is_signed(type)) : as_they_are(move.length);
     return move;
@@ -217,7 +223,7 @@ static struct move load_of(const struct ffi3_move *told, const ffi_type *type)
 
 static struct move give_of(const struct ffi3_move *told, const ffi_type *type)
 {
-    struct move move = {.from = (uint32_t)told->from, .to = (uint32_t)told->to};
+    struct move move = {.from = (uint32_t)told->from, .to = place_of(told->to)};
     move.length = length_of(told, told->from, type);
     move.kind = kind_in(told, move.length);
     return move;
@@ -252,32 +258,28 @@ static void fill_gives(struct served *served, const struct told *told, const ffi
 
 /* ---- The whole */
 
-/* What was stored in pieces is collected from them, and what was stored in a copy from where its address points. */
-void told_mirror(struct told *told)
+/* How many 16 bytes have values of those that the rows do not move, from the first on, with this one. */
+static inline uint32_t beside(uint32_t before, uint32_t place, uint32_t length)
 {
-    const struct moves *in = &told->lists[FFI3_MOVES_TO_STORE];
-    struct moves *out = &told->lists[FFI3_MOVES_TO_COLLECT];
-    out->count = 0;
-    for (size_t k = 0; k < in->count; k++) {
-        const struct ffi3_move *it = &in->first[k];
-        struct ffi3_move back = {FFI3_MOVE_BYTES, it->part, it->to, it->from, it->length};
-        if (it->kind == FFI3_MOVE_NUMBER)
-            continue;
-        if (k + 1 < in->count && it[1].kind == FFI3_MOVE_ADDRESS) {
-            back.kind = FFI3_MOVE_BEHIND;
-            back.from = it[1].to;
-            k++;
-        }
-        out->first[out->count++] = back;
-    }
+    uint32_t count = place - BESIDE_AT < BESIDE_BYTES ? (place - BESIDE_AT + length + 15) / 16 : 0;
+    return count > before ? count : before;
+}
+
+static uint32_t all_beside(const struct plan *plan)
+{
+    uint32_t count = 0;
+    for (uint32_t k = 0; k < plan->moves_count; k++)
+        count = beside(count, plan->moves[k].to, plan->moves[k].length);
+    for (uint32_t k = 0; k < plan->loads_count; k++)
+        count = beside(count, plan->loads[k].from, plan->loads[k].length);
+    return count;
 }
 
 struct plan *plan_from(const struct key *key, uint64_t word, const struct told *told, const ffi_cif *cif)
 {
     size_t stores = told->lists[FFI3_MOVES_TO_STORE].count, loads = told->lists[FFI3_MOVES_TO_LOAD].count;
     size_t nodes = word ? 0 : key->length;
-    struct plan *plan = kept_room(sizeof *plan + (stores + loads + MOST_BESIDE) * sizeof(struct move) +
-                                  nodes * sizeof *plan->nodes);
+    struct plan *plan = kept_room(sizeof *plan + (stores + loads) * sizeof(struct move) + nodes * sizeof *plan->nodes);
     if (!plan)
         return NULL;
     *plan = (struct plan){.word = word,
@@ -293,15 +295,15 @@ struct plan *plan_from(const struct key *key, uint64_t word, const struct told *
         return NULL;
     plan->loads = plan->moves + plan->moves_count;
     fill_loads(plan, told, cif->rtype);
-    host_complete(key, plan);
+    plan->beside = key->kinds & NODES_OF_LONG_DOUBLES ? all_beside(plan) : 0;
     plan->nodes = memcpy(plan->loads + plan->loads_count, key->nodes, nodes * sizeof *plan->nodes);
     kept_take((size_t)((const char *)(plan->nodes + nodes) - (const char *)plan));
     return plan;
 }
 
-struct served *served_from(const struct key *key, const struct told *told, const ffi_cif *cif)
+struct served *served_from(const struct told *told, const ffi_cif *cif)
 {
-    size_t moves = told->lists[FFI3_MOVES_TO_COLLECT].count + told->lists[FFI3_MOVES_TO_GIVE].count + MOST_BESIDE;
+    size_t moves = told->lists[FFI3_MOVES_TO_COLLECT].count + told->lists[FFI3_MOVES_TO_GIVE].count;
     size_t sources = cif->nargs * sizeof(struct source);
     struct served *served = kept_room(sizeof *served + sources + moves * sizeof(struct move));
     if (!served)
@@ -312,7 +314,6 @@ struct served *served_from(const struct key *key, const struct told *told, const
         return NULL;
     served->gives = served->gathers + served->gathers_count;
     fill_gives(served, told, cif->rtype);
-    host_complete_served(key, served);
     kept_take((size_t)((char *)(served->gives + served->gives_count) - (char *)served));
     return served;
 }

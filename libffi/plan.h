@@ -62,7 +62,7 @@ struct plan {
     uint32_t index;     /* of the table of plans */
     uint32_t stack;     /* bytes of stack arguments, a multiple of 16 */
     uint32_t frame;     /* these with copies and the result's buffer */
-    uint32_t beside;    /* goes into the exchange */
+    uint32_t beside;    /* goes into the exchange, which says what it counts */
     uint32_t number_at; /* where the caller puts a number: on AMD64, how many vector registers there are */
     uint64_t number;
     uint32_t hidden;    /* the place of the address of the result's buffer, or NO_PLACE */
@@ -88,8 +88,6 @@ struct served {
 
 /* ---- What the proved library told of a signature */
 
-#define MOST_BESIDE 2 /* moves of a result that host_complete adds */
-
 struct moves {
     struct ffi3_move *first;
     size_t count;
@@ -97,33 +95,26 @@ struct moves {
 
 #define LISTS 5 /* FFI3_MOVES_TO_STORE and so on */
 
-#define LISTS_OF_CALLS (1u << FFI3_MOVES_TO_STORE | 1u << FFI3_MOVES_TO_LOAD | 1u << FFI3_MOVES_OF_HIDDEN)
-#define LISTS_OF_CLOSURES (1u << FFI3_MOVES_TO_COLLECT | 1u << FFI3_MOVES_TO_GIVE)
-
 struct told {
-    uint32_t asked;  /* which lists, by bits */
     uint64_t answer; /* the number of the library's answer */
     struct ffi3_sizes sizes;
     uint64_t stack; /* bytes of the frame that are passed on the stack: it begins with them */
-    struct moves lists[LISTS];
+    struct moves lists[LISTS]; /* the caller's, or the callee's; the others are empty */
     uint32_t malloced; /* which lists are not in own_moves, by bits */
     uint32_t used;     /* of own_moves */
     struct ffi3_move own_moves[64];
 };
 
-/* Asks the library for lists of moves of a key, for all of them where a host has a part in it; answers false where it
- * has none, or memory was refused. `answer` is the number of what it answered of this key, or 0. told_end gives memory
- * back. Under library_lock. */
-bool has_asked_moves(const struct key *key, uint32_t lists, uint64_t answer, struct told *told);
+/* Asks the library for the moves of a key, the callee's, or the caller's and the sizes; answers false where it has none,
+ * or memory was refused. `answer` is the number of what it answered of this key, or 0. told_end gives memory back. Under
+ * library_lock. */
+bool has_asked_moves(const struct key *key, bool is_callee, uint64_t answer, struct told *told);
 void told_end(struct told *told);
-
-/* Makes the callee's moves of the arguments anew, from the caller's, where a host has placed a long double. */
-void told_mirror(struct told *told);
 
 /* Make a plan, and its callee's part, of what was told, in memory that is kept; or NULL, where malloc gives none. Under
  * library_lock. */
 struct plan *plan_from(const struct key *key, uint64_t word, const struct told *told, const ffi_cif *cif);
-struct served *served_from(const struct key *key, const struct told *told, const ffi_cif *cif);
+struct served *served_from(const struct told *told, const ffi_cif *cif);
 
 /* The plan of an interface, from the table or a new one; or NULL, where there is none or memory was refused. Its types
  * are laid out. `fixed` as in key.h. */

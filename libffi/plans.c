@@ -106,26 +106,12 @@ static void put(struct place place, struct plan *plan)
     atomic_store_explicit(&place.table->slots[place.at], plan, memory_order_release);
 }
 
-/* A plan of what was told, with the callee's part, where all of that was told too. */
-static struct plan *plan_of_told(const struct key *key, uint64_t word, const struct told *told, const ffi_cif *cif)
-{
-    struct plan *plan = plan_from(key, word, told, cif);
-    if (!plan || !(told->asked & LISTS_OF_CLOSURES))
-        return plan;
-    struct served *served = served_from(key, told, cif);
-    atomic_store(&plan->served, served);
-    if (served)
-        return plan;
-    kept_back(plan);
-    return NULL;
-}
-
 static struct plan *asked_plan(const struct key *key, uint64_t word, const ffi_cif *cif)
 {
     struct told told;
-    if (!has_asked_moves(key, LISTS_OF_CALLS, 0, &told))
+    if (!has_asked_moves(key, false, 0, &told))
         return NULL;
-    struct plan *plan = plan_of_told(key, word, &told, cif);
+    struct plan *plan = plan_from(key, word, &told, cif);
     told_end(&told);
     return plan;
 }
@@ -156,8 +142,8 @@ static const struct served *serve(struct plan *plan, const struct key *key, cons
     struct told told;
     library_enter();
     const struct served *served = atomic_load(&plan->served);
-    if (!served && has_asked_moves(key, LISTS_OF_CLOSURES, plan->answer, &told)) {
-        served = served_from(key, &told, cif);
+    if (!served && has_asked_moves(key, true, plan->answer, &told)) {
+        served = served_from(&told, cif);
         told_end(&told);
         atomic_store_explicit(&plan->served, served, memory_order_release);
     }

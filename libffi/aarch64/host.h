@@ -17,6 +17,12 @@ static inline uint32_t host_target(ffi_abi abi)
     return FFI3_AAPCS64;
 }
 
+static inline uint32_t host_long_double(ffi_abi abi)
+{
+    (void)abi;
+    return FFI3_LONG_DOUBLE;
+}
+
 /* stubs.S. x17 has the closure, of Go's x18. */
 void enter_closure(void);
 void enter_go_closure(void);

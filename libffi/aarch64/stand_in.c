@@ -1,7 +1,7 @@
 #include "host.h"
 #include "shape.h"
 
-#define WIDEST_OF_DOUBLES 32 /* bytes of a homogeneous aggregate, which has at most four members */
+#define WIDEST_OF_DOUBLES 32 /* bytes of a homogeneous aggregate, which has at most four members; of long doubles 64 */
 
 /* By bytes, since a homogeneous aggregate has no padding. */
 bool host_are_alike(const struct shape *one, const struct shape *other)
@@ -10,7 +10,7 @@ bool host_are_alike(const struct shape *one, const struct shape *other)
            one->real16 == other->real16;
 }
 
-/* A homogeneous aggregate has one to four floats, or doubles, in all of its bytes (AAPCS64, "Homogeneous
+/* A homogeneous aggregate has one to four floats, doubles or long doubles in all of its bytes (AAPCS64, "Homogeneous
  * Aggregates"). */
 static bool is_homogeneous(const ffi_type *type, uint64_t real, uint64_t others, size_t size)
 {
@@ -36,7 +36,7 @@ static bool may_have_long_double(const ffi_type *type, int depth, unsigned *look
 
 /* A type of up to 16 bytes that is not homogeneous is in general registers or on the stack by its size, and a larger
  * one is passed by the address of a copy. By which rule one in registers is aligned that its client aligned to 16,
- * compilers do not agree. */
+ * compilers do not agree; long doubles are aligned so by themselves, and have no like that is not. */
 bool host_put_stand_in(struct key *key, const ffi_type *type, ffi_abi abi)
 {
     struct shape shape;
@@ -49,6 +49,8 @@ bool host_put_stand_in(struct key *key, const ffi_type *type, ffi_abi abi)
     uint64_t others = shape.integer | shape.real16;
     bool is_float = is_homogeneous(type, shape.real4, others | shape.real8, 4);
     bool is_double = is_homogeneous(type, shape.real8, others | shape.real4, 8);
+    if (is_homogeneous(type, shape.real16, shape.integer | shape.real4 | shape.real8, 16))
+        return type->alignment == 16 && put_array(key, FFI3_LONG_DOUBLE, type->size / 16);
     if (type->size > 16 && !is_float && !is_double)
         return key_put_bytes(key, type);
     if (type->alignment > 8)

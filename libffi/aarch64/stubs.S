@@ -1,6 +1,7 @@
 /* The four stubs, whole, between what a real processor and its stack need beside them. rows.inc has their bytes,
  * whose effect is proved: they find the exchange in x0, x19, x9 and x9, and begin with x17 or x16 := that register.
- * Where a long double is in a register, what moves it stands between the rows of a second Call and a second Exit.
+ * Where a long double is in a register, what moves its high half stands between the rows of a second Call and a second
+ * Exit.
  *
  * What stands below is trusted; docs/TRUSTED.md counts it. Nothing that is still needed stands below sp. */
 
@@ -42,17 +43,23 @@ make_call:
 	ldr	w9, [x0, #560]
 	cbz	w9, 3f
 	CALL_LOADS
-	ldp	q0, q1, [x17, #320]
-	ldp	q2, q3, [x17, #352]
-	ldp	q4, q5, [x17, #384]
-	ldp	q6, q7, [x17, #416]
+	add	x10, x17, #384
+	ld1	{v0.d}[1], [x10], #8
+	ld1	{v1.d}[1], [x10], #8
+	ld1	{v2.d}[1], [x10], #8
+	ld1	{v3.d}[1], [x10], #8
+	ld1	{v4.d}[1], [x10], #8
+	ld1	{v5.d}[1], [x10], #8
+	ld1	{v6.d}[1], [x10], #8
+	ld1	{v7.d}[1], [x10]
 	CALL_CALLS
 	b	4f
 3:	CALL_LOADS
 	CALL_CALLS
 4:	RETURN_ROWS
-	stp	q0, q1, [x19, #320]
-	stp	q2, q3, [x19, #352]
+	zip2	v4.2d, v0.2d, v1.2d
+	zip2	v5.2d, v2.2d, v3.2d
+	stp	q4, q5, [x19, #384]
 	ldr	x19, [sp, #16]
 	.cfi_restore x19
 	ldp	x29, x30, [sp], #32
@@ -78,10 +85,12 @@ make_call:
 	mov	x9, sp
 	sub	x10, sp, #176
 	str	x10, [x9, #528]		/* sp behind Entry */
-	stp	q0, q1, [x9, #320]
-	stp	q2, q3, [x9, #352]
-	stp	q4, q5, [x9, #384]
-	stp	q6, q7, [x9, #416]
+	zip2	v16.2d, v0.2d, v1.2d
+	zip2	v17.2d, v2.2d, v3.2d
+	zip2	v18.2d, v4.2d, v5.2d
+	zip2	v19.2d, v6.2d, v7.2d
+	stp	q16, q17, [x9, #384]
+	stp	q18, q19, [x9, #416]
 	ENTRY_MOVES_SP
 	.cfi_def_cfa_offset 752
 	ENTRY_SAVES
@@ -103,8 +112,11 @@ make_call:
 	EXIT_RESTORES
 	RESTORED
 	EXIT_LOADS
-	ldp	q0, q1, [x16, #320]
-	ldp	q2, q3, [x16, #352]
+	add	x10, x16, #384
+	ld1	{v0.d}[1], [x10], #8
+	ld1	{v1.d}[1], [x10], #8
+	ld1	{v2.d}[1], [x10], #8
+	ld1	{v3.d}[1], [x10]
 	EXIT_MOVES_SP
 	.cfi_def_cfa_offset 0
 	EXIT_RETURNS

@@ -15,6 +15,12 @@ static inline bool host_has_abi(ffi_abi abi, bool is_variadic)
 
 static inline uint32_t host_target(ffi_abi abi) { return is_win64(abi) ? FFI3_WIN64 : FFI3_AMD64; }
 
+/* Under Microsoft's convention GCC passes and returns its own by address; Microsoft's is a double, and refused. */
+static inline uint32_t host_long_double(ffi_abi abi)
+{
+    return abi == FFI_UNIX64 ? FFI3_LONG_DOUBLE : abi == FFI_GNUW64 ? FFI3_UINT128 : FFI3_STRUCT;
+}
+
 /* stubs.S. r10 has the closure. */
 void enter_closure(void);
 void enter_closure_win64(void);

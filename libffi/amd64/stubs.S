@@ -41,10 +41,10 @@ make_call:
 	mov	560(%rbx), %eax		/* results in x87 registers */
 	test	%eax, %eax
 	jz	3f
-	fstpt	128(%rbx)
+	fstpt	384(%rbx)
 	dec	%eax
 	jz	3f
-	fstpt	144(%rbx)
+	fstpt	400(%rbx)
 3:	lea	8(%rsp), %rsp
 	pop	%rbx
 	.cfi_restore %rbx
@@ -86,8 +86,8 @@ make_call:
 	jz	2f
 	dec	%eax
 	jz	1f
-	fldt	144(%rcx)
-1:	fldt	128(%rcx)
+	fldt	400(%rcx)
+1:	fldt	384(%rcx)
 2:	EXIT_FINDS_SAVES
 	EXIT_RESTORES
 	.cfi_restore %rbx

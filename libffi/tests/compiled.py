@@ -12,13 +12,19 @@ import sys
 
 NAMES = {"int8_t": "sint8", "uint8_t": "uint8", "int16_t": "sint16", "uint16_t": "uint16", "int32_t": "sint32",
          "uint32_t": "uint32", "int64_t": "sint64", "uint64_t": "uint64", "float": "float", "double": "double",
-         "void *": "pointer"}
+         "void *": "pointer", "long double": "longdouble"}
 
 HEAD = """#include <ffi.h>
 #include <stdint.h>
 #include <stdio.h>
 #include <stdlib.h>
 #include <string.h>
+
+#ifdef __x86_64__
+#define LONG_DOUBLE_BYTES 10
+#else
+#define LONG_DOUBLE_BYTES 16
+#endif
 
 static int passed, failed, refused;
 
@@ -97,10 +103,12 @@ class Writer:
         self.made = 0
 
     def draw(self, depth):
-        """A type: its C text with a place for the name, its ffi_type, what to declare, and its scalars' paths."""
+        """A type: its C text with a place for the name, its ffi_type, what to declare, and of its scalars the path, and how
+        many bytes count."""
         if depth == 0 or self.chance.random() < 0.5:
             scalar = self.chance.choice(list(NAMES))
-            return f"{scalar} %s", f"ffi_type_{NAMES[scalar]}", [], [""]
+            count = "LONG_DOUBLE_BYTES" if scalar == "long double" else f"sizeof({scalar})"
+            return f"{scalar} %s", f"ffi_type_{NAMES[scalar]}", [], [("", count)]
         return self.aggregate(depth)
 
     def aggregate(self, depth):
@@ -115,7 +123,7 @@ class Writer:
         declared = [line for part in parts for line in part[2]]
         members = ", ".join(f"&{part[1]}" for part in parts)
         declared.append((name, text, members))
-        paths = [f".m{k}{path}" for k, part in enumerate(parts) for path in part[3]]
+        paths = [(f".m{k}{path}", count) for k, part in enumerate(parts) for path, count in part[3]]
         return f"{text} %s", name, declared, paths
 
     def write(self, n):
@@ -126,7 +134,7 @@ class Writer:
             lines.append(f"static ffi_type {kind} = {{sizeof({c}), _Alignof({c}), FFI_TYPE_STRUCT, {kind}_elements}};")
         lines.append(f"#define e{n} {name}")
         c = text[:-3]
-        same = " && ".join(f"memcmp(&one->{it[1:]}, &other->{it[1:]}, sizeof one->{it[1:]}) == 0" for it in paths)
+        same = " && ".join(f"memcmp(&one->{it[1:]}, &other->{it[1:]}, {count}) == 0" for it, count in paths)
         print(f'#define TEXT{n} "{c}"')
         print(EACH.format(c=c, n=n, elements="\n".join(lines), same=same))
 

@@ -17,6 +17,7 @@
 #define F &ffi_type_float
 #define D &ffi_type_double
 #define P &ffi_type_pointer
+#define W &ffi_type_longdouble
 
 /* Of each its name, its C and its elements. It is passed alone, in registers, and behind seven numbers, and given
  * back. */
@@ -51,7 +52,11 @@
     X(union_mixed, union { struct { float a; int b; } a; double b; }, &float_int, D)                  \
     X(union_wide, union { struct { double a; long b; } a; float b; }, &double_long, F)                \
     X(struct_of_union, struct { union { float a; int b; } a; double b; }, &union_float_int, D)        \
-    X(struct_of_packed, struct { struct PACKED { char a; int b; } a; char b; }, &packed_char_int, C)
+    X(struct_of_packed, struct { struct PACKED { char a; int b; } a; char b; }, &packed_char_int, C)  \
+    X(packed_long_double, struct PACKED { long double a; }, W)                                        \
+    X(packed_long_doubles, struct PACKED { long double a; long double b; }, W, W)                     \
+    X(union_long_double_long, union { long double a; long b; }, W, L)                                 \
+    X(union_long_doubles, union { struct { long double a; long double b; } a; long double b; }, &two_long_doubles, W)
 
 static ffi_type *floats[] = {&ffi_type_float, &ffi_type_float, NULL};
 static ffi_type *float_and_int[] = {&ffi_type_float, &ffi_type_sint32, NULL};
@@ -61,6 +66,8 @@ static ffi_type two_floats = {8, 4, FFI_TYPE_STRUCT, floats}, float_int = {8, 4,
 static ffi_type double_long = {16, 8, FFI_TYPE_STRUCT, double_and_long};
 static ffi_type union_float_int = {4, 4, FFI_TYPE_STRUCT, float_and_int};
 static ffi_type packed_char_int = {5, 1, FFI_TYPE_STRUCT, char_and_int};
+static ffi_type *long_doubles[] = {&ffi_type_longdouble, &ffi_type_longdouble, NULL};
+static ffi_type two_long_doubles = {32, 16, FFI_TYPE_STRUCT, long_doubles};
 
 #define DECLARE(name, type, ...) typedef type name##_type;
 LIST(DECLARE)
@@ -83,7 +90,8 @@ static uint64_t padding_of(const char *name)
 {
     static const struct { const char *name; uint64_t bytes; } PADDED[] = {
         {"aligned_8_three", 0xF000}, {"aligned_4_char", 0xE}, {"aligned_16_float", 0xFF00},
-        {"aligned_16_large", 0xFF000000}, {"struct_of_union", 0xF0},
+        {"aligned_16_large", 0xFF000000}, {"struct_of_union", 0xF0}, {"packed_long_doubles", 0xFC00FC00},
+        {"union_long_doubles", 0xFC00FC00},
     };
     for (size_t k = 0; k < sizeof PADDED / sizeof *PADDED; k++)
         if (strcmp(PADDED[k].name, name) == 0)
