@@ -179,9 +179,22 @@ def has_struct(function: headers.Function) -> bool:
     return any(isinstance(kind, (headers.Struct, headers.Complex, headers.Array)) for kind in function.types())
 
 
+def has_long_double(kind: headers.Kind) -> bool:
+    """Whether a long double is in a type: tried.c has no x87 register, and half of a vector register."""
+    match kind:
+        case headers.Struct():
+            return any(has_long_double(member) for _, member in kind.members)
+        case headers.Array():
+            return has_long_double(kind.element)
+        case headers.Real() | headers.Complex():
+            return kind.words.startswith("long")
+    return False
+
+
 def chosen(found: Sequence[headers.Function], others: int, chance: random.Random) -> list[headers.Function]:
-    """The functions that have structs, and some others."""
-    read = [each for each in found if each.is_read and "noreturn" not in " ".join(each.chunk.raw)]
+    """The functions that have structs, and some others, but those with long doubles."""
+    read = [each for each in found if each.is_read and "noreturn" not in " ".join(each.chunk.raw)
+            and not any(map(has_long_double, each.types()))]
     rest = [each for each in read if not has_struct(each)]
     return [*filter(has_struct, read), *chance.sample(rest, min(others, len(rest)))]
 

@@ -1,6 +1,6 @@
 /* Every form of type that the header reader reads. Behind each function is what the library is told of it: the nodes of
    the result, and of each argument behind a semicolon. Words that mean another kind on each target: char, wchar, long,
-   va_list. */
+   va_list, wide and cwide, which are a long double and its complex. */
 #include <stdarg.h>
 #include <stddef.h>
 #include <stdint.h>
@@ -22,6 +22,7 @@ typedef union { int *a; long *b; } address __attribute__((transparent_union));
 typedef union { int a; float b; } number __attribute__((transparent_union));
 struct inside { struct { int x, y; }; double d; int m[2][3]; };
 struct narrow { struct { char c; int i; }; double d; };
+struct wider { int i; long double d; };
 struct has { eight a; enum few e; callback *f; };
 struct same { int i; } __attribute__((aligned(4)));
 struct tight { int i; short s[2]; } __attribute__((packed, aligned(4)));
@@ -38,6 +39,8 @@ int structs(struct inside, struct narrow); //= sint32; struct 3 struct 2 sint32 
 struct has members(struct has); //= struct 3 array 8 char few pointer; struct 3 array 8 char few pointer
 node recursive(node n); //= struct 2 pointer pointer; struct 2 pointer pointer
 float _Complex complex_numbers(double _Complex); //= complex float; complex double
+long double long_doubles(long double, struct wider); //= wide; wide; struct 2 sint32 wide
+long double _Complex complex_long_doubles(long double _Complex); //= cwide; cwide
 void *pointers(const char *const *restrict, volatile int *, struct unknown *, union un *, FILE_NAME *); //= pointer; pointer; pointer; pointer; pointer; pointer
 int arrays(char *argv[], int m[2][3], int x[static 3], eight, const eight *); //= sint32; pointer; pointer; pointer; pointer; pointer
 int functions(callback, callback *, int (*)(void)); //= sint32; pointer; pointer; pointer

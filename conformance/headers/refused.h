@@ -12,7 +12,6 @@ struct huge { char c[(1ull << 41) + 8]; };
 struct none { char c[0]; };
 struct padded { _Alignas(16) int i; };
 struct inside { struct { char c; int i; } __attribute__((packed)); double d; };
-struct holds_wide { long double d; };
 struct deep1 { struct { struct { struct { struct { struct { struct { struct { struct { int i; } a; } a; } a; } a; } a; } a; } a; } a; };
 struct deep { struct { struct { struct { struct { struct { struct { struct { struct { struct deep1 a; } a; } a; } a; } a; } a; } a; } a; } a; };
 #pragma pack(push, 1)
@@ -41,9 +40,6 @@ int r_deep(struct deep); //= at node 16: too deep
 int r_none(struct none); //= bad typedef
 int r_four(four); //= left out: vector
 int r_two(two); //= left out: vector
-long double r_wide(int); //= left out: long double, or a real of 16 or 128 bits
-int r_holds_wide(struct holds_wide); //= left out: long double, or a real of 16 or 128 bits
-int r_complex(long double _Complex); //= left out: complex
 int r_integers(_Complex int); //= a complex integer
 int r_prototype(); //= no prototype
 int r_called(int) __attribute__((__vectorcall__)); //= another calling convention: vectorcall

@@ -52,7 +52,7 @@ is_no_text_in g c bytes f told none is same =
     subst (λ (h : TextFault). IsFaultIn g c bytes h) e (no_text none)
 
 -- what is wrong with a text before its types are looked at is wrong whatever the format is
-is_of_signature : Outcome → Bool
+abbrev is_of_signature : Outcome → Bool
 is_of_signature (reads d) = true
 is_of_signature (bad_token at) = false
 is_of_signature (unexpected at) = false
