@@ -1,4 +1,4 @@
-use Rattle.std.proofs.Common.{rules, ◌≡◌, ◌∙◌, ℕ, List, refl, subst, sym}
+use Rattle.std.proofs.Common.{rules, ◌≡◌, ℕ, List, refl, subst, sym}
 use Rattle.std.specs.Prelude.{Err}
 use Rattle.std.specs.List.{flat_map}
 use Rattle.ffi3_type_rules.specs.Signature.{Signature, SignatureIsPlaced}
