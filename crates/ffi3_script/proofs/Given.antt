@@ -11,7 +11,7 @@ use Rattle.ffi3_script_rules.specs.Values.{is_name_of, has_name}
 use Rattle.ffi3_script_rules.specs.Bodies.{is_name, new_name, is_given, is_void_type, read_name, name_of_result}
 use Rattle.ffi3_types.specs.TreeOf.{tree_of}
 use Rattle.ffi3_types.specs.declared.FfiType.{FfiType}
-use Rattle.ffi3_types.specs.declared.FfiType.TheVariants.{Void, U8, S8, U16, S16, U32, S32, U64, S64, U128, S128, Float, Double, Pointer, Struct, Array, LongDouble, Complex, Vector}
+use Rattle.ffi3_types.specs.declared.FfiType.TheVariants.{Void, U8, S8, U16, S16, U32, S32, U64, S64, U128, S128, Float, Double, Pointer, Struct, Array, LongDouble, Complex, Vector, X87, Binary128}
 use Rattle.ffi3_script.specs.Taken.{is_taken}
 use Rattle.ffi3_script.specs.ScopeOf.{given_of}
 
@@ -87,3 +87,5 @@ void-is_not (Array fields n) h = refl
 void-is_not LongDouble h = refl
 void-is_not Complex h = refl
 void-is_not Vector h = refl
+void-is_not X87 h = refl
+void-is_not Binary128 h = refl
