@@ -17,7 +17,7 @@ use Rattle.ffi3_image_rules.specs.Answer.{Answer}
 use Rattle.ffi3_image_rules.proofs.Inputs.{one_answer}
 use Rattle.ffi3_words.specs.declared.words.InputCommand.{InputCommand}
 use Rattle.ffi3_words.specs.declared.words.InputCommand.TheVariants.{Layout, Place, Run, Cdecl, Cplace, Explain, Arguments}
-use Rattle.ffi3_app.specs.Declarations.{Input, too_many_bytes, not_utf8, a_text, IsInput, IsReadPlainly, cplace_text}
+use Rattle.ffi3_app.specs.Declarations.{IsPrototypeEverywhere, Input, too_many_bytes, not_utf8, a_text, IsInput, IsReadPlainly, cplace_text}
 use Rattle.ffi3_app.specs.Outcome.{Outcome, refuses, tells, outcome_of, outcome_of_input, outcome_of_prototype, outcome_of_answer, IsOfScript, IsOfDeclaration, HasNames, IsOfPrototype, IsOfImage, IsOutcomeOn}
 use Rattle.ffi3_app.proofs.Called.{names_once}
 use Rattle.ffi3_app.proofs.Inputs.{all_taken, reading_of_all, input_of_all, answer_of_all}
