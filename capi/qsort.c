@@ -45,7 +45,7 @@ int main(void)
         size_t count, size;
         void (*compare)(void);
     } values = {numbers, 5, sizeof *numbers, compare_by_stub};
-    struct ffi3_registers registers = {{0}, {0}, 0};
+    struct ffi3_registers registers = {0};
     struct ffi3_fault fault;
     unsigned char entry[8];
     must(ffi3_prepare(host_target, of_sort, 5, FFI3_NOT_VARIADIC, &sort, &fault));

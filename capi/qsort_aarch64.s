@@ -28,20 +28,20 @@ call_with:                      // x0: the function, x1: the registers
 compare_by_stub:
     .cfi_startproc
     hint #34
-    sub sp, sp, #528
-    .cfi_adjust_cfa_offset 528
-    str x30, [sp, #520]
-    .cfi_rel_offset x30, 520
+    sub sp, sp, #592
+    .cfi_adjust_cfa_offset 592
+    str x30, [sp, #584]
+    .cfi_rel_offset x30, 584
     stp x0, x1, [sp]
-    add x1, sp, #528            // sp at the entry, and the stack
+    add x1, sp, #592            // sp at the entry, and the stack
     str x1, [sp, #512]
     mov x0, sp
     bl compare_entered
     ldr x0, [sp]
-    ldr x30, [sp, #520]
+    ldr x30, [sp, #584]
     .cfi_restore x30
-    add sp, sp, #528
-    .cfi_adjust_cfa_offset -528
+    add sp, sp, #592
+    .cfi_adjust_cfa_offset -592
     ret
     .cfi_endproc
     .section .rodata

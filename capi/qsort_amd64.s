@@ -29,17 +29,17 @@ call_with:                      # rdi: the function, rsi: the registers
 compare_by_stub:
     .cfi_startproc
     endbr64
-    subq $520, %rsp
-    .cfi_adjust_cfa_offset 520
+    subq $584, %rsp
+    .cfi_adjust_cfa_offset 584
     movq %rsi, 48(%rsp)
     movq %rdi, 56(%rsp)
-    leaq 520(%rsp), %rsi        # sp at the entry, and the stack
+    leaq 584(%rsp), %rsi        # sp at the entry, and the stack
     movq %rsi, 512(%rsp)
     movq %rsp, %rdi
     call compare_entered@PLT
     movq (%rsp), %rax
-    addq $520, %rsp
-    .cfi_adjust_cfa_offset -520
+    addq $584, %rsp
+    .cfi_adjust_cfa_offset -584
     ret
     .cfi_endproc
     .section .rodata
