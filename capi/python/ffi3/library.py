@@ -122,9 +122,9 @@ class Piece(NamedTuple):
     """Where bytes of one value stand, or its address.
 
     part is an argument's number, "hidden" or "result"; place a register's name, or "stack". On the stack number is the
-    offset from the first stack argument. A vector register may have 16 bytes, and st0 and st1 have ten. Of an address, offset says where in the caller's frame the value stands. rest
-    is what the rest of a register, or of the last eight bytes on the stack, holds: "free", "extended", "extended by
-    32", "ones" or "none", as ffi3.h says.
+    offset from the first stack argument. A vector register may have 16 bytes, and st0 and st1 have ten. Of an address,
+    offset says where in the caller's frame the value stands. rest is what the rest of a register, or of the last eight
+    bytes on the stack, holds: "free", "extended", "extended by 32", "ones" or "none", as ffi3.h says.
     """
 
     part: Part

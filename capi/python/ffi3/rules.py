@@ -26,16 +26,18 @@ RULES = {
                                "the next of xmm0 to xmm7."),
         "reverted": Rule("2", "If no registers are left for any eightbyte of an argument, the whole argument is passed "
                               "on the stack and takes no register."),
-        "memory": Rule("3", "Class MEMORY is passed on the stack."),
+        "memory": Rule("3", "Class MEMORY is passed on the stack, and so are X87, X87UP and COMPLEX_X87."),
         "result": Rule("results", "An INTEGER eightbyte is returned in the next of rax, rdx, an SSE eightbyte in the "
                                   "next of xmm0, xmm1."),
+        "x87": Rule("results", "X87 and X87UP are returned in st(0); COMPLEX_X87 in st(0), its real part, and st(1), "
+                               "its imaginary part."),
         "hidden": Rule("results", "For class MEMORY the caller gives space and passes its address in rdi, as a hidden "
                                   "first argument. The address is returned in rax."),
     },
     "aapcs64": {
-        "floating": Rule("1", "A float or double takes the next of v0 to v7. A homogeneous aggregate takes one v "
-                              "register for each leaf, if all fit. Otherwise it goes to the stack and no v register is "
-                              "used any more."),
+        "floating": Rule("1", "A float, a double or a binary128 takes the next of v0 to v7; the last fills both "
+                              "halves of it. A homogeneous aggregate takes one v register for each leaf, if all fit. "
+                              "Otherwise it goes to the stack and no v register is used any more."),
         "copy": Rule("2", "Any other struct of more than 16 bytes is copied by the caller and replaced by a pointer to "
                           "the copy, which is then passed like any pointer."),
         "general": Rule("3", "Another struct takes its size rounded up to 8 in x registers, from x0 to x7, if all fit. "
@@ -45,7 +47,8 @@ RULES = {
                             "pointer goes to a buffer of the caller, whose address is in x8."),
     },
     "riscv": {
-        "scalar": Rule("integer", "A scalar takes one word, an integer of 128 bits two, the lower half first."),
+        "scalar": Rule("integer", "A scalar takes one word, an integer of 128 bits or a binary128 two, the "
+                       "lower half first."),
         "struct": Rule("integer", "A struct takes one word up to 8 bytes, and two up to 16 bytes."),
         "copy": Rule("integer", "A larger struct is copied by the caller, and the address of the copy takes one word."),
         "one": Rule("1", "A float, a double, or a struct of exactly one such leaf takes one of fa0 to fa7, if one is "
@@ -87,15 +90,16 @@ def is_floating(place: str) -> bool:
 
 
 def is_homogeneous(kind: Type) -> bool:
-    """Whether all leaves are floats, or doubles, four at most."""
+    """Whether all leaves are floats, doubles, or of 128 bits, four at most."""
     names = {name for _, name in kind.leaves}
-    return len(names) == 1 and names <= {"float", "double"} and len(kind.leaves) <= 4
+    return len(names) == 1 and names <= {"float", "double", "binary128"} and len(kind.leaves) <= 4
 
 
 def _amd64(pieces: Sequence[Piece], kind: Type) -> str:
     if pieces[0].place != "stack":
         return "registers"
-    return "memory" if kind.size > 16 else "reverted"
+    has_x87 = any(name == "x87" for _, name in kind.leaves)
+    return "memory" if kind.size > 16 or has_x87 else "reverted"
 
 
 def _aapcs64(pieces: Sequence[Piece], kind: Type) -> str:
@@ -144,6 +148,8 @@ def rule_of(target: str, call: Call, part: Part, kind: Type) -> str:
             return "result"
         if is_hidden:
             return "hidden"
+        if any(piece.place in ("st0", "st1") for piece in call.pieces):
+            return "x87"
         if target != "riscv":
             return "result"
     return _OF_ARGUMENT[target]([piece for piece in call.pieces if piece.part == part], kind)
