@@ -257,9 +257,18 @@ static void add_found(uint32_t status, const struct ffi3_arguments *found)
     add(row, sizeof row);
 }
 
-// Of registers what a program hands in that was compiled with a version before 0.3. Functions here have no long double,
-// so that no more of them is read or written.
+// Of registers what a program hands in that was compiled with a version before 0.3. No text here has a long double, so
+// that no more of them is read or written.
 #define AS_BEFORE offsetof(struct ffi3_registers, upper)
+
+// The same of nodes: all of the registers where there is a long double, which such a program could not call.
+static size_t registers_for(const struct ffi3_node *nodes, size_t count)
+{
+    for (size_t i = 0; i < count; i++)
+        if (nodes[i].kind == FFI3_LONG_DOUBLE || nodes[i].kind == FFI3_COMPLEX_LONG_DOUBLE)
+            return sizeof(struct ffi3_registers);
+    return AS_BEFORE;
+}
 
 // A machine whose registers and memory have such addresses; its stack is memory from its start on.
 static struct ffi3_registers machine;
@@ -316,6 +325,11 @@ struct function {
     uint32_t fixed;
 };
 
+static size_t registers_of(const struct function *of)
+{
+    return of->has_text ? AS_BEFORE : registers_for(of->nodes, of->length);
+}
+
 static uint32_t each_of(const struct function *of, uint32_t target, const struct ffi3_registers *lent,
                         const unsigned char *stack, size_t there, struct ffi3_arguments *told,
                         struct ffi3_argument *each, size_t most, unsigned char *values, size_t capacity)
@@ -360,7 +374,7 @@ static void try_each(const struct function *of, uint32_t target, int all, int at
     static unsigned char values_of_all[MUCH];
     static struct ffi3_arguments found;
     draw_machine();
-    const struct ffi3_registers *lent = lend(&registers, &machine, AS_BEFORE, at_end);
+    const struct ffi3_registers *lent = lend(&registers, &machine, registers_of(of), at_end);
     uint32_t is = each_of(of, target, lent, memory, sizeof memory, &found, whole, ALL, values_of_all,
                           sizeof values_of_all);
     size_t least = found.stack, count = found.arguments, size = found.size;
@@ -399,7 +413,7 @@ static void try_result(const struct function *of, uint32_t target, int all, int 
     static unsigned char whole[MUCH];
     static struct ffi3_result found;
     draw_machine();
-    const struct ffi3_registers *lent = lend(&registers, &machine, AS_BEFORE, at_end);
+    const struct ffi3_registers *lent = lend(&registers, &machine, registers_of(of), at_end);
     const unsigned char *stack = lend(&stacks, memory, DEEP, at_end);
     uint32_t is = result_of(of, target, lent, stack, DEEP, &found, whole, sizeof whole);
     size_t wanted = is == FFI3_OK ? found.size : 0;
@@ -527,6 +541,7 @@ static void try_interface(uint32_t target, const struct ffi3_node *nodes, size_t
     static unsigned char bytes[sizeof line], result[1 << 13];
     static struct ffi3_move whole[MUCH / sizeof(struct ffi3_move)];
     struct ffi3_registers none = {.sp = 0};
+    const size_t size = registers_for(nodes, count); // before something else is lent where the nodes are
     may_write(&registers, 1);
     may_write(&stacks, 1);
     struct ffi3_interface *it = memset(place_in(&calls, sizeof *it, at_end), 0, sizeof *it);
@@ -555,9 +570,9 @@ static void try_interface(uint32_t target, const struct ffi3_node *nodes, size_t
     if (asked == FFI3_OK && sizes.values < sizeof bytes && sizes.result < sizeof result && frame <= 1 << 16) {
         const unsigned char *values = lend(&texts, bytes, sizes.values, at_end);
         unsigned char *stack = place_in(&stacks, frame, at_end);
-        struct ffi3_registers *held = memcpy(place_in(&registers, AS_BEFORE, at_end), &none, AS_BEFORE);
+        struct ffi3_registers *held = memcpy(place_in(&registers, size, at_end), &none, size);
         check(ffi3_store(it, values, sizes.values, held, stack, frame) == FFI3_OK, "store");
-        add(held, AS_BEFORE);
+        add(held, size);
         add(stack, frame);
         unsigned char *found = place_in(&arrays, sizes.values, at_end);
         struct ffi3_reason reason;
