@@ -59,26 +59,28 @@ pub fn in_memory(ty: &FfiType) -> bool
     classes_of(&CheckedType::of(ty)).is_in_memory()
 }
 
-/// Whether a value is one long double of x87's format and nothing else.
-fn is_one_x87(ty: &CheckedType<'_>) -> bool
+/// Whether a value of so many leaves is one long double of x87's format and nothing else.
+fn is_one_x87(ty: &CheckedType<'_>, count: u32) -> bool
+    requires { count ≡ length (leaves_of ty.now) }
     ensures { result ≡ is_one_x87 (leaves_of ty.now) }
 {
-    if ty.leaf_count() != 1 {
+    if count != 1 {
         return false;
     }
     let leaf = ty.leaf(0);
     matches!(leaf.kind, FfiType::X87)
 }
 
-/// Whether a struct or an array has the classes X87 and X87UP, or COMPLEX_X87.
-fn has_class_x87(ty: &CheckedType<'_>) -> bool
-    requires { is_aggregate ty.now ≡ true }
+/// Whether a struct or an array of so many leaves has the classes X87 and X87UP, or COMPLEX_X87.
+fn has_class_x87(ty: &CheckedType<'_>, count: u32) -> bool
+    requires aggregate { is_aggregate ty.now ≡ true }
+    requires counted { count ≡ length (leaves_of ty.now) }
     ensures { result ≡ is_class_x87 ty.now }
 {
     if let FfiType::Array(fields, count) = ty.as_type() {
         return fields.is_complex(*count);
     }
-    is_one_x87(ty)
+    is_one_x87(ty, count)
 }
 
 /// Whether a struct or an array of this size has the class MEMORY.
@@ -118,8 +120,9 @@ fn with_leaf(before: Integers, ty: &CheckedType<'_>, i: u32) -> Integers
     }
 }
 
-/// Where integers and pointers lie in a value, all leaves taken together.
-fn integers_in(ty: &CheckedType<'_>) -> Integers
+/// Where integers and pointers lie in a value of so many leaves, all of them taken together.
+fn integers_in(ty: &CheckedType<'_>, count: u32) -> Integers
+    requires { count ≡ length (leaves_of ty.now) }
     ensures first { result.first ≡ list_any (is_integer_leaf_in 0) (leaves_of ty.now) }
     ensures second { result.second ≡ list_any (is_integer_leaf_in 1) (leaves_of ty.now) }
 {
@@ -127,7 +130,7 @@ fn integers_in(ty: &CheckedType<'_>) -> Integers
         first: false,
         second: false,
     };
-    for i in 0..ty.leaf_count() {
+    for i in 0..count {
         found = with_leaf(found, ty, i);
         if found.first && found.second {
             return found;
@@ -227,10 +230,12 @@ fn classes_of_struct(ty: &CheckedType<'_>) -> Classes
     if has_class_memory(ty, size) {
         return Classes::Memory;
     }
-    if has_class_x87(ty) {
+    // asked for once: it is found by a walk over all elements
+    let count = ty.leaf_count();
+    if has_class_x87(ty, count) {
         return Classes::X87;
     }
-    let found = integers_in(ty);
+    let found = integers_in(ty, count);
     if size > 8 {
         Classes::Two(class_from(found.first), class_from(found.second))
     } else if size > 0 {
