@@ -26,7 +26,7 @@ use Rattle.ffi3_aapcs64_rules.specs.declared.Kind.TheVariants.{Float, Double, Qu
 
 -- ---- homogeneous floating-point aggregates, HFA (5.9.5.1)
 
--- the kind of a floating-point type: single, double or quad precision, which is long double (5.1, table 3; "Arithmetic types")
+-- the kind of a floating-point type: single, double or quad precision, which is long double (5.1, table 3; "Arithmetic types"). An x87, which is no type of this standard, goes by its size as an integer of 128 bits.
 abbrev pub kind_of : Scalar → Option Kind
 kind_of float = Some Float
 kind_of double = Some Double
@@ -77,7 +77,7 @@ abbrev pub homogeneous : Tree → Option (Kind × ℕ)
 homogeneous (structure ts) = homogeneous_members (leaves_of (structure ts))
 homogeneous _ = None
 
--- composite types: structs, and arrays, which are neither arguments nor results by themselves
+-- composite types: structs, and arrays, which are neither arguments nor results by themselves, but one that stands for a complex long double
 abbrev pub is_composite : Tree → Bool
 is_composite (structure ts) = true
 is_composite (array ts n) = true

@@ -38,7 +38,7 @@ lies_in_eightbyte j l = nat_lt l.at (8 * j + 8) && nat_lt (8 * j) (l.at + scalar
 abbrev pub is_integer_leaf_in : ℕ → Leaf → Bool
 is_integer_leaf_in j l = lies_in_eightbyte j l && not (is_floating l.kind)
 
--- INTEGER exactly where a byte of an integer or pointer leaf lies in it, otherwise SSE. (Classification of aggregates, steps 3 and 4: each eightbyte for itself; INTEGER before SSE, rule (d). Classification, on __int128: it is classified as a struct of two longs)
+-- INTEGER exactly where a byte of an integer or pointer leaf lies in it, otherwise SSE. (Classification of aggregates, steps 3 and 4: each eightbyte for itself; INTEGER before SSE, rule (d). Classification, on __int128: it is classified as a struct of two longs. A binary128, which is no type of this standard, goes by its size as that.)
 abbrev pub class_of : Tree → ℕ → Class
 class_of t j = cond (list_any (is_integer_leaf_in j) (leaves_of t)) Integer Sse
 

@@ -1,4 +1,4 @@
--- What is wrong with a type, and which fault is the first. (libffi manual, "Structures": FFI_BAD_TYPEDEF; "Arrays, Unions, and Enumerations": an array is a part of a struct or of an array, and no argument or result; the limits, the left-out kinds, and what an array has to be made of are this library's)
+-- What is wrong with a type, and which fault is the first. (libffi manual, "Structures": FFI_BAD_TYPEDEF; "Arrays, Unions, and Enumerations": an array is a part of a struct or of an array, and no argument or result, but one that stands for a complex long double, where places alone are asked; the limits, the left-out kinds, and what an array has to be made of are this library's)
 use Rattle.std.specs.Prelude.{◌≡◌, ℕ, zero, suc, ◌+◌, ◌<◌, ◌⊎◌, Bool, true, false, List, [], ◌∷◌, length, Option, Some}
 use Rattle.std.specs.Prelude.{slice_get, option_and_then, ◌||◌, ◌&&◌}
 use Rattle.ffi3_type_rules.specs.declared.limits.TheConstants.{LARGEST_TYPE, DEEPEST_NESTING}
@@ -32,7 +32,7 @@ takes_void Anywhere = true
 takes_void PlacedResult = true
 takes_void PlacedArgument = false
 
--- an array is an element, and no argument or result
+-- an array is an element, and no argument or result, but one that stands for a complex long double (below)
 abbrev pub takes_array : Role → Bool
 takes_array AsResult = false
 takes_array AsArgument = false

@@ -80,6 +80,7 @@ is_signed pointer = false
 is_signed x87 = false
 is_signed binary128 = false
 
+-- how many bits the bytes of a scalar have; of x87 and binary128, which are no numbers here, nothing asks it
 abbrev pub width_of : Scalar → Width
 width_of u8 = w8
 width_of s8 = w8

@@ -144,7 +144,7 @@ IsFirstSignatureFault s f = IsFirstFaultFor for_calls s f
 abbrev pub SignatureIsPlaced : Signature → Type 0
 SignatureIsPlaced s = HasNoFaultFor for_places s
 
--- what is passed on the machine: no long double of 16 bytes
+-- no long double of 16 bytes stands in it, as in all that is passed on the machine
 pub record HasNoLongDouble (s : Signature) : Type 0 where
   pub result_type : has_long_double s.result_type ≡ false
   pub arguments : (i : ℕ) → i < length s.arguments → has_long_double (tree_at s.arguments i) ≡ false
