@@ -1,6 +1,6 @@
 """What ffi3's own caller and callee leave beside what compiled ones do, on every bit that the standard fixes.
 
-A script calls a function of each signature, and example_entries tells what the machine was at each entry and at each
+A script calls a function of each signature, and entries_test tells what the machine was at each entry and at each
 return. The bits are those that player.c looks at in what a compiled caller or callee leaves: so a value's own bytes,
 and where the standard says it, how a narrow integer is extended and a float boxed; the second register of a value that
 stands in two; al within bounds.

@@ -1,7 +1,7 @@
 -- The lines of a signature's places: one for each argument, and one for the result.
 use Rattle.std.specs.Prelude.{ℕ, zero, suc, List, [], ◌++◌, length}
-use Rattle.ffi3_type_rules.specs.Signature.{Signature, at_argument, at_result}
-use Rattle.ffi3_place_rules.specs.Standard.{Standard}
+use Rattle.ffi3_type_spec.specs.Signature.{Signature, at_argument, at_result}
+use Rattle.ffi3_place_spec.specs.Standard.{Standard}
 use Rattle.ffi3_text.specs.PlaceLines.{place_text_of}
 
 -- those of the first n arguments

@@ -2,7 +2,7 @@
 #![tactic(auto)]
 
 ghost use Rattle.std.specs.Prelude.{◌≡◌, IfOk};
-ghost use Rattle.ffi3_riscv_rules.specs.Riscv.{riscv};
+ghost use Rattle.ffi3_riscv_spec.specs.Riscv.{riscv};
 ghost use Rattle.example_places.specs.Lines.{all_lines};
 
 use ffi3_cif::{Cif, prep_cif};

@@ -4,11 +4,11 @@ use Rattle.std.specs.List.{list_all}
 use Rattle.std.proofs.Math.Bool.{and-false}
 use Rattle.std.proofs.lemmas.Bool.{cases_lt}
 use Rattle.std.proofs.lemmas.List.Folds.{list_all-append}
-use Rattle.ffi3_type_rules.specs.Tree.{Tree, array, struct_of, trees_of, tree_at}
-use Rattle.ffi3_type_rules.specs.Layout.{Layout, Leaf, layouts, element, start_of, leaves_before, leaves_of, repeated, moved}
-use Rattle.ffi3_type_rules.proofs.Layouts.{layout_here, length-layouts}
-use Rattle.ffi3_aapcs64_rules.specs.declared.Kind.{Kind}
-use Rattle.ffi3_aapcs64_rules.specs.Aapcs64.{is_member}
+use Rattle.ffi3_type_spec.specs.Tree.{Tree, array, struct_of, trees_of, tree_at}
+use Rattle.ffi3_type_spec.specs.Layout.{Layout, Leaf, layouts, element, start_of, leaves_before, leaves_of, repeated, moved}
+use Rattle.ffi3_type_spec.proofs.Layouts.{layout_here, length-layouts}
+use Rattle.ffi3_aapcs64_spec.specs.declared.Kind.{Kind}
+use Rattle.ffi3_aapcs64_spec.specs.Aapcs64.{is_member}
 
 module _ (kind : Kind) where
   abbrev pub AreMembers : List Leaf → Bool

@@ -3,25 +3,25 @@
 
 ghost use Rattle.std.specs.Prelude.{◌≡◌, ◌<◌, ◌≤◌, ◌+◌, ◌*◌, ◌++◌, length, map, IfOk, OnOk, true, false};
 ghost use Rattle.std.specs.List.{list_all};
-ghost use Rattle.ffi3_type_rules.specs.declared.limits.TheConstants.{ARGUMENT_BYTES, ARGUMENT_SPAN, LARGEST_GAP, LARGEST_TYPE, MOST_ARGUMENTS};
-ghost use Rattle.ffi3_type_rules.specs.Tree.{struct_of};
-ghost use Rattle.ffi3_type_rules.specs.Layout.{size_of, align_of, leaves_of, leaf_at};
-ghost use Rattle.ffi3_type_rules.specs.Fault.{IsLaidOut};
+ghost use Rattle.ffi3_type_spec.specs.declared.limits.TheConstants.{ARGUMENT_BYTES, ARGUMENT_SPAN, LARGEST_GAP, LARGEST_TYPE, MOST_ARGUMENTS};
+ghost use Rattle.ffi3_type_spec.specs.Tree.{struct_of};
+ghost use Rattle.ffi3_type_spec.specs.Layout.{size_of, align_of, leaves_of, leaf_at};
+ghost use Rattle.ffi3_type_spec.specs.Fault.{IsLaidOut};
 ghost use Rattle.ffi3_types.specs.TreeOf.{tree_of};
-ghost use Rattle.ffi3_place_rules.specs.Standard.{Spot, plan_of, result_at};
-ghost use Rattle.ffi3_place_rules.specs.Doublewords.{doublewords};
-ghost use Rattle.ffi3_aapcs64_rules.specs.Aapcs64.{aapcs64, is_of, member_in, is_member, homogeneous, in_vectors, is_copied, passed, registers_needed, stack_size, first_general, stack_start, member_pieces, general_pieces, register_pieces, register_spot, stack_spot, register_start, register_end, in_registers, stack_end, taken_with, taken_after, untouched, spot_after, spots_after, result_from, result_spot_of};
-ghost use Rattle.ffi3_aapcs64_rules.specs.declared.Kind.TheVariants.{Quad};
+ghost use Rattle.ffi3_place_spec.specs.Standard.{Spot, plan_of, result_at};
+ghost use Rattle.ffi3_place_spec.specs.Doublewords.{doublewords};
+ghost use Rattle.ffi3_aapcs64_spec.specs.Aapcs64.{aapcs64, is_of, member_in, is_member, homogeneous, in_vectors, is_copied, passed, registers_needed, stack_size, first_general, stack_start, member_pieces, general_pieces, register_pieces, register_spot, stack_spot, register_start, register_end, in_registers, stack_end, taken_with, taken_after, untouched, spot_after, spots_after, result_from, result_spot_of};
+ghost use Rattle.ffi3_aapcs64_spec.specs.declared.Kind.TheVariants.{Quad};
 ghost use Rattle.ffi3_place.specs.WithoutCopy.{without_copy};
 
 pub mod laws;
 
-pub use ffi3_aapcs64_rules::Kind;
+pub use ffi3_aapcs64_spec::Kind;
 use ffi3_place::ends::{buffer_end, lay_copies, planned, start};
 use ffi3_place::parts::{doubleword, leaf_piece, part_of_leaf, stack_pieces, widening};
 use ffi3_place::{Abi, Ext, Loc, Pieces, Place, Places, Plan, Res, SaveWord};
-use ffi3_place_rules::Taken;
-use ffi3_type_rules::round_up;
+use ffi3_place_spec::Taken;
+use ffi3_type_spec::round_up;
 use ffi3_types::{CheckedType, FfiType, Fields, NoMemory, PlacedSig, Sig, Target};
 pub use laws::placement_laws;
 use std::alloc::Global;
@@ -171,10 +171,10 @@ pub struct Classed<'a> {
 
 impl<'a> Model for Classed<'a> {
     ghost use Rattle.std.specs.Prelude.{◌≡◌, ◌≤◌};
-    ghost use Rattle.ffi3_type_rules.specs.declared.limits.TheConstants.{LARGEST_TYPE};
-    ghost use Rattle.ffi3_type_rules.specs.Tree.{Tree, tree_code};
-    ghost use Rattle.ffi3_type_rules.specs.Layout.{size_of, align_of};
-    ghost use Rattle.ffi3_aapcs64_rules.specs.Aapcs64.{in_vectors, is_copied, registers_needed};
+    ghost use Rattle.ffi3_type_spec.specs.declared.limits.TheConstants.{LARGEST_TYPE};
+    ghost use Rattle.ffi3_type_spec.specs.Tree.{Tree, tree_code};
+    ghost use Rattle.ffi3_type_spec.specs.Layout.{size_of, align_of};
+    ghost use Rattle.ffi3_aapcs64_spec.specs.Aapcs64.{in_vectors, is_copied, registers_needed};
 
     ghost Value = { Tree };
 
@@ -689,7 +689,7 @@ fn plan_of(alloc: Global, sig: &PlacedSig<'_>) -> Result<Plan, NoMemory>
 }
 
 impl Abi for Aapcs64 {
-    ghost use Rattle.ffi3_aapcs64_rules.specs.Aapcs64.{aapcs64};
+    ghost use Rattle.ffi3_aapcs64_spec.specs.Aapcs64.{aapcs64};
 
     ghost standard = { aapcs64 };
 
@@ -754,10 +754,10 @@ impl Abi for Aapcs64 {
 
     ghost use Rattle.std.specs.Prelude.{refl};
     ghost use Rattle.std.proofs.lemmas.Bool.{ltb-true};
-    ghost use Rattle.ffi3_aapcs64_rules.proofs.Agrees.{agrees as agrees_with_machine};
-    ghost use Rattle.ffi3_aapcs64_rules.proofs.Alike.{goes_by_layout};
-    ghost use Rattle.ffi3_aapcs64_rules.proofs.ByStubs.{by_stubs as with_stubs, result_by_stubs as result_with_stubs};
-    ghost use Rattle.ffi3_aapcs64_rules.proofs.Sound.{sound as every_law, determines};
+    ghost use Rattle.ffi3_aapcs64_spec.proofs.Agrees.{agrees as agrees_with_machine};
+    ghost use Rattle.ffi3_aapcs64_spec.proofs.Alike.{goes_by_layout};
+    ghost use Rattle.ffi3_aapcs64_spec.proofs.ByStubs.{by_stubs as with_stubs, result_by_stubs as result_with_stubs};
+    ghost use Rattle.ffi3_aapcs64_spec.proofs.Sound.{sound as every_law, determines};
 
     ghost save_is = { refl };
 

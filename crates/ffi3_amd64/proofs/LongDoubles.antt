@@ -1,11 +1,11 @@
 -- Long doubles of x87's format: what one more adds, and where a value is one.
 use Rattle.std.proofs.Common.{◌≡◌, ◌≢◌, ℕ, ◌+◌, ◌<◌, false, List, [], ◌∷◌, ◌++◌, drop, length, ap, ◌∙◌, refl, arith, subst, append_assoc}
 use Rattle.std.specs.Prelude.{slice_index_or}
-use Rattle.ffi3_type_rules.specs.Tree.{Tree}
-use Rattle.ffi3_type_rules.specs.Layout.{Leaf, leaves_of, leaf_at}
-use Rattle.ffi3_place_rules.specs.declared.Piece.{Piece}
-use Rattle.ffi3_place_rules.proofs.Elements.{leaf_read}
-use Rattle.ffi3_amd64_rules.specs.Amd64.{is_x87_scalar, is_one_x87, x87_pieces}
+use Rattle.ffi3_type_spec.specs.Tree.{Tree}
+use Rattle.ffi3_type_spec.specs.Layout.{Leaf, leaves_of, leaf_at}
+use Rattle.ffi3_place_spec.specs.declared.Piece.{Piece}
+use Rattle.ffi3_place_spec.proofs.Elements.{leaf_read}
+use Rattle.ffi3_amd64_spec.specs.Amd64.{is_x87_scalar, is_one_x87, x87_pieces}
 
 -- ---- leaves
 

@@ -1,9 +1,9 @@
 -- The classes found for a value, as the definitions have them, and the register of one.
 use Rattle.std.specs.Prelude.{ℕ, Bool, true, false, cond, List, [], ◌∷◌}
-use Rattle.ffi3_place_rules.specs.declared.Loc.{Loc}
-use Rattle.ffi3_place_rules.specs.declared.Loc.TheVariants.{G, F}
-use Rattle.ffi3_amd64_rules.specs.declared.Class.{Class}
-use Rattle.ffi3_amd64_rules.specs.declared.Class.TheVariants.{Integer, Sse}
+use Rattle.ffi3_place_spec.specs.declared.Loc.{Loc}
+use Rattle.ffi3_place_spec.specs.declared.Loc.TheVariants.{G, F}
+use Rattle.ffi3_amd64_spec.specs.declared.Class.{Class}
+use Rattle.ffi3_amd64_spec.specs.declared.Class.TheVariants.{Integer, Sse}
 use Rattle.ffi3_amd64.specs.declared.Classes.{Classes}
 use Rattle.ffi3_amd64.specs.declared.Classes.TheVariants.{Memory, X87, Nothing, One, Two}
 

@@ -1,7 +1,7 @@
 // What the places of every call keep, for callers to cite.
-ghost use Rattle.ffi3_place_rules.specs.Alike.{GoesByLayout, PlacesArraysAsElements};
-ghost use Rattle.ffi3_amd64_rules.specs.Amd64.{amd64};
-ghost use Rattle.ffi3_amd64_rules.specs.Ends.{IsPlacedByEnds};
+ghost use Rattle.ffi3_place_spec.specs.Alike.{GoesByLayout, PlacesArraysAsElements};
+ghost use Rattle.ffi3_amd64_spec.specs.Amd64.{amd64};
+ghost use Rattle.ffi3_amd64_spec.specs.Ends.{IsPlacedByEnds};
 
 use ffi3_types::Sig;
 

@@ -3,25 +3,25 @@
 
 ghost use Rattle.std.specs.Prelude.{◌*◌, ◌≡◌, ◌<◌, ◌≤◌, ◌+◌, ◌||◌, cond, ◌++◌, ◌∷◌, length, slice_index, IfOk, OnOk, [], true, false};
 ghost use Rattle.std.specs.List.{list_any, count_by};
-ghost use Rattle.ffi3_type_rules.specs.declared.limits.TheConstants.{ARGUMENT_BYTES, ARGUMENT_SPAN, LARGEST_GAP};
-ghost use Rattle.ffi3_type_rules.specs.Tree.{Tree};
-ghost use Rattle.ffi3_type_rules.specs.Layout.{size_of, leaves_of, leaf_at};
-ghost use Rattle.ffi3_type_rules.specs.Fault.{IsLaidOut};
+ghost use Rattle.ffi3_type_spec.specs.declared.limits.TheConstants.{ARGUMENT_BYTES, ARGUMENT_SPAN, LARGEST_GAP};
+ghost use Rattle.ffi3_type_spec.specs.Tree.{Tree};
+ghost use Rattle.ffi3_type_spec.specs.Layout.{size_of, leaves_of, leaf_at};
+ghost use Rattle.ffi3_type_spec.specs.Fault.{IsLaidOut};
 ghost use Rattle.ffi3_types.specs.TreeOf.{tree_of};
-ghost use Rattle.ffi3_place_rules.specs.Standard.{places_from, plan_of, result_at};
-ghost use Rattle.ffi3_amd64_rules.specs.declared.Class.{Class};
-ghost use Rattle.ffi3_amd64_rules.specs.declared.Class.TheVariants.{Integer, Sse};
-ghost use Rattle.ffi3_amd64_rules.specs.Amd64.{amd64, is_integer_leaf_in, is_integer_class, is_sse_class, is_aggregate, class_of, is_one_x87, is_class_x87, is_class_memory, in_memory, x87_pieces, integers, sses, register_pieces, classes, in_registers, stack_start, argument_pieces, taken_with, taken_after, taken_at_first, spots_after, result_spot_of};
+ghost use Rattle.ffi3_place_spec.specs.Standard.{places_from, plan_of, result_at};
+ghost use Rattle.ffi3_amd64_spec.specs.declared.Class.{Class};
+ghost use Rattle.ffi3_amd64_spec.specs.declared.Class.TheVariants.{Integer, Sse};
+ghost use Rattle.ffi3_amd64_spec.specs.Amd64.{amd64, is_integer_leaf_in, is_integer_class, is_sse_class, is_aggregate, class_of, is_one_x87, is_class_x87, is_class_memory, in_memory, x87_pieces, integers, sses, register_pieces, classes, in_registers, stack_start, argument_pieces, taken_with, taken_after, taken_at_first, spots_after, result_spot_of};
 ghost use Rattle.ffi3_amd64.specs.Classes.{class_list, is_memory, is_x87, is_in_memory, one_if, register_at};
 
 pub mod laws;
 
-pub use ffi3_amd64_rules::Class;
+pub use ffi3_amd64_spec::Class;
 use ffi3_place::ends::{buffer_end, planned, start};
 use ffi3_place::parts::{doubleword, one_piece, part_of_leaf, stack_pieces, two_pieces, widening};
 use ffi3_place::{Abi, Loc, Pieces, Place, Places, Plan, Res, SaveWord};
-use ffi3_place_rules::Taken;
-use ffi3_type_rules::round_up;
+use ffi3_place_spec::Taken;
+use ffi3_type_spec::round_up;
 use ffi3_types::{CheckedType, FfiType, NoMemory, PlacedSig, Sig, Target};
 pub use laws::placement_laws;
 use std::alloc::Global;
@@ -541,8 +541,8 @@ fn plan_of(alloc: Global, sig: &PlacedSig<'_>) -> Result<Plan, NoMemory>
 }
 
 impl Abi for Amd64 {
-    ghost use Rattle.ffi3_type_rules.specs.declared.Target.TheVariants as target;
-    ghost use Rattle.ffi3_amd64_rules.specs.Amd64.{amd64};
+    ghost use Rattle.ffi3_type_spec.specs.declared.Target.TheVariants as target;
+    ghost use Rattle.ffi3_amd64_spec.specs.Amd64.{amd64};
 
     ghost standard = { amd64 };
 
@@ -596,10 +596,10 @@ impl Abi for Amd64 {
 
     ghost use Rattle.std.specs.Prelude.{refl};
     ghost use Rattle.std.proofs.lemmas.Bool.{ltb-true};
-    ghost use Rattle.ffi3_amd64_rules.proofs.Agrees.{agrees as with_machine};
-    ghost use Rattle.ffi3_amd64_rules.proofs.Alike.{goes_by_layout};
-    ghost use Rattle.ffi3_amd64_rules.proofs.ByStubs.{by_stubs as with_stubs, result_by_stubs as result_with_stubs};
-    ghost use Rattle.ffi3_amd64_rules.proofs.Sound.{sound as every_law, determines};
+    ghost use Rattle.ffi3_amd64_spec.proofs.Agrees.{agrees as with_machine};
+    ghost use Rattle.ffi3_amd64_spec.proofs.Alike.{goes_by_layout};
+    ghost use Rattle.ffi3_amd64_spec.proofs.ByStubs.{by_stubs as with_stubs, result_by_stubs as result_with_stubs};
+    ghost use Rattle.ffi3_amd64_spec.proofs.Sound.{sound as every_law, determines};
 
     ghost save_is = { refl };
 

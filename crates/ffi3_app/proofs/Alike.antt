@@ -2,8 +2,8 @@
 use Rattle.std.proofs.Common.{◌≡◌, ◌∙◌, ℕ, Bool, false, List, sym, ap}
 use Rattle.std.specs.Prelude.{◌↔◌, IsTrue}
 use Rattle.std.proofs.lemmas.Bool.{false≢true}
-use Rattle.ffi3_type_rules.specs.Signature.{Signature}
-use Rattle.ffi3_cdecl_rules.specs.Grammar.{Declaration}
+use Rattle.ffi3_type_spec.specs.Signature.{Signature}
+use Rattle.ffi3_cdecl_spec.specs.Grammar.{Declaration}
 
 pub other_names : (a b : Declaration) (m n : List ℕ) → m ≡ a.called → n ≡ b.called → (m ≡ n → ⊥) → IsTrue false ↔ (a ≡ b)
 other_names a b m n p q other =

@@ -2,10 +2,10 @@
 use Rattle.std.proofs.Common.{◌≡◌, ℕ, ◌≤◌, List, [], length, refl, sym, ap, ◌∙◌, subst, lit≤, true≢false}
 use Rattle.std.specs.Prelude.{false, Option, Some, None}
 use Rattle.ffi3_io.specs.Source.{GivesFirst, SourceState}
-use Rattle.ffi3_script_rules.specs.Natives.{NamedNative}
-use Rattle.ffi3_words.specs.declared.words.InputCommand.{InputCommand}
-use Rattle.ffi3_words.specs.declared.words.Request.{Request}
-use Rattle.ffi3_words.specs.declared.words.Request.TheVariants.{OnInput, Bench}
+use Rattle.ffi3_script_spec.specs.Natives.{NamedNative}
+use Rattle.ffi3_cli.specs.declared.words.InputCommand.{InputCommand}
+use Rattle.ffi3_cli.specs.declared.words.Request.{Request}
+use Rattle.ffi3_cli.specs.declared.words.Request.TheVariants.{OnInput, Bench}
 use Rattle.ffi3_app.specs.Outcome.{Outcome, refuses, tells, runs, benches, IsOutcome, IsOutcomeOn, reads_input}
 use Rattle.ffi3_app.specs.Top.{ComesTo, HadBytes, IsRead, IsAtEnd, IsReadInPart, LeftInput}
 use Rattle.ffi3_app.proofs.Inputs.{none_dropped}

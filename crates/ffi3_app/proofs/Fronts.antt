@@ -1,10 +1,10 @@
 -- How many types at the front of two lists are the same, one after another, and the first type that is another.
 use Rattle.std.proofs.Common.{◌≡◌, ◌∙◌, ◌+◌, ◌<◌, ◌≤◌, ℕ, suc, Bool, true, false, cond, List, [], ◌∷◌, length, drop, refl, sym, ap, arith}
 use Rattle.std.proofs.lemmas.List.{drop_more, drop_all}
-use Rattle.ffi3_type_rules.specs.Tree.{Tree, void, tree_at}
-use Rattle.ffi3_type_rules.specs.Same.{same_tree}
-use Rattle.ffi3_type_rules.specs.Signature.{Signature, at_result, at_argument}
-use Rattle.ffi3_cdecl_rules.specs.Prototype.{same_front, first_other}
+use Rattle.ffi3_type_spec.specs.Tree.{Tree, void, tree_at}
+use Rattle.ffi3_type_spec.specs.Same.{same_tree}
+use Rattle.ffi3_type_spec.specs.Signature.{Signature, at_result, at_argument}
+use Rattle.ffi3_cdecl_spec.specs.Prototype.{same_front, first_other}
 
 front_at : (t u : Tree) (ts us : List Tree) (b : Bool) → same_tree t u ≡ b → same_front (t ∷ ts) (u ∷ us) ≡ cond b (suc (same_front ts us)) 0
 front_at t u ts us b e =

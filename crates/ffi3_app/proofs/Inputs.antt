@@ -3,11 +3,11 @@ use Rattle.std.proofs.Common.{◌≡◌, ℕ, ◌+◌, ◌≤◌, List, [], leng
 use Rattle.std.proofs.Math.ListN.{drop_of_length-le}
 use Rattle.std.proofs.Math.Nat.{le_trans}
 use Rattle.std.proofs.lemmas.List.{take_all}
-use Rattle.ffi3_script_rules.specs.Reading.{Reading, too_long, not_json, bad_script, script, IsReading}
-use Rattle.ffi3_cdecl_rules.specs.Prototype.{Prototype}
-use Rattle.ffi3_image_rules.specs.declared.Question.{Question}
-use Rattle.ffi3_image_rules.specs.Input as image
-use Rattle.ffi3_image_rules.specs.Answer.{Answer, IsAnswer}
+use Rattle.ffi3_script_spec.specs.Reading.{Reading, too_long, not_json, bad_script, script, IsReading}
+use Rattle.ffi3_cdecl_spec.specs.Prototype.{Prototype}
+use Rattle.ffi3_image_spec.specs.declared.Question.{Question}
+use Rattle.ffi3_image_spec.specs.Input as image
+use Rattle.ffi3_image_spec.specs.Answer.{Answer, IsAnswer}
 use Rattle.ffi3_app.specs.Declarations.{Input, too_many_bytes, not_utf8, a_text, IsInput}
 
 -- what is short was all there was

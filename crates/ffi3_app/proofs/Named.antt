@@ -4,10 +4,10 @@ use Rattle.std.specs.Prelude.{Result, IfOk, codes, decimal}
 use Rattle.std.specs.List.{concat}
 use Rattle.std.proofs.lemmas.List.{append_assoc}
 use Rattle.std.proofs.lemmas.Result.{IfOk-weaker}
-use Rattle.ffi3_type_rules.specs.Isa.{isa_of}
-use Rattle.ffi3_type_rules.specs.Signature.{Signature, at_result, at_argument}
-use Rattle.ffi3_type_rules.specs.Tree.{Tree}
-use Rattle.ffi3_place_rules.specs.Standard.{Standard, plan_of}
+use Rattle.ffi3_type_spec.specs.TargetIsa.{isa_of}
+use Rattle.ffi3_type_spec.specs.Signature.{Signature, at_result, at_argument}
+use Rattle.ffi3_type_spec.specs.Tree.{Tree}
+use Rattle.ffi3_place_spec.specs.Standard.{Standard, plan_of}
 use Rattle.ffi3_io.specs.Sink.{SinkState}
 use Rattle.ffi3_text.specs.PlaceLines.{argument_place, argument_text, place_text_of, sig_text_of}
 use Rattle.ffi3_app.specs.Commands.{arguments_from, place_lines}

@@ -3,7 +3,7 @@ use Rattle.std.proofs.Common.{◌≡◌, ℕ, ◌+◌, ◌≤◌, List, [], ◌�
 use Rattle.std.specs.Prelude.{slice_get, option_map}
 use Rattle.std.proofs.lemmas.List.{length-map, take_all, take_more}
 use Rattle.std.proofs.lemmas.Option.{get_or_from_slice_get, slice_get-map, slice_get_within}
-use Rattle.ffi3_script_rules.specs.Natives.{NamedNative, names_of}
+use Rattle.ffi3_script_spec.specs.Natives.{NamedNative, names_of}
 
 module _ (ns : List NamedNative) where
   pub one_name_more : (i : ℕ) (names names' : List (List ℕ)) (name name' : List ℕ) → names ≡ take i (names_of ns) → slice_get (names_of ns) i ≡ Some name → name' ≡ name → names' ≡ names ++ name' ∷ [] → names' ≡ take (i + 1) (names_of ns)

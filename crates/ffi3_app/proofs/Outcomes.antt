@@ -1,22 +1,22 @@
 -- The laws of what commands come to: of one input one outcome; that of the bytes that are read is that of all; and what is not refused is short.
 use Rattle.std.proofs.Common.{◌≡◌, ℕ, ◌<◌, ◌≤◌, List, length, take, refl, sym, ap, subst, ◌∙◌, arith}
-use Rattle.ffi3_script_rules.specs.Reading.{Reading, too_long, not_json, bad_script, script}
-use Rattle.ffi3_script_rules.specs.Script.{Script}
-use Rattle.ffi3_script_rules.specs.Natives.{NamedNative, names_of}
-use Rattle.ffi3_script_rules.proofs.Readings.{one_reading}
-use Rattle.ffi3_cdecl_rules.specs.Grammar.{Declaration}
-use Rattle.ffi3_cdecl_rules.specs.Prototype.{Prototype, read_as, sign_unsaid}
-use Rattle.ffi3_cdecl_rules.proofs.Readings.{one_reading as one_declaration_reading}
-use Rattle.ffi3_cdecl_rules.proofs.Prototypes.{one_prototype_by}
+use Rattle.ffi3_script_spec.specs.Reading.{Reading, too_long, not_json, bad_script, script}
+use Rattle.ffi3_script_spec.specs.Script.{Script}
+use Rattle.ffi3_script_spec.specs.Natives.{NamedNative, names_of}
+use Rattle.ffi3_script_spec.proofs.Readings.{one_reading}
+use Rattle.ffi3_cdecl_spec.specs.Grammar.{Declaration}
+use Rattle.ffi3_cdecl_spec.specs.Prototype.{Prototype, read_as, sign_unsaid}
+use Rattle.ffi3_cdecl_spec.proofs.Readings.{one_reading as one_declaration_reading}
+use Rattle.ffi3_cdecl_spec.proofs.Prototypes.{one_prototype_by}
 use Rattle.ffi3_cdecl.specs.ReadingFor.{IsReadingEverywhere, read_everywhere}
 use Rattle.ffi3_cdecl.proofs.Judging.{is_reading_everywhere, one_reading_everywhere}
-use Rattle.ffi3_image_rules.specs.declared.Question.{Question}
-use Rattle.ffi3_image_rules.specs.declared.Question.TheVariants.{Explained, ByStandard}
-use Rattle.ffi3_image_rules.specs.Input as image
-use Rattle.ffi3_image_rules.specs.Answer.{Answer}
-use Rattle.ffi3_image_rules.proofs.Inputs.{one_answer}
-use Rattle.ffi3_words.specs.declared.words.InputCommand.{InputCommand}
-use Rattle.ffi3_words.specs.declared.words.InputCommand.TheVariants.{Layout, Place, Run, Cdecl, Cplace, Explain, Arguments}
+use Rattle.ffi3_image_spec.specs.declared.Question.{Question}
+use Rattle.ffi3_image_spec.specs.declared.Question.TheVariants.{Explained, ByStandard}
+use Rattle.ffi3_image_spec.specs.Input as image
+use Rattle.ffi3_image_spec.specs.Answer.{Answer}
+use Rattle.ffi3_image_spec.proofs.Inputs.{one_answer}
+use Rattle.ffi3_cli.specs.declared.words.InputCommand.{InputCommand}
+use Rattle.ffi3_cli.specs.declared.words.InputCommand.TheVariants.{Layout, Place, Run, Cdecl, Cplace, Explain, Arguments}
 use Rattle.ffi3_app.specs.Declarations.{IsPrototypeEverywhere, Input, too_many_bytes, not_utf8, a_text, IsInput, IsReadPlainly, cplace_text}
 use Rattle.ffi3_app.specs.Outcome.{Outcome, refuses, tells, outcome_of, outcome_of_input, outcome_of_prototype, outcome_of_answer, IsOfScript, IsOfDeclaration, HasNames, IsOfPrototype, IsOfImage, IsOutcomeOn}
 use Rattle.ffi3_app.proofs.Called.{names_once}

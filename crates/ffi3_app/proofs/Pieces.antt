@@ -5,14 +5,14 @@ use Rattle.std.proofs.lemmas.List.{drop_more, drop-drop}
 use Rattle.std.proofs.lemmas.List.Folds.{concat-append}
 use Rattle.std.proofs.Math.ListN.{drop_of_length-le}
 use Rattle.ffi3_io.proofs.Writing.{took_nothing, took_then, cut_after, cut_at_once, cut_in}
-use Rattle.ffi3_type_rules.specs.Signature.{Signature, signature_at, Position, at_argument}
-use Rattle.ffi3_type_rules.specs.Tree.{Tree}
-use Rattle.ffi3_type_rules.specs.declared.Target.{Target}
-use Rattle.ffi3_place_rules.specs.Standard.{Standard}
+use Rattle.ffi3_type_spec.specs.Signature.{Signature, signature_at, Position, at_argument}
+use Rattle.ffi3_type_spec.specs.Tree.{Tree}
+use Rattle.ffi3_type_spec.specs.declared.Target.{Target}
+use Rattle.ffi3_place_spec.specs.Standard.{Standard}
 use Rattle.ffi3_io.specs.Sink.{SinkState}
 use Rattle.ffi3_io.specs.Written.{TookText}
 use Rattle.std.specs.List.{concat}
-use Rattle.ffi3_explain_rules.specs.Standards.{standard_of}
+use Rattle.ffi3_explain_spec.specs.Standards.{standard_of}
 use Rattle.ffi3_app.specs.Commands.{lines_from, arguments_from}
 use Rattle.ffi3_io.specs.Written as written
 use Rattle.ffi3_io.specs.declared.IoError.{IoError}

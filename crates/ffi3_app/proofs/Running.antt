@@ -1,10 +1,10 @@
 -- A run of a program that is the script's beside the natives.
 use Rattle.std.proofs.Common.{◌≡◌, ℕ, inr, ap}
 use Rattle.std.specs.Prelude.{Bool, Err, true, false}
-use Rattle.ffi3_place_rules.specs.Standard.{Standard}
-use Rattle.ffi3_run_rules.specs.Closures.{Closures}
-use Rattle.ffi3_run_rules.specs.Meaning.{Program}
-use Rattle.ffi3_turn_rules.specs.MainTracing.{main_tracing}
+use Rattle.ffi3_place_spec.specs.Standard.{Standard}
+use Rattle.ffi3_semantics_spec.specs.Closures.{Closures}
+use Rattle.ffi3_semantics_spec.specs.Meaning.{Program}
+use Rattle.ffi3_small_step_spec.specs.MainTracing.{main_tracing}
 use Rattle.ffi3_machine.specs.State.{State}
 use Rattle.ffi3_runner.specs.RunInterrupted.{RunWasInterrupted}
 use Rattle.ffi3_runner.specs.RunMatches.{WrotePart}

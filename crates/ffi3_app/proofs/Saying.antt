@@ -3,19 +3,19 @@ use Rattle.std.proofs.Common.{◌≡◌, ℕ, ◌<◌, List, inl, inr, refl, sym
 use Rattle.std.specs.Prelude.{◌⊎◌, Result, Ok, Err, Some, true}
 use Rattle.ffi3_io.specs.Sink.{Rose, SinkState}
 use Rattle.ffi3_io.specs.Source.{SourceState}
-use Rattle.ffi3_script_rules.specs.Natives.{NamedNative}
+use Rattle.ffi3_script_spec.specs.Natives.{NamedNative}
 use Rattle.ffi3_machine.specs.State.{State}
-use Rattle.ffi3_run_rules.specs.Meaning.{End, returned, stopped}
-use Rattle.ffi3_words.specs.declared.words.InputCommand.{InputCommand}
-use Rattle.ffi3_words.specs.declared.words.Request.{Request}
-use Rattle.ffi3_words.specs.declared.words.Request.TheVariants.{OnInput, Bench}
-use Rattle.ffi3_words.specs.Words.{Takes, IsRefused, IsStated}
-use Rattle.ffi3_words.specs.WordAnswers.{IsWordsRefusal as WordsRefusal}
-use Rattle.ffi3_words.specs.declared.words.WordsFault.{WordsFault}
-use Rattle.ffi3_words.specs.declared.words.WordsFault.TheVariants as words_fault
-use Rattle.ffi3_words.specs.WordCommands.{Addresses}
-use Rattle.ffi3_words.proofs.Refusals.{taken_not_refused}
-use Rattle.ffi3_words.proofs.Stated.{stated_is_taken}
+use Rattle.ffi3_semantics_spec.specs.Meaning.{End, returned, stopped}
+use Rattle.ffi3_cli.specs.declared.words.InputCommand.{InputCommand}
+use Rattle.ffi3_cli.specs.declared.words.Request.{Request}
+use Rattle.ffi3_cli.specs.declared.words.Request.TheVariants.{OnInput, Bench}
+use Rattle.ffi3_cli.specs.Words.{Takes, IsRefused, IsStated}
+use Rattle.ffi3_cli.specs.WordAnswers.{IsWordsRefusal as WordsRefusal}
+use Rattle.ffi3_cli.specs.declared.words.WordsFault.{WordsFault}
+use Rattle.ffi3_cli.specs.declared.words.WordsFault.TheVariants as words_fault
+use Rattle.ffi3_cli.specs.WordCommands.{Addresses}
+use Rattle.ffi3_cli.proofs.Refusals.{taken_not_refused}
+use Rattle.ffi3_cli.proofs.Stated.{stated_is_taken}
 use Rattle.ffi3_app.specs.declared.unfinished.Unfinished.{Unfinished}
 use Rattle.ffi3_app.specs.declared.unfinished.Unfinished.TheVariants.{Refused, NoMemory, WriteFault}
 use Rattle.ffi3_app.specs.Outcome.{Outcome, refuses, tells, runs, benches, IsOutcome, IsOutcomeOn, reads_input, status_of, outcome_status, IsDone}

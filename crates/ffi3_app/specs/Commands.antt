@@ -1,10 +1,10 @@
 -- What layout and place write of a script.
 use Rattle.std.specs.Prelude.{ℕ, ◌+◌, List, [], ◌∷◌, ◌++◌, map}
 use Rattle.std.specs.List.{concat}
-use Rattle.ffi3_type_rules.specs.Tree.{Tree}
-use Rattle.ffi3_type_rules.specs.Signature.{Signature, Position, at_result, at_argument}
-use Rattle.ffi3_place_rules.specs.Standard.{Standard}
-use Rattle.ffi3_script_rules.specs.Script.{Script}
+use Rattle.ffi3_type_spec.specs.Tree.{Tree}
+use Rattle.ffi3_type_spec.specs.Signature.{Signature, Position, at_result, at_argument}
+use Rattle.ffi3_place_spec.specs.Standard.{Standard}
+use Rattle.ffi3_script_spec.specs.Script.{Script}
 use Rattle.ffi3_text.specs.LayoutLines.{layout_text_of}
 use Rattle.ffi3_text.specs.PlaceLines.{sig_text_of, place_text_of}
 

@@ -1,31 +1,31 @@
 -- What cdecl writes of a C declaration, and cplace of a prototype, and with which line they refuse an input that is none.
 use Rattle.std.specs.Prelude.{◌<◌, ◌≤◌, ℕ, ◌++◌, List, [], ◌∷◌, length, get_or, map, codes, decimal, IsUtf8}
 use Rattle.std.specs.List.{concat, flat_map}
-use Rattle.ffi3_type_rules.specs.declared.Target.{Target}
-use Rattle.ffi3_type_rules.specs.declared.Target.TheVariants.{Amd64, Aapcs64, Riscv, Win64, Apple}
-use Rattle.ffi3_type_rules.specs.Signature.{Signature, SignatureFault, SignatureHasNoFault, Position}
-use Rattle.ffi3_type_rules.specs.Signature.{at_result, at_argument}
-use Rattle.ffi3_type_rules.specs.Text.{signature_text}
-use Rattle.ffi3_run_rules.specs.Lines.{a_line}
-use Rattle.ffi3_script_rules.specs.Language.{reason_of_fault}
-use Rattle.ffi3_script_rules.specs.Reading.{max_length}
-use Rattle.ffi3_script_rules.specs.ReasonText.{text_of_reason}
-use Rattle.ffi3_cdecl_rules.specs.Grammar.{Declaration}
-use Rattle.ffi3_cdecl_rules.specs.Canonical.{declaration_text, FixesAll, IsIdentifier}
-use Rattle.ffi3_cdecl_rules.specs.Prototype.{Prototype, read_as, sign_unsaid, IsPrototypeBy, prototype_text}
-use Rattle.ffi3_cdecl_rules.specs.Reading as declaration
-use Rattle.ffi3_cdecl_rules.specs.Telling.{tell}
-use Rattle.ffi3_cdecl_rules.specs.Tokens.{signed}
+use Rattle.ffi3_type_spec.specs.declared.Target.{Target}
+use Rattle.ffi3_type_spec.specs.declared.Target.TheVariants.{Amd64, Aapcs64, Riscv, Win64, Apple}
+use Rattle.ffi3_type_spec.specs.Signature.{Signature, SignatureFault, SignatureHasNoFault, Position}
+use Rattle.ffi3_type_spec.specs.Signature.{at_result, at_argument}
+use Rattle.ffi3_type_spec.specs.Text.{signature_text}
+use Rattle.ffi3_semantics_spec.specs.Lines.{a_line}
+use Rattle.ffi3_script_spec.specs.Language.{reason_of_fault}
+use Rattle.ffi3_script_spec.specs.Reading.{max_length}
+use Rattle.ffi3_script_spec.specs.ReasonText.{text_of_reason}
+use Rattle.ffi3_cdecl_spec.specs.Grammar.{Declaration}
+use Rattle.ffi3_cdecl_spec.specs.Canonical.{declaration_text, FixesAll, IsIdentifier}
+use Rattle.ffi3_cdecl_spec.specs.Prototype.{Prototype, read_as, sign_unsaid, IsPrototypeBy, prototype_text}
+use Rattle.ffi3_cdecl_spec.specs.Reading as declaration
+use Rattle.ffi3_cdecl_spec.specs.Telling.{tell}
+use Rattle.ffi3_cdecl_spec.specs.Tokens.{signed}
 use Rattle.ffi3_cdecl.specs.ReadingFor.{IsReadingEverywhere}
-use Rattle.ffi3_format_rules.specs.Format.{format_of, resolved_signature}
+use Rattle.ffi3_format_spec.specs.Format.{format_of, resolved_signature}
 use Rattle.ffi3_sig_text.specs.SigText.{told_signature}
-use Rattle.ffi3_diagnostics_rules.specs.Positions.{words_at, placed_words}
-use Rattle.ffi3_diagnostics_rules.specs.ToldText.{told_words, lines_at}
-use Rattle.ffi3_place_rules.specs.Standard.{Standard, plan_of}
+use Rattle.ffi3_diagnostics_spec.specs.Positions.{words_at, placed_words}
+use Rattle.ffi3_diagnostics_spec.specs.ToldText.{told_words, lines_at}
+use Rattle.ffi3_place_spec.specs.Standard.{Standard, plan_of}
 use Rattle.ffi3_text.specs.PlaceLines.{argument_place, argument_text, place_text_of, sig_text_of}
-use Rattle.ffi3_type_rules.specs.Isa.{isa_of}
-use Rattle.ffi3_words.specs.Words.{target_word}
-use Rattle.ffi3_explain_rules.specs.Standards.{standard_of}
+use Rattle.ffi3_type_spec.specs.TargetIsa.{isa_of}
+use Rattle.ffi3_cli.specs.Words.{target_word}
+use Rattle.ffi3_explain_spec.specs.Standards.{standard_of}
 use Rattle.ffi3_app.specs.Commands.{arguments_from}
 
 -- ---- what is read

@@ -1,38 +1,38 @@
 -- What each command does to its input, and what is done of it: one definition for all commands.
 use Rattle.std.specs.Prelude.{◌≡◌, ℕ, Bool, true, false, ◌++◌, List, [], take, codes}
-use Rattle.ffi3_place_rules.specs.Standard.{Standard}
-use Rattle.ffi3_run_rules.specs.Closures.{Closures}
-use Rattle.ffi3_run_rules.specs.Meaning.{End, Program, returned, stopped, meaning_of}
-use Rattle.ffi3_run_rules.specs.Lines.{a_line}
-use Rattle.ffi3_turn_rules.specs.MainTracing.{main_tracing}
-use Rattle.ffi3_script_rules.specs.Language.{JsonPath, reason_of_fault}
-use Rattle.ffi3_script_rules.specs.ReasonText.{text_of_path, text_of_reason}
-use Rattle.ffi3_script_rules.specs.Script.{Script}
-use Rattle.ffi3_script_rules.specs.Meaning.{program_of}
-use Rattle.ffi3_script_rules.specs.Made.{made}
-use Rattle.ffi3_script_rules.specs.Reading.{Reading, too_long, not_json, bad_script, script, IsReading}
-use Rattle.ffi3_script_rules.specs.Natives.{NamedNative, names_of, program_beside}
-use Rattle.ffi3_riscv_rules.specs.Riscv.{riscv}
+use Rattle.ffi3_place_spec.specs.Standard.{Standard}
+use Rattle.ffi3_semantics_spec.specs.Closures.{Closures}
+use Rattle.ffi3_semantics_spec.specs.Meaning.{End, Program, returned, stopped, meaning_of}
+use Rattle.ffi3_semantics_spec.specs.Lines.{a_line}
+use Rattle.ffi3_small_step_spec.specs.MainTracing.{main_tracing}
+use Rattle.ffi3_script_spec.specs.Language.{JsonPath, reason_of_fault}
+use Rattle.ffi3_script_spec.specs.ReasonText.{text_of_path, text_of_reason}
+use Rattle.ffi3_script_spec.specs.Script.{Script}
+use Rattle.ffi3_script_spec.specs.Meaning.{program_of}
+use Rattle.ffi3_script_spec.specs.Made.{made}
+use Rattle.ffi3_script_spec.specs.Reading.{Reading, too_long, not_json, bad_script, script, IsReading}
+use Rattle.ffi3_script_spec.specs.Natives.{NamedNative, names_of, program_beside}
+use Rattle.ffi3_riscv_spec.specs.Riscv.{riscv}
 use Rattle.ffi3_bench.specs.BenchText.{HasWholeJournal, bench_text}
 use Rattle.ffi3_machine.specs.State.{State}
 use Rattle.ffi3_runner.specs.RunMatches.{RunMatches, WrotePart}
 use Rattle.ffi3_runner.specs.RunInterrupted.{RunWasInterrupted}
 use Rattle.ffi3_io.specs.Sink.{Adds, SinkState}
 use Rattle.ffi3_io.specs.Written.{TookText}
-use Rattle.ffi3_words.specs.declared.words.InputCommand.{InputCommand}
-use Rattle.ffi3_words.specs.declared.words.InputCommand.TheVariants.{Layout, Place, Run, Cdecl, Cplace, Explain, Arguments}
-use Rattle.ffi3_words.specs.declared.words.Request.{Request}
-use Rattle.ffi3_words.specs.declared.words.Request.TheVariants.{OnInput, Bench}
-use Rattle.ffi3_cdecl_rules.specs.Grammar.{Declaration}
-use Rattle.ffi3_cdecl_rules.specs.Prototype.{read_as, sign_unsaid}
-use Rattle.ffi3_cdecl_rules.specs.Reading as declaration
-use Rattle.ffi3_cdecl_rules.specs.Tokens.{signed}
-use Rattle.ffi3_names_rules.specs.Names.{AreNames}
-use Rattle.ffi3_image_rules.specs.declared.Question.{Question}
-use Rattle.ffi3_image_rules.specs.declared.Question.TheVariants.{Explained, ByStandard}
-use Rattle.ffi3_image_rules.specs.Answer as image
-use Rattle.ffi3_image_rules.specs.Answer.{Answer, IsAnswer}
-use Rattle.ffi3_explain_rules.specs.Standards.{standard_of}
+use Rattle.ffi3_cli.specs.declared.words.InputCommand.{InputCommand}
+use Rattle.ffi3_cli.specs.declared.words.InputCommand.TheVariants.{Layout, Place, Run, Cdecl, Cplace, Explain, Arguments}
+use Rattle.ffi3_cli.specs.declared.words.Request.{Request}
+use Rattle.ffi3_cli.specs.declared.words.Request.TheVariants.{OnInput, Bench}
+use Rattle.ffi3_cdecl_spec.specs.Grammar.{Declaration}
+use Rattle.ffi3_cdecl_spec.specs.Prototype.{read_as, sign_unsaid}
+use Rattle.ffi3_cdecl_spec.specs.Reading as declaration
+use Rattle.ffi3_cdecl_spec.specs.Tokens.{signed}
+use Rattle.ffi3_names_spec.specs.Names.{AreNames}
+use Rattle.ffi3_image_spec.specs.declared.Question.{Question}
+use Rattle.ffi3_image_spec.specs.declared.Question.TheVariants.{Explained, ByStandard}
+use Rattle.ffi3_image_spec.specs.Answer as image
+use Rattle.ffi3_image_spec.specs.Answer.{Answer, IsAnswer}
+use Rattle.ffi3_explain_spec.specs.Standards.{standard_of}
 use Rattle.ffi3_app.specs.Commands.{layout_text, place_text}
 use Rattle.ffi3_app.specs.Declarations.{Input, too_many_bytes, not_utf8, a_text, IsReadAs, IsReadWidely, offset_line}
 use Rattle.ffi3_app.specs.Declarations.{reason_line, marked_line, unexpected_line, fault_line, sign_line}

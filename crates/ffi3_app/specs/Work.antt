@@ -2,8 +2,8 @@
 use Rattle.std.specs.Prelude.{◌≡◌, ◌⊎◌, ℕ, true, false, List, codes, Result, Ok, Err}
 use Rattle.ffi3_cdecl.specs.declared.fault.DeclFault.{DeclFault}
 use Rattle.ffi3_cdecl.specs.declared.fault.DeclFault.TheVariants as decl
-use Rattle.ffi3_cdecl_rules.specs.Grammar.{Declaration}
-use Rattle.ffi3_cdecl_rules.specs.Prototype.{Prototype, first_other}
+use Rattle.ffi3_cdecl_spec.specs.Grammar.{Declaration}
+use Rattle.ffi3_cdecl_spec.specs.Prototype.{Prototype, first_other}
 use Rattle.ffi3_io.specs.Sink.{Rose, SinkState}
 use Rattle.ffi3_io.specs.declared.IoError.{IoError}
 use Rattle.ffi3_io.specs.declared.IoError.TheVariants as io
@@ -11,10 +11,10 @@ use Rattle.ffi3_json.specs.ReasonOf.{reason_of}
 use Rattle.ffi3_json.specs.declared.fault.ScriptFault.{ScriptFault}
 use Rattle.ffi3_json.specs.declared.fault.ScriptFault.TheVariants as fault
 use Rattle.ffi3_machine.specs.State.{State}
-use Rattle.ffi3_run_rules.specs.Lines.{a_line}
-use Rattle.ffi3_script_rules.specs.Language.{reason_of_fault}
-use Rattle.ffi3_script_rules.specs.ReasonText.{text_of_reason}
-use Rattle.ffi3_script_rules.specs.Script.{Script}
+use Rattle.ffi3_semantics_spec.specs.Lines.{a_line}
+use Rattle.ffi3_script_spec.specs.Language.{reason_of_fault}
+use Rattle.ffi3_script_spec.specs.ReasonText.{text_of_reason}
+use Rattle.ffi3_script_spec.specs.Script.{Script}
 use Rattle.ffi3_status.specs.FaultLines.{ReportsFault, no_memory_line, write_fault_line}
 use Rattle.ffi3_types.specs.SignatureFaultOf.{signature_fault_of}
 use Rattle.ffi3_app.specs.Declarations.{Input, a_text, IsInput, IsReadPlainly, IsPrototypeEverywhere}

@@ -1,9 +1,9 @@
 //! The lines of cdecl.
 ghost use Rattle.std.specs.Prelude.{◌≡◌, IfOk};
-ghost use Rattle.ffi3_type_rules.specs.Signature.{SignatureHasNoFault};
-ghost use Rattle.ffi3_type_rules.specs.Text.{signature_text};
-ghost use Rattle.ffi3_run_rules.specs.Lines.{a_line};
-ghost use Rattle.ffi3_cdecl_rules.specs.Canonical.{declaration_text};
+ghost use Rattle.ffi3_type_spec.specs.Signature.{SignatureHasNoFault};
+ghost use Rattle.ffi3_type_spec.specs.Text.{signature_text};
+ghost use Rattle.ffi3_semantics_spec.specs.Lines.{a_line};
+ghost use Rattle.ffi3_cdecl_spec.specs.Canonical.{declaration_text};
 ghost use Rattle.ffi3_app.specs.Declarations.{IsWritable, cdecl_text};
 ghost use Rattle.ffi3_io.specs.Written.{Wrote};
 

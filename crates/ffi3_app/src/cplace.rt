@@ -1,27 +1,27 @@
 //! The lines of cplace.
 ghost use Rattle.std.specs.Prelude.{◌≡◌, IfOk};
 ghost use Rattle.std.specs.List.{flat_map};
-ghost use Rattle.ffi3_type_rules.specs.Signature.{SignatureIsPlaced};
-ghost use Rattle.ffi3_format_rules.specs.declared.Format.{Format};
-ghost use Rattle.ffi3_format_rules.specs.Format.{resolved_signature};
+ghost use Rattle.ffi3_type_spec.specs.Signature.{SignatureIsPlaced};
+ghost use Rattle.ffi3_format_spec.specs.declared.Format.{Format};
+ghost use Rattle.ffi3_format_spec.specs.Format.{resolved_signature};
 ghost use Rattle.ffi3_sig_text.specs.SigText.{told_signature};
-ghost use Rattle.ffi3_run_rules.specs.Lines.{a_line};
-ghost use Rattle.ffi3_cdecl_rules.specs.Prototype.{prototype_text};
+ghost use Rattle.ffi3_semantics_spec.specs.Lines.{a_line};
+ghost use Rattle.ffi3_cdecl_spec.specs.Prototype.{prototype_text};
 ghost use Rattle.ffi3_app.specs.Declarations.{cplace_text, every_target, placed_on, prototype_lines, target_line};
-ghost use Rattle.ffi3_cdecl_rules.specs.Tokens.{signed};
-ghost use Rattle.ffi3_names_rules.specs.Scan.{names_in};
+ghost use Rattle.ffi3_cdecl_spec.specs.Tokens.{signed};
+ghost use Rattle.ffi3_names_spec.specs.Scan.{names_in};
 ghost use Rattle.ffi3_names.specs.NamesOf.{names_of};
 ghost use Rattle.ffi3_io.specs.Written.{Wrote};
 
 use crate::place::place_signature;
 use crate::write::write_made_line;
 use ffi3_cdecl::{Declaration, Sign, prototype_text};
+use ffi3_cli::target_word;
 use ffi3_format::{format_of, resolve};
 use ffi3_io::{IoError, Sink};
 use ffi3_names::{Name, names_in};
 use ffi3_sig_text::signature_text;
 use ffi3_types::{Bytes, NoMemory, Sig, Target};
-use ffi3_words::target_word;
 use std::alloc::Global;
 
 /// Writes the signature's text and the canonical text of a prototype, a line each, and then for each target its name and

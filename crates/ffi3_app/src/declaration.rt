@@ -1,7 +1,7 @@
 //! From the bytes of an input to a C declaration, or to the line that refuses them.
 ghost use Rattle.std.specs.Prelude.{◌≡◌, List, ℕ, IfOk, IfErr};
-ghost use Rattle.ffi3_cdecl_rules.specs.Prototype.{read_as};
-ghost use Rattle.ffi3_cdecl_rules.specs.Reading.{reads};
+ghost use Rattle.ffi3_cdecl_spec.specs.Prototype.{read_as};
+ghost use Rattle.ffi3_cdecl_spec.specs.Reading.{reads};
 ghost use Rattle.ffi3_app.specs.Declarations.{IsReadAs, IsWritable, a_text, offset_line, reason_line};
 ghost use Rattle.ffi3_app.specs.Work.{IsFaultToldAs, IsNoDeclaration};
 

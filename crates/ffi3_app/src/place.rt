@@ -2,8 +2,8 @@
 ghost use Rattle.ffi3_script.specs.ScriptOf.{script_of};
 ghost use Rattle.std.specs.Prelude.{◌≡◌, ◌<◌, ◌≤◌, ◌++◌, IfOk, codes, drop, length};
 ghost use Rattle.std.specs.List.{concat};
-ghost use Rattle.ffi3_type_rules.specs.Signature.{SignatureIsPlaced};
-ghost use Rattle.ffi3_explain_rules.specs.Standards.{standard_of};
+ghost use Rattle.ffi3_type_spec.specs.Signature.{SignatureIsPlaced};
+ghost use Rattle.ffi3_explain_spec.specs.Standards.{standard_of};
 ghost use Rattle.ffi3_app.specs.Commands.{place_text};
 ghost use Rattle.ffi3_app.specs.Declarations.{argument_line, named_lines};
 ghost use Rattle.ffi3_names.specs.NamesOf.{names_of};

@@ -1,14 +1,14 @@
 //! From the bytes of an input to a prototype, or to the line that refuses them.
 ghost use Rattle.std.specs.Prelude.{◌≡◌, ◌↔◌, IsTrue, IfOk, IfErr};
-ghost use Rattle.ffi3_type_rules.specs.Signature.{SignatureIsPlaced};
-ghost use Rattle.ffi3_format_rules.specs.declared.Format.{Format};
-ghost use Rattle.ffi3_format_rules.specs.Format.{resolved_signature};
-ghost use Rattle.ffi3_cdecl_rules.specs.Tokens.{signed};
-ghost use Rattle.ffi3_cdecl_rules.specs.Prototype.{first_other, read_as};
-ghost use Rattle.ffi3_cdecl_rules.specs.Reading.{reads};
+ghost use Rattle.ffi3_type_spec.specs.Signature.{SignatureIsPlaced};
+ghost use Rattle.ffi3_format_spec.specs.declared.Format.{Format};
+ghost use Rattle.ffi3_format_spec.specs.Format.{resolved_signature};
+ghost use Rattle.ffi3_cdecl_spec.specs.Tokens.{signed};
+ghost use Rattle.ffi3_cdecl_spec.specs.Prototype.{first_other, read_as};
+ghost use Rattle.ffi3_cdecl_spec.specs.Reading.{reads};
 ghost use Rattle.ffi3_cdecl.specs.ReadingFor.{IsReadingEverywhere};
 ghost use Rattle.ffi3_app.specs.Declarations.{IsPrototypeEverywhere, IsReadWidely, a_text, sign_line, sign_words};
-ghost use Rattle.ffi3_type_rules.specs.Same.{same_tree};
+ghost use Rattle.ffi3_type_spec.specs.Same.{same_tree};
 ghost use Rattle.ffi3_types.specs.SignatureFaultOf.{position_of};
 ghost use Rattle.ffi3_types.specs.TreeOf.{tree_of};
 ghost use Rattle.ffi3_app.specs.Work.{IsNoPrototype, IsNoText, IsSignUnsaid};

@@ -1,9 +1,9 @@
 //! From the bytes of an input to a script, or to the line that refuses them.
 ghost use Rattle.std.specs.Prelude.{◌≡◌, ◌<◌, ◌^◌, List, ℕ, IfOk, IfErr, length};
-ghost use Rattle.ffi3_script_rules.specs.Natives.{names_of};
-ghost use Rattle.ffi3_script_rules.specs.Reading.{IsReading, script};
+ghost use Rattle.ffi3_script_spec.specs.Natives.{names_of};
+ghost use Rattle.ffi3_script_spec.specs.Reading.{IsReading, script};
 ghost use Rattle.ffi3_script.specs.ScriptOf.{script_of, natives_of};
-ghost use Rattle.ffi3_ask.specs.Handed.{handed};
+ghost use Rattle.ffi3_next_move.specs.Handed.{handed};
 ghost use Rattle.ffi3_app.specs.Outcome.{located_line};
 ghost use Rattle.ffi3_app.specs.Work.{IsNoScript, IsToldAs};
 

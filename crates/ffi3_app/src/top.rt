@@ -1,21 +1,21 @@
 //! The top call.
 ghost use Rattle.std.specs.Prelude.{◌≡◌, ◌<◌, ◌⊎◌, ◌^◌, List, ℕ, Some, length, map, string_bytes, true};
 ghost use Rattle.ffi3_io.specs.Sink.{Rose};
-ghost use Rattle.ffi3_words.specs.declared.words.Request.{Request};
-ghost use Rattle.ffi3_words.specs.declared.words.Request.TheVariants.{OnInput};
-ghost use Rattle.ffi3_words.specs.Words.{IsStated, Takes};
-ghost use Rattle.ffi3_ask.specs.Handed.{AreFew, handed, signatures_in};
+ghost use Rattle.ffi3_cli.specs.declared.words.Request.{Request};
+ghost use Rattle.ffi3_cli.specs.declared.words.Request.TheVariants.{OnInput};
+ghost use Rattle.ffi3_cli.specs.Words.{IsStated, Takes};
+ghost use Rattle.ffi3_next_move.specs.Handed.{AreFew, handed, signatures_in};
 ghost use Rattle.ffi3_app.specs.Outcome.{IsOutcome, Outcome, outcome_status, reads_input};
 ghost use Rattle.ffi3_app.specs.Top.{Says};
 
 use crate::unfinished::tell_end;
 use crate::work::{run_bench, work};
 use ffi3_body::Native;
+use ffi3_cli::{InputCommand, Request, WordsFault, read_words};
 use ffi3_io::{IoError, Sink, Source, read_all};
 use ffi3_json::MAX_LENGTH;
 use ffi3_machine::Machine;
 use ffi3_status::{Fault, tell, tell_fault};
-use ffi3_words::{InputCommand, Request, WordsFault, read_words};
 use std::alloc::Global;
 
 /// Runs the command line and returns the exit status.

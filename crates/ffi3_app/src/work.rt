@@ -1,11 +1,11 @@
 //! What each command does.
 ghost use Rattle.std.specs.Prelude.{◌≡◌, ◌<◌, ◌≤◌, ◌^◌, length};
 ghost use Rattle.ffi3_script.specs.ScriptOf.{script_of, natives_of};
-ghost use Rattle.ffi3_script_rules.specs.Natives.{names_of, program_beside};
-ghost use Rattle.ffi3_ask.specs.Handed.{AreFew, handed};
+ghost use Rattle.ffi3_script_spec.specs.Natives.{names_of, program_beside};
+ghost use Rattle.ffi3_next_move.specs.Handed.{AreFew, handed};
 ghost use Rattle.ffi3_machine.specs.State.{State};
-ghost use Rattle.ffi3_type_rules.specs.declared.limits.TheConstants.{MOST_CALLS};
-ghost use Rattle.ffi3_explain_rules.specs.Standards.{standard_of};
+ghost use Rattle.ffi3_type_spec.specs.declared.limits.TheConstants.{MOST_CALLS};
+ghost use Rattle.ffi3_explain_spec.specs.Standards.{standard_of};
 ghost use Rattle.ffi3_app.specs.Commands.{layout_text, place_text};
 ghost use Rattle.ffi3_app.specs.Declarations.{cdecl_text, cplace_text};
 ghost use Rattle.ffi3_app.specs.Outcome.{IsOfDeclaration, IsOfImage, IsOfPrototype, IsOfScript, IsOutcomeOn, benches, runs, tells};
@@ -25,6 +25,7 @@ use ffi3_amd64::Amd64;
 use ffi3_apple::Apple;
 use ffi3_bench::bench;
 use ffi3_body::Native;
+use ffi3_cli::InputCommand;
 use ffi3_image::{Answer, Question, answer_question};
 use ffi3_io::{IoError, Sink};
 use ffi3_machine::Machine;
@@ -34,7 +35,6 @@ use ffi3_runner::{RunEnd, Runner};
 use ffi3_script::Script;
 use ffi3_types::Target;
 use ffi3_win64::Win64;
-use ffi3_words::InputCommand;
 use std::alloc::Global;
 
 /// Carries out a command on the bytes of the input, beside natives, and returns the exit status: 0, or 6 where a run

@@ -2,11 +2,11 @@
 #![tactic(auto)]
 
 ghost use Rattle.std.specs.Prelude.{◌≡◌, ◌<◌, ◌≤◌, ◌+◌, ◌-◌, ◌*◌, ◌&&◌, ◌||◌, length, map, min, not, Bool, IfOk};
-ghost use Rattle.ffi3_type_rules.specs.declared.limits.TheConstants.{ARGUMENT_BYTES, ARGUMENT_SPAN, LARGEST_GAP, LARGEST_TYPE, MOST_ARGUMENTS};
-ghost use Rattle.ffi3_place_rules.specs.declared.Loc.TheVariants.{S};
-ghost use Rattle.ffi3_place_rules.specs.Standard.{plan_of};
-ghost use Rattle.ffi3_aapcs64_rules.specs.Aapcs64.{is_composite, untouched};
-ghost use Rattle.ffi3_apple_rules.specs.Apple.{apple, is_named, is_packed, stack_start, stack_size, packed_pieces, stack_spot, register_start, register_end, in_registers, stack_end, taken_with, taken_after, spot_after, spots_after};
+ghost use Rattle.ffi3_type_spec.specs.declared.limits.TheConstants.{ARGUMENT_BYTES, ARGUMENT_SPAN, LARGEST_GAP, LARGEST_TYPE, MOST_ARGUMENTS};
+ghost use Rattle.ffi3_place_spec.specs.declared.Loc.TheVariants.{S};
+ghost use Rattle.ffi3_place_spec.specs.Standard.{plan_of};
+ghost use Rattle.ffi3_aapcs64_spec.specs.Aapcs64.{is_composite, untouched};
+ghost use Rattle.ffi3_apple_spec.specs.Apple.{apple, is_named, is_packed, stack_start, stack_size, packed_pieces, stack_spot, register_start, register_end, in_registers, stack_end, taken_with, taken_after, spot_after, spots_after};
 ghost use Rattle.ffi3_place.specs.WithoutCopy.{without_copy};
 
 pub mod laws;
@@ -18,8 +18,8 @@ use ffi3_aapcs64::{
 use ffi3_place::ends::{buffer_end, lay_copies, planned};
 use ffi3_place::parts::doubleword;
 use ffi3_place::{Abi, Ext, Loc, Pieces, Place, Places, Plan, SaveWord};
-use ffi3_place_rules::Taken;
-use ffi3_type_rules::round_up;
+use ffi3_place_spec::Taken;
+use ffi3_type_spec::round_up;
 use ffi3_types::{CheckedType, FfiType, NoMemory, PlacedSig, Sig, Target};
 pub use laws::placement_laws;
 use std::alloc::Global;
@@ -323,7 +323,7 @@ fn plan_of(alloc: Global, sig: &PlacedSig<'_>) -> Result<Plan, NoMemory>
 
 // Registers have their roles of AAPCS64.
 impl Abi for Apple {
-    ghost use Rattle.ffi3_apple_rules.specs.Apple.{apple};
+    ghost use Rattle.ffi3_apple_spec.specs.Apple.{apple};
 
     ghost standard = { apple };
 
@@ -373,10 +373,10 @@ impl Abi for Apple {
 
     ghost use Rattle.std.specs.Prelude.{refl};
     ghost use Rattle.std.proofs.lemmas.Bool.{ltb-true};
-    ghost use Rattle.ffi3_apple_rules.proofs.Agrees.{agrees as agrees_with_machine};
-    ghost use Rattle.ffi3_apple_rules.proofs.Alike.{goes_by_layout};
-    ghost use Rattle.ffi3_apple_rules.proofs.ByStubs.{by_stubs as with_stubs, result_by_stubs as result_with_stubs};
-    ghost use Rattle.ffi3_apple_rules.proofs.Sound.{sound as every_law, determines};
+    ghost use Rattle.ffi3_apple_spec.proofs.Agrees.{agrees as agrees_with_machine};
+    ghost use Rattle.ffi3_apple_spec.proofs.Alike.{goes_by_layout};
+    ghost use Rattle.ffi3_apple_spec.proofs.ByStubs.{by_stubs as with_stubs, result_by_stubs as result_with_stubs};
+    ghost use Rattle.ffi3_apple_spec.proofs.Sound.{sound as every_law, determines};
 
     ghost save_is = { refl };
 

@@ -1,16 +1,16 @@
 -- What a sink for a line has taken once a run has ended.
 use Rattle.std.proofs.Common.{◌≡◌, ℕ, zero, suc, ◌-◌, ◌<◌, ◌≤◌, inl, inr, List, [], ◌∷◌, ◌++◌, length, map, take, Some, refl, sym, ap, subst, ◌∙◌, arith, lit<}
 use Rattle.std.specs.Prelude.{unwrap_or}
-use Rattle.ffi3_type_rules.specs.Value.{void_value}
-use Rattle.ffi3_place_rules.specs.Standard.{Standard}
-use Rattle.ffi3_run_rules.specs.declared.Stop.{Stop}
-use Rattle.ffi3_run_rules.specs.Lines.{untraced, text_of_run}
-use Rattle.ffi3_run_rules.specs.Meaning.{Program, meaning_of, returned, stopped, most_moves, main_call}
-use Rattle.ffi3_run_rules.specs.Closures.{no_closures}
-use Rattle.ffi3_run_rules.proofs.Recursion.{is_plain_recursion}
-use Rattle.ffi3_script_rules.specs.Meaning.{program_of}
-use Rattle.ffi3_script_rules.specs.Natives.{NamedNative}
-use Rattle.ffi3_script_rules.proofs.Natives.{beside_none}
+use Rattle.ffi3_type_spec.specs.Value.{void_value}
+use Rattle.ffi3_place_spec.specs.Standard.{Standard}
+use Rattle.ffi3_semantics_spec.specs.declared.Stop.{Stop}
+use Rattle.ffi3_semantics_spec.specs.Lines.{untraced, text_of_run}
+use Rattle.ffi3_semantics_spec.specs.Meaning.{Program, meaning_of, returned, stopped, most_moves, main_call}
+use Rattle.ffi3_semantics_spec.specs.Closures.{no_closures}
+use Rattle.ffi3_semantics_spec.proofs.Recursion.{is_plain_recursion}
+use Rattle.ffi3_script_spec.specs.Meaning.{program_of}
+use Rattle.ffi3_script_spec.specs.Natives.{NamedNative}
+use Rattle.ffi3_script_spec.proofs.Natives.{beside_none}
 use Rattle.ffi3_script.specs.ScriptOf.{script_of}
 use Rattle.ffi3_script.specs.declared.script.Script.{Script}
 use Rattle.ffi3_runner.specs.Running.{program}

@@ -4,22 +4,22 @@ use Rattle.std.specs.Prelude.{◌&&◌, ⊤, Option, None}
 use Rattle.std.specs.List.{sum_by}
 use Rattle.std.proofs.lemmas.List.{length-append}
 use Rattle.std.proofs.lemmas.List.Sums.{sum_by-cons}
-use Rattle.ffi3_type_rules.specs.declared.limits.TheConstants.{LARGEST_GAP}
-use Rattle.ffi3_type_rules.specs.Tree.{Tree, scalar, u64, pointer}
-use Rattle.ffi3_type_rules.specs.Layout.{size_of, least_multiple}
-use Rattle.ffi3_type_rules.specs.Signature.{Signature}
-use Rattle.ffi3_type_rules.proofs.Layouts.{least_multiple-below}
-use Rattle.ffi3_place_rules.specs.declared.Taken.{Taken}
-use Rattle.ffi3_place_rules.specs.Standard.{Standard, Spot, in_pieces, by_reference, ResultSpot, no_result, in_result_pieces, in_buffer, round8, copies_end, buffer_end, copies_start, frame_copies_end, need_of}
-use Rattle.ffi3_place_rules.proofs.Ends.{start-near, even-near}
-use Rattle.ffi3_amd64_rules.specs.Amd64 as amd
-use Rattle.ffi3_aapcs64_rules.specs.Aapcs64 as arm
-use Rattle.ffi3_riscv_rules.specs.declared.Shape.{Shape}
-use Rattle.ffi3_riscv_rules.specs.declared.TakenWords.{TakenWords}
-use Rattle.ffi3_riscv_rules.specs.Riscv as risc
-use Rattle.ffi3_script_rules.specs.Made.{next_state, drawn, made_type, drawn_types, drawn_arguments, state_before, made_types, made_signature}
-use Rattle.ffi3_script_rules.proofs.Made.{drawn_below}
-use Rattle.ffi3_script_rules.proofs.MadeRuns.{NeedsLittle}
+use Rattle.ffi3_type_spec.specs.declared.limits.TheConstants.{LARGEST_GAP}
+use Rattle.ffi3_type_spec.specs.Tree.{Tree, scalar, u64, pointer}
+use Rattle.ffi3_type_spec.specs.Layout.{size_of, least_multiple}
+use Rattle.ffi3_type_spec.specs.Signature.{Signature}
+use Rattle.ffi3_type_spec.proofs.Layouts.{least_multiple-below}
+use Rattle.ffi3_place_spec.specs.declared.Taken.{Taken}
+use Rattle.ffi3_place_spec.specs.Standard.{Standard, Spot, in_pieces, by_reference, ResultSpot, no_result, in_result_pieces, in_buffer, round8, copies_end, buffer_end, copies_start, frame_copies_end, need_of}
+use Rattle.ffi3_place_spec.proofs.Ends.{start-near, even-near}
+use Rattle.ffi3_amd64_spec.specs.Amd64 as amd
+use Rattle.ffi3_aapcs64_spec.specs.Aapcs64 as arm
+use Rattle.ffi3_riscv_spec.specs.declared.Shape.{Shape}
+use Rattle.ffi3_riscv_spec.specs.declared.TakenWords.{TakenWords}
+use Rattle.ffi3_riscv_spec.specs.Riscv as risc
+use Rattle.ffi3_script_spec.specs.Made.{next_state, drawn, made_type, drawn_types, drawn_arguments, state_before, made_types, made_signature}
+use Rattle.ffi3_script_spec.proofs.Made.{drawn_below}
+use Rattle.ffi3_script_spec.proofs.MadeRuns.{NeedsLittle}
 
 -- ---- small types
 

@@ -7,9 +7,9 @@ use Rattle.std.proofs.lemmas.Int.Digits.{length-digits_of-le}
 use Rattle.std.proofs.lemmas.Fmt.{decimal-digits_of}
 use Rattle.std.proofs.lemmas.List.{drop_more, length-append, length-map}
 use Rattle.std.proofs.Math.Nat.{le-max_left, max-eq_left, max-eq_right}
-use Rattle.ffi3_type_rules.specs.Signature.{Signature, signature_at}
-use Rattle.ffi3_place_rules.specs.Standard.{Standard, need_of}
-use Rattle.ffi3_script_rules.proofs.MadeRuns.{TellsWord}
+use Rattle.ffi3_type_spec.specs.Signature.{Signature, signature_at}
+use Rattle.ffi3_place_spec.specs.Standard.{Standard, need_of}
+use Rattle.ffi3_script_spec.proofs.MadeRuns.{TellsWord}
 use Rattle.ffi3_bench.specs.BenchText.{greatest}
 
 -- a greater one comes

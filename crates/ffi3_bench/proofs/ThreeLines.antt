@@ -1,17 +1,17 @@
 -- Three lines, one after another; and that the made script is one that can be measured.
 use Rattle.std.proofs.Common.{◌≡◌, ℕ, ◌≤◌, List, ◌++◌, length, codes, refl, sym, ap, subst, ◌∙◌}
 use Rattle.std.specs.Prelude.{Result, Ok, Err}
-use Rattle.ffi3_type_rules.specs.Value.{void_value}
-use Rattle.ffi3_place_rules.specs.Standard.{Standard}
-use Rattle.ffi3_run_rules.specs.Lines.{untraced, text_of_run}
-use Rattle.ffi3_run_rules.specs.Meaning.{Program, meaning_of, returned}
-use Rattle.ffi3_amd64_rules.specs.Amd64.{amd64}
-use Rattle.ffi3_aapcs64_rules.specs.Aapcs64.{aapcs64}
-use Rattle.ffi3_riscv_rules.specs.Riscv.{riscv}
-use Rattle.ffi3_script_rules.specs.Script.{Script}
-use Rattle.ffi3_script_rules.specs.Meaning.{program_of}
-use Rattle.ffi3_script_rules.specs.Made.{made, made_types}
-use Rattle.ffi3_script_rules.proofs.MadeRuns.{NeedsLittle, made_returns}
+use Rattle.ffi3_type_spec.specs.Value.{void_value}
+use Rattle.ffi3_place_spec.specs.Standard.{Standard}
+use Rattle.ffi3_semantics_spec.specs.Lines.{untraced, text_of_run}
+use Rattle.ffi3_semantics_spec.specs.Meaning.{Program, meaning_of, returned}
+use Rattle.ffi3_amd64_spec.specs.Amd64.{amd64}
+use Rattle.ffi3_aapcs64_spec.specs.Aapcs64.{aapcs64}
+use Rattle.ffi3_riscv_spec.specs.Riscv.{riscv}
+use Rattle.ffi3_script_spec.specs.Script.{Script}
+use Rattle.ffi3_script_spec.specs.Meaning.{program_of}
+use Rattle.ffi3_script_spec.specs.Made.{made, made_types}
+use Rattle.ffi3_script_spec.proofs.MadeRuns.{NeedsLittle, made_returns}
 use Rattle.ffi3_io.specs.Sink.{SinkState}
 use Rattle.ffi3_io.specs.Written.{TookText, Wrote, WroteLine}
 use Rattle.ffi3_io.specs.declared.IoError.{IoError}

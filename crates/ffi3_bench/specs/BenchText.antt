@@ -1,16 +1,16 @@
 -- What bench writes: a line for each target, of the made script's run by its standard.
 use Rattle.std.specs.Prelude.{ℕ, ◌-◌, ◌/◌, max, List, [], ◌∷◌, ◌++◌, map, codes}
 use Rattle.std.specs.Fmt.{decimal}
-use Rattle.ffi3_place_rules.specs.Standard.{Standard}
-use Rattle.ffi3_amd64_rules.specs.Amd64.{amd64}
-use Rattle.ffi3_aapcs64_rules.specs.Aapcs64.{aapcs64}
-use Rattle.ffi3_riscv_rules.specs.Riscv.{riscv}
-use Rattle.ffi3_run_rules.specs.Journal.{JournalOf, IsWhole, events_in}
-use Rattle.ffi3_run_rules.specs.Lines.{untraced, text_of_run}
-use Rattle.ffi3_run_rules.specs.Meaning.{Program, meaning_of, most_moves}
-use Rattle.ffi3_run_rules.specs.Trace.{trace_of}
-use Rattle.ffi3_script_rules.specs.Meaning.{program_of}
-use Rattle.ffi3_script_rules.specs.Made.{made}
+use Rattle.ffi3_place_spec.specs.Standard.{Standard}
+use Rattle.ffi3_amd64_spec.specs.Amd64.{amd64}
+use Rattle.ffi3_aapcs64_spec.specs.Aapcs64.{aapcs64}
+use Rattle.ffi3_riscv_spec.specs.Riscv.{riscv}
+use Rattle.ffi3_semantics_spec.specs.Journal.{JournalOf, IsWhole, events_in}
+use Rattle.ffi3_semantics_spec.specs.Lines.{untraced, text_of_run}
+use Rattle.ffi3_semantics_spec.specs.Meaning.{Program, meaning_of, most_moves}
+use Rattle.ffi3_semantics_spec.specs.Trace.{trace_of}
+use Rattle.ffi3_script_spec.specs.Meaning.{program_of}
+use Rattle.ffi3_script_spec.specs.Made.{made}
 use Rattle.ffi3_machine.specs.State.{State}
 
 abbrev pub greatest : List ℕ → ℕ

@@ -1,21 +1,21 @@
 //! What the run of a script takes, by a standard.
 ghost use Rattle.std.specs.Prelude.{◌≡◌, ◌<◌, ◌≤◌, IfOk, OnOk, length, map};
-ghost use Rattle.ffi3_type_rules.specs.Value.{void_value};
-ghost use Rattle.ffi3_place_rules.specs.Standard.{need_of};
-ghost use Rattle.ffi3_run_rules.specs.Lines.{untraced, text_of_run};
-ghost use Rattle.ffi3_run_rules.specs.Meaning.{meaning_of, returned};
-ghost use Rattle.ffi3_script_rules.specs.Meaning.{program_of};
+ghost use Rattle.ffi3_type_spec.specs.Value.{void_value};
+ghost use Rattle.ffi3_place_spec.specs.Standard.{need_of};
+ghost use Rattle.ffi3_semantics_spec.specs.Lines.{untraced, text_of_run};
+ghost use Rattle.ffi3_semantics_spec.specs.Meaning.{meaning_of, returned};
+ghost use Rattle.ffi3_script_spec.specs.Meaning.{program_of};
 ghost use Rattle.ffi3_script.specs.ScriptOf.{script_of, natives_of};
 ghost use Rattle.ffi3_bench.specs.BenchText.{greatest, calls_of, moves_of, need_of_all, HasWholeJournal};
 
 use crate::line::LineSink;
-use ffi3_ask::Native;
-use ffi3_configuration::Cifs;
 use ffi3_machine::Machine;
+use ffi3_next_move::Native;
 use ffi3_place::Abi;
+use ffi3_run_state::Cifs;
 use ffi3_runner::{RunEnd, Runner};
 use ffi3_script::Script;
-use ffi3_type_rules::limits::MOST_MOVES;
+use ffi3_type_spec::limits::MOST_MOVES;
 use ffi3_types::NoMemory;
 use std::alloc::Global;
 

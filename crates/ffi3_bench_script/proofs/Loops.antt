@@ -1,10 +1,10 @@
 -- One turn of each loop, over plain variables.
 use Rattle.std.proofs.Common.{◌≡◌, ℕ, zero, suc, ◌+◌, ◌-◌, ◌*◌, ◌<◌, ◌≤◌, List, [], ◌∷◌, ◌++◌, map, sym, ap, ◌∙◌, append_assoc, append-nil, arith}
 use Rattle.std.proofs.lemmas.List.{map-append}
-use Rattle.ffi3_type_rules.specs.Tree.{Tree, scalar, u64}
-use Rattle.ffi3_script_rules.specs.Script.{Expression, outcome, sum, return, print, return_void}
-use Rattle.ffi3_script_rules.specs.Script as script
-use Rattle.ffi3_script_rules.specs.Made.{next_state, drawn, made_type, drawn_types, state_after, types_at, with_arguments, own_total, does, made_call, made_body, total_of, made_calls}
+use Rattle.ffi3_type_spec.specs.Tree.{Tree, scalar, u64}
+use Rattle.ffi3_script_spec.specs.Script.{Expression, outcome, sum, return, print, return_void}
+use Rattle.ffi3_script_spec.specs.Script as script
+use Rattle.ffi3_script_spec.specs.Made.{next_state, drawn, made_type, drawn_types, state_after, types_at, with_arguments, own_total, does, made_call, made_body, total_of, made_calls}
 use Rattle.ffi3_script_body.specs.ExprOf.{script_move_of, script_moves_of}
 use Rattle.ffi3_script_body.specs.declared.moves.ScriptMove.{ScriptMove}
 use Rattle.ffi3_bench_script.specs.KindOf.{type_of, types_of}

@@ -1,6 +1,6 @@
 -- Which types the kinds of the code are.
 use Rattle.std.specs.Prelude.{ℕ, List, [], ◌∷◌, map}
-use Rattle.ffi3_type_rules.specs.Tree.{Tree, scalar, u8, s32, u64, float, double, struct_of}
+use Rattle.ffi3_type_spec.specs.Tree.{Tree, scalar, u8, s32, u64, float, double, struct_of}
 use Rattle.ffi3_bench_script.specs.declared.kinds.Kind.{Kind}
 use Rattle.ffi3_bench_script.specs.declared.kinds.Kind.TheVariants.{Uint8, Sint32, Float, Double, TwoWords}
 use Rattle.ffi3_bench_script.specs.declared.kinds.Kind.TheVariants.{DoubleAndByte, TwoFloats, ThreeWords}

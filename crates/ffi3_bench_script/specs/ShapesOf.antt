@@ -1,6 +1,6 @@
 -- Which types are drawn.
 use Rattle.std.specs.Prelude.{List, [], ◌∷◌}
-use Rattle.ffi3_type_rules.specs.Tree.{Tree}
+use Rattle.ffi3_type_spec.specs.Tree.{Tree}
 use Rattle.ffi3_bench_script.specs.KindOf.{types_of}
 use Rattle.ffi3_bench_script.specs.declared.shapes.Shapes.{Shapes}
 

@@ -1,8 +1,8 @@
 // The bodies of the functions, and main.
 ghost use Rattle.std.specs.Prelude.{◌≡◌, ◌<◌, ◌≤◌, ◌+◌, ◌++◌, ◌∷◌, [], IfOk, OnOk, length};
-ghost use Rattle.ffi3_type_rules.specs.declared.limits.TheConstants.{MOST_CALLS};
-ghost use Rattle.ffi3_script_rules.specs.Script as script;
-ghost use Rattle.ffi3_script_rules.specs.Made.{does, makes, total_of};
+ghost use Rattle.ffi3_type_spec.specs.declared.limits.TheConstants.{MOST_CALLS};
+ghost use Rattle.ffi3_script_spec.specs.Script as script;
+ghost use Rattle.ffi3_script_spec.specs.Made.{does, makes, total_of};
 ghost use Rattle.ffi3_script_body.specs.ExprOf.{expression_of, act_of, script_move_of, script_moves_of};
 
 use crate::filling::{arguments, number};
@@ -58,7 +58,7 @@ fn total_of(alloc: Global, j: u32) -> Result<Expr, NoMemory>
 
 impl Shapes {
     ghost use Rattle.std.specs.Prelude.{◌≡◌, ◌<◌, ◌≤◌, ◌+◌, ◌*◌, IfOk, OnOk, length};
-    ghost use Rattle.ffi3_script_rules.specs.Made.{types_at, made_call, made_body, made_main, own_total, state_after};
+    ghost use Rattle.ffi3_script_spec.specs.Made.{types_at, made_call, made_body, made_main, own_total, state_after};
     ghost use Rattle.ffi3_script_body.specs.ExprOf.{expression_of, script_move_of, script_moves_of};
     ghost use Rattle.ffi3_bench_script.specs.KindOf.{state_of};
     ghost use Rattle.ffi3_bench_script.specs.ShapesOf.{types_in};

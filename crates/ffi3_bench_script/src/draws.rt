@@ -1,6 +1,6 @@
 // Numbers drawn from a seed.
 ghost use Rattle.std.specs.Prelude.{◌≡◌, ◌<◌};
-ghost use Rattle.ffi3_script_rules.specs.Made.{first_state, next_state, drawn};
+ghost use Rattle.ffi3_script_spec.specs.Made.{first_state, next_state, drawn};
 ghost use Rattle.ffi3_bench_script.specs.KindOf.{state_of};
 
 /// A state that each draw moves on.
@@ -11,7 +11,7 @@ pub struct Draws {
 
 impl Draws {
     ghost use Rattle.std.specs.Prelude.{◌≡◌, ◌<◌};
-    ghost use Rattle.ffi3_script_rules.specs.Made.{first_state, next_state, drawn};
+    ghost use Rattle.ffi3_script_spec.specs.Made.{first_state, next_state, drawn};
     ghost use Rattle.ffi3_bench_script.specs.KindOf.{state_of};
 
     /// No draw yet from this seed.

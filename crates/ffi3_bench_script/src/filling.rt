@@ -1,9 +1,9 @@
 // Values that are filled with numbers.
 ghost use Rattle.std.specs.Prelude.{◌≡◌, ◌<◌, ◌≤◌, ◌+◌, ◌++◌, ◌∷◌, [], IfOk, OnOk, true, length, map};
 ghost use Rattle.ffi3_types.specs.TreeOf.{tree_of};
-ghost use Rattle.ffi3_type_rules.specs.Tree.{u8, u64, float, double};
-ghost use Rattle.ffi3_type_rules.specs.Integer.{is_number_type, scalar_of};
-ghost use Rattle.ffi3_script_rules.specs.Made.{number, filled_leaf, filled, filled_arguments};
+ghost use Rattle.ffi3_type_spec.specs.Tree.{u8, u64, float, double};
+ghost use Rattle.ffi3_type_spec.specs.Integer.{is_number_type, scalar_of};
+ghost use Rattle.ffi3_script_spec.specs.Made.{number, filled_leaf, filled, filled_arguments};
 ghost use Rattle.ffi3_script_body.specs.ExprOf.{expression_of};
 ghost use Rattle.ffi3_bench_script.specs.KindOf.{type_of, types_of};
 

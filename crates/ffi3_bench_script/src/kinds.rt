@@ -1,8 +1,8 @@
 // The eight types of arguments.
 ghost use Rattle.std.specs.Prelude.{◌≡◌, ◌<◌, ◌≤◌, IfOk, [], ◌∷◌};
-ghost use Rattle.ffi3_type_rules.specs.Tree.{scalar, u64};
+ghost use Rattle.ffi3_type_spec.specs.Tree.{scalar, u64};
 ghost use Rattle.ffi3_types.specs.TreeOf.{tree_of};
-ghost use Rattle.ffi3_script_rules.specs.Made.{made_type, leaves_in};
+ghost use Rattle.ffi3_script_spec.specs.Made.{made_type, leaves_in};
 ghost use Rattle.ffi3_bench_script.specs.KindOf.{type_of};
 
 use crate::NoMemory;
@@ -45,7 +45,7 @@ fn three_words(alloc: Global) -> Result<Fields, NoMemory>
 impl Kind {
     ghost use Rattle.std.specs.Prelude.{◌≡◌, ◌<◌, ◌≤◌, IfOk};
     ghost use Rattle.ffi3_types.specs.TreeOf.{tree_of};
-    ghost use Rattle.ffi3_script_rules.specs.Made.{made_type, leaves_in};
+    ghost use Rattle.ffi3_script_spec.specs.Made.{made_type, leaves_in};
     ghost use Rattle.ffi3_bench_script.specs.KindOf.{type_of};
 
     /// The kind of this number.

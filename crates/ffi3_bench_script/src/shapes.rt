@@ -1,6 +1,6 @@
 // The argument types of the four functions.
 ghost use Rattle.std.specs.Prelude.{◌≡◌, ◌<◌, ◌≤◌, ◌++◌, ◌∷◌, [], IfOk, OnOk, length, map};
-ghost use Rattle.ffi3_script_rules.specs.Made.{drawn_arguments, after_arguments, made_signature};
+ghost use Rattle.ffi3_script_spec.specs.Made.{drawn_arguments, after_arguments, made_signature};
 ghost use Rattle.ffi3_bench_script.specs.KindOf.{types_of, state_of};
 
 use crate::kinds::Kind;
@@ -57,7 +57,7 @@ fn signature(alloc: Global, kinds: &[Kind]) -> Result<Sig, NoMemory>
 
 impl Shapes {
     ghost use Rattle.std.specs.Prelude.{◌≡◌, ◌<◌, ◌≤◌, IfOk, OnOk, length, map};
-    ghost use Rattle.ffi3_script_rules.specs.Made.{made_types, made_signature, types_at, state_before, first_state};
+    ghost use Rattle.ffi3_script_spec.specs.Made.{made_types, made_signature, types_at, state_before, first_state};
     ghost use Rattle.ffi3_bench_script.specs.KindOf.{types_of, state_of};
     ghost use Rattle.ffi3_bench_script.specs.ShapesOf.{types_in};
     ghost use Rattle.std.specs.Prelude.{ℕ};

@@ -1,10 +1,10 @@
 // Sums of the integers that a function is handed.
 ghost use Rattle.std.specs.Prelude.{◌≡◌, ◌≤◌, IfOk, length};
 ghost use Rattle.ffi3_types.specs.TreeOf.{tree_of};
-ghost use Rattle.ffi3_type_rules.specs.Tree.{u64};
-ghost use Rattle.ffi3_type_rules.specs.Integer.{scalar_of};
-ghost use Rattle.ffi3_script_rules.specs.Script as script;
-ghost use Rattle.ffi3_script_rules.specs.Made.{with_leaves, with_arguments};
+ghost use Rattle.ffi3_type_spec.specs.Tree.{u64};
+ghost use Rattle.ffi3_type_spec.specs.Integer.{scalar_of};
+ghost use Rattle.ffi3_script_spec.specs.Script as script;
+ghost use Rattle.ffi3_script_spec.specs.Made.{with_leaves, with_arguments};
 ghost use Rattle.ffi3_script_body.specs.ExprOf.{expression_of};
 ghost use Rattle.ffi3_bench_script.specs.KindOf.{type_of, types_of};
 

@@ -4,17 +4,17 @@ use Rattle.std.specs.List.{sum_by}
 use Rattle.std.proofs.Math.Seq.{take-suc}
 use Rattle.std.proofs.lemmas.List.{drop-drop, get_or_default}
 use Rattle.std.proofs.lemmas.List.Sums.{sum_by_more_le, sum_by-cons, sum_by_push, sum_by-le}
-use Rattle.ffi3_type_rules.specs.declared.limits.TheConstants.{LARGEST_TYPE}
-use Rattle.ffi3_type_rules.specs.declared.Role.TheVariants.{AsArgument}
-use Rattle.ffi3_type_rules.specs.Tree.{Tree, void, tree_at}
-use Rattle.ffi3_type_rules.specs.Layout.{size_of, least_multiple}
-use Rattle.ffi3_type_rules.specs.Signature.{Signature, SignatureHasNoFault}
-use Rattle.ffi3_type_rules.specs.Value.{ValueTree, value_in, part}
-use Rattle.ffi3_type_rules.proofs.Layouts.{least_multiple-above, least_multiple-below}
-use Rattle.ffi3_type_rules.proofs.Faults.{right_is_small}
-use Rattle.ffi3_type_rules.proofs.Right.{argument_is_right, few_arguments}
-use Rattle.ffi3_type_rules.proofs.Values.{value_at}
-use Rattle.ffi3_place_rules.specs.Standard.{round8, block_bytes}
+use Rattle.ffi3_type_spec.specs.declared.limits.TheConstants.{LARGEST_TYPE}
+use Rattle.ffi3_type_spec.specs.declared.Role.TheVariants.{AsArgument}
+use Rattle.ffi3_type_spec.specs.Tree.{Tree, void, tree_at}
+use Rattle.ffi3_type_spec.specs.Layout.{size_of, least_multiple}
+use Rattle.ffi3_type_spec.specs.Signature.{Signature, SignatureHasNoFault}
+use Rattle.ffi3_type_spec.specs.Value.{ValueTree, value_in, part}
+use Rattle.ffi3_type_spec.proofs.Layouts.{least_multiple-above, least_multiple-below}
+use Rattle.ffi3_type_spec.proofs.Faults.{right_is_small}
+use Rattle.ffi3_type_spec.proofs.Right.{argument_is_right, few_arguments}
+use Rattle.ffi3_type_spec.proofs.Values.{value_at}
+use Rattle.ffi3_place_spec.specs.Standard.{round8, block_bytes}
 use Rattle.ffi3_body.specs.SeenActivation.{block_offset, arguments_in}
 
 abbrev whole_size : Tree → ℕ

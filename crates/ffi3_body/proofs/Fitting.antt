@@ -1,16 +1,16 @@
 -- The arguments in a block fit their types.
 use Rattle.std.proofs.Common.{◌≡◌, ℕ, suc, ◌<◌, true, List, [], ◌∷◌, length, drop, refl, ap, arith}
-use Rattle.ffi3_type_rules.specs.Tree.{Tree, trees_of, tree_at}
-use Rattle.ffi3_type_rules.specs.Layout.{size_of}
-use Rattle.ffi3_type_rules.specs.Signature.{Signature, SignatureHasNoFault}
-use Rattle.ffi3_type_rules.specs.Value.{values_of, part, fits, all_fit}
-use Rattle.ffi3_type_rules.proofs.Fitting.{value_fits}
-use Rattle.ffi3_type_rules.proofs.Layouts.{least_multiple-above}
-use Rattle.ffi3_type_rules.proofs.Parts.{length_part}
-use Rattle.ffi3_type_rules.proofs.Right.{argument_is_laid_out}
-use Rattle.ffi3_type_rules.proofs.Values.{value_at}
-use Rattle.ffi3_type_rules.proofs.ValueElements.{fit_by_elements}
-use Rattle.ffi3_place_rules.specs.Standard.{block_bytes, round8}
+use Rattle.ffi3_type_spec.specs.Tree.{Tree, trees_of, tree_at}
+use Rattle.ffi3_type_spec.specs.Layout.{size_of}
+use Rattle.ffi3_type_spec.specs.Signature.{Signature, SignatureHasNoFault}
+use Rattle.ffi3_type_spec.specs.Value.{values_of, part, fits, all_fit}
+use Rattle.ffi3_type_spec.proofs.Fitting.{value_fits}
+use Rattle.ffi3_type_spec.proofs.Layouts.{least_multiple-above}
+use Rattle.ffi3_type_spec.proofs.Parts.{length_part}
+use Rattle.ffi3_type_spec.proofs.Right.{argument_is_laid_out}
+use Rattle.ffi3_type_spec.proofs.Values.{value_at}
+use Rattle.ffi3_type_spec.proofs.ValueElements.{fit_by_elements}
+use Rattle.ffi3_place_spec.specs.Standard.{block_bytes, round8}
 use Rattle.ffi3_body.specs.SeenActivation.{block_offset, arguments_in}
 use Rattle.ffi3_body.proofs.Blocks.{argument_here, whole_within}
 

@@ -3,10 +3,10 @@ use Rattle.std.proofs.Common.{◌≡◌, ℕ, List, [], ◌∷◌, ◌++◌, len
 use Rattle.std.proofs.lemmas.Bool.{cases_lt}
 use Rattle.std.proofs.lemmas.List.{get_or_append_left, take-append-le}
 use Rattle.std.proofs.Math.Seq.{take-append_seam}
-use Rattle.ffi3_type_rules.specs.Signature.{Signature}
-use Rattle.ffi3_type_rules.specs.Value.{ValueTree, void_value}
-use Rattle.ffi3_type_rules.proofs.Values.{get_or-append_at}
-use Rattle.ffi3_run_rules.specs.Move.{Behaviour, result_type_of}
+use Rattle.ffi3_type_spec.specs.Signature.{Signature}
+use Rattle.ffi3_type_spec.specs.Value.{ValueTree, void_value}
+use Rattle.ffi3_type_spec.proofs.Values.{get_or-append_at}
+use Rattle.ffi3_semantics_spec.specs.Move.{Behaviour, result_type_of}
 use Rattle.ffi3_body.specs.Follow.{IsOfType, ResultsFollow}
 
 module _ (signatures : List Signature) (behaviour : Behaviour) (arguments : List ValueTree) (user : ℕ) where

@@ -1,9 +1,9 @@
 -- Results follow: each fits the move that those before it give.
 use Rattle.std.specs.Prelude.{◌≡◌, ℕ, ◌<◌, true, List, length, take, slice_index_or, Option, Some, None}
-use Rattle.ffi3_type_rules.specs.Tree.{Tree}
-use Rattle.ffi3_type_rules.specs.Signature.{Signature}
-use Rattle.ffi3_type_rules.specs.Value.{ValueTree, void_value, fits}
-use Rattle.ffi3_run_rules.specs.Move.{Behaviour, result_type_of}
+use Rattle.ffi3_type_spec.specs.Tree.{Tree}
+use Rattle.ffi3_type_spec.specs.Signature.{Signature}
+use Rattle.ffi3_type_spec.specs.Value.{ValueTree, void_value, fits}
+use Rattle.ffi3_semantics_spec.specs.Move.{Behaviour, result_type_of}
 
 -- where there is no type there is no value of it
 abbrev pub IsOfType : ValueTree → Option Tree → Type 0

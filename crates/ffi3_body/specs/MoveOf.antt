@@ -1,7 +1,7 @@
 -- Which move a move of the code is.
 use Rattle.ffi3_types.specs.TreeOf.{tree_of}
 use Rattle.ffi3_values.specs.ValueOf.{value_of}
-use Rattle.ffi3_run_rules.specs.Move.{Move as RunMove, call, make, free, print, return}
+use Rattle.ffi3_semantics_spec.specs.Move.{Move as RunMove, call, make, free, print, return}
 use Rattle.ffi3_body.specs.declared.Move.{Move}
 use Rattle.ffi3_body.specs.declared.Move.TheVariants.{Call, Make, Free, Print, Return}
 

@@ -2,11 +2,11 @@
 use Rattle.std.specs.Prelude.{ℕ, List, [], ◌∷◌, take, drop, refl}
 use Rattle.std.specs.List.{sum_by}
 use Rattle.std.specs.Coded.{Coded, code_by, coded×, coded_list, coded_ℕ}
-use Rattle.ffi3_type_rules.specs.Tree.{Tree, tree_at}
-use Rattle.ffi3_type_rules.specs.Layout.{size_of}
-use Rattle.ffi3_type_rules.specs.Signature.{Signature, signature_code}
-use Rattle.ffi3_type_rules.specs.Value.{ValueTree, value_in, part, value_list_code}
-use Rattle.ffi3_place_rules.specs.Standard.{round8}
+use Rattle.ffi3_type_spec.specs.Tree.{Tree, tree_at}
+use Rattle.ffi3_type_spec.specs.Layout.{size_of}
+use Rattle.ffi3_type_spec.specs.Signature.{Signature, signature_code}
+use Rattle.ffi3_type_spec.specs.Value.{ValueTree, value_in, part, value_list_code}
+use Rattle.ffi3_place_spec.specs.Standard.{round8}
 
 pub record SeenActivation : Type 0 where
   pub signature : Signature

@@ -2,8 +2,8 @@
 #![tactic(auto)]
 
 ghost use Rattle.std.specs.Prelude.{◌≡◌, ◌<◌, IfOk, length, All, ℕ, List};
-ghost use Rattle.ffi3_type_rules.specs.Signature.{Signature, signature_at, SignatureHasNoFault};
-ghost use Rattle.ffi3_run_rules.specs.Move.{Behaviour, MoveFits};
+ghost use Rattle.ffi3_type_spec.specs.Signature.{Signature, signature_at, SignatureHasNoFault};
+ghost use Rattle.ffi3_semantics_spec.specs.Move.{Behaviour, MoveFits};
 ghost use Rattle.ffi3_body.specs.MoveOf.{move_of};
 ghost use Rattle.ffi3_body.specs.SeenActivation.{arguments_of};
 ghost use Rattle.ffi3_body.specs.Follow.{ResultsFollow};

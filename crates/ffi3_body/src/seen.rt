@@ -1,17 +1,17 @@
 // What an activation has seen.
 ghost use Rattle.std.specs.Prelude.{◌≡◌, ◌+◌, ◌<◌, ◌≤◌, ◌^◌, IfOk, length, true, slice_index_or};
-ghost use Rattle.ffi3_type_rules.specs.declared.limits.TheConstants.{LARGEST_TYPE};
-ghost use Rattle.ffi3_type_rules.specs.Tree.{tree_at, trees_of};
-ghost use Rattle.ffi3_type_rules.specs.Value.{void_value, values_of, fits, all_fit};
-ghost use Rattle.ffi3_type_rules.specs.Layout.{size_of};
-ghost use Rattle.ffi3_type_rules.specs.Fault.{IsLaidOut, IsResultType};
-ghost use Rattle.ffi3_type_rules.specs.Signature.{SignatureHasNoFault};
-ghost use Rattle.ffi3_place_rules.specs.Standard.{block_bytes, round8};
+ghost use Rattle.ffi3_type_spec.specs.declared.limits.TheConstants.{LARGEST_TYPE};
+ghost use Rattle.ffi3_type_spec.specs.Tree.{tree_at, trees_of};
+ghost use Rattle.ffi3_type_spec.specs.Value.{void_value, values_of, fits, all_fit};
+ghost use Rattle.ffi3_type_spec.specs.Layout.{size_of};
+ghost use Rattle.ffi3_type_spec.specs.Fault.{IsLaidOut, IsResultType};
+ghost use Rattle.ffi3_type_spec.specs.Signature.{SignatureHasNoFault};
+ghost use Rattle.ffi3_place_spec.specs.Standard.{block_bytes, round8};
 ghost use Rattle.ffi3_types.specs.TreeOf.{tree_of};
 ghost use Rattle.ffi3_values.specs.ValueOf.{value_of};
 ghost use Rattle.ffi3_body.specs.SeenActivation.{argument_bytes, arguments_of, block_offset};
 
-use ffi3_type_rules::round_up;
+use ffi3_type_spec::round_up;
 use ffi3_types::{FfiType, NoMemory, Sig};
 use ffi3_values::{Value, Values, value_from_bytes};
 use std::alloc::Global;
@@ -28,8 +28,8 @@ pub struct Seen<'a> {
 
 impl<'a> Model for Seen<'a> {
     ghost use Rattle.std.specs.Prelude.{◌≡◌, length};
-    ghost use Rattle.ffi3_type_rules.specs.Signature.{SignatureHasNoFault};
-    ghost use Rattle.ffi3_place_rules.specs.Standard.{block_bytes};
+    ghost use Rattle.ffi3_type_spec.specs.Signature.{SignatureHasNoFault};
+    ghost use Rattle.ffi3_place_spec.specs.Standard.{block_bytes};
     ghost use Rattle.ffi3_body.specs.SeenActivation.{SeenActivation, activation_code};
 
     ghost Value = { SeenActivation };

@@ -1,10 +1,10 @@
 -- Worked lines of place on AMD64, computed.
 use Rattle.std.specs.Prelude.{◌≡◌, ℕ, List, [], ◌∷◌, ◌++◌, refl, None, Some, codes}
 use Rattle.std.specs.Fmt.{digits}
-use Rattle.ffi3_type_rules.specs.Tree.{Tree, void, scalar, struct_of, s8, s32, u64, s64, u128, float, double, pointer}
-use Rattle.ffi3_type_rules.specs.Layout.{least_multiple}
-use Rattle.ffi3_type_rules.specs.Signature.{Signature, at_result, at_argument}
-use Rattle.ffi3_amd64_rules.specs.Amd64.{amd64}
+use Rattle.ffi3_type_spec.specs.Tree.{Tree, void, scalar, struct_of, s8, s32, u64, s64, u128, float, double, pointer}
+use Rattle.ffi3_type_spec.specs.Layout.{least_multiple}
+use Rattle.ffi3_type_spec.specs.Signature.{Signature, at_result, at_argument}
+use Rattle.ffi3_amd64_spec.specs.Amd64.{amd64}
 use Rattle.ffi3_text.specs.PlaceLines.{place_text_of, sig_text_of}
 
 abbrev sig_of : Tree → List Tree → Signature

@@ -6,7 +6,7 @@ use ffi3_apple::Apple;
 use ffi3_caller::store_args;
 use ffi3_cif::Cif;
 use ffi3_machine::{Machine, NoMemory, STACK};
-use ffi3_pieces::{passed_floating, passed_general};
+use ffi3_machine_transfer::{passed_floating, passed_general};
 use ffi3_place::Abi;
 use ffi3_riscv::Riscv;
 use ffi3_types::Bytes;

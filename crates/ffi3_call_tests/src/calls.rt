@@ -1,8 +1,8 @@
 //! Whole calls of a closure by `begin_call` and `end_call`, on each target, of values that are written out by hand.
 ghost use Rattle.std.specs.Prelude.{◌≡◌, length, true};
-ghost use Rattle.ffi3_type_rules.specs.Layout.{size_of};
-ghost use Rattle.ffi3_type_rules.specs.Tree.{trees_of};
-ghost use Rattle.ffi3_type_rules.specs.Value.{all_fit, fits, values_of};
+ghost use Rattle.ffi3_type_spec.specs.Layout.{size_of};
+ghost use Rattle.ffi3_type_spec.specs.Tree.{trees_of};
+ghost use Rattle.ffi3_type_spec.specs.Value.{all_fit, fits, values_of};
 ghost use Rattle.ffi3_values.specs.ValueOf.{value_of};
 ghost use Rattle.ffi3_callee.specs.Received.{IsIncoming};
 
@@ -18,7 +18,7 @@ use ffi3_invoke::{begin_call, end_call};
 use ffi3_machine::{Machine, NoMemory};
 use ffi3_place::Abi;
 use ffi3_riscv::Riscv;
-use ffi3_type_rules::limits::LARGEST_TYPE;
+use ffi3_type_spec::limits::LARGEST_TYPE;
 use ffi3_types::Bytes;
 use ffi3_values::{Value, Values, fits};
 use ffi3_win64::Win64;

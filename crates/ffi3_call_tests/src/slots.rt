@@ -1,15 +1,15 @@
 //! Calls of closures through their slots, on each target: what the callee has and what the caller loads is what was
 //! sent, and the caller's registers come back.
 ghost use Rattle.std.specs.Prelude.{◌≡◌, ◌+◌, ◌<◌, ◌≤◌, IfOk, IsSome, List, length, true};
-ghost use Rattle.ffi3_type_rules.specs.declared.limits.TheConstants.{ENTRY, STACK, STACK_TOP};
-ghost use Rattle.ffi3_type_rules.specs.Layout.{size_of};
-ghost use Rattle.ffi3_type_rules.specs.Tree.{trees_of};
-ghost use Rattle.ffi3_type_rules.specs.Value.{ValueTree, all_fit, fits, values_of};
-ghost use Rattle.ffi3_place_rules.specs.Standard.{frame_of, need_of};
-ghost use Rattle.ffi3_run_rules.specs.Closures.{closure_at};
+ghost use Rattle.ffi3_type_spec.specs.declared.limits.TheConstants.{ENTRY, STACK, STACK_TOP};
+ghost use Rattle.ffi3_type_spec.specs.Layout.{size_of};
+ghost use Rattle.ffi3_type_spec.specs.Tree.{trees_of};
+ghost use Rattle.ffi3_type_spec.specs.Value.{ValueTree, all_fit, fits, values_of};
+ghost use Rattle.ffi3_place_spec.specs.Standard.{frame_of, need_of};
+ghost use Rattle.ffi3_semantics_spec.specs.Closures.{closure_at};
 ghost use Rattle.ffi3_machine.specs.State.{HasReturnAddress, IsSlot};
 ghost use Rattle.ffi3_closures.specs.Slots.{HoldsMap};
-ghost use Rattle.ffi3_pieces.specs.Stored.{WroteWithin};
+ghost use Rattle.ffi3_machine_transfer.specs.Stored.{WroteWithin};
 ghost use Rattle.ffi3_values.specs.ValueOf.{value_of};
 ghost use Rattle.ffi3_callee.specs.Received.{IsIncoming, OwnsAtEntry};
 ghost use Rattle.ffi3_invoke.specs.Calls.{IsCalled};
@@ -26,7 +26,7 @@ use ffi3_json::{Where, parse, read_signature};
 use ffi3_machine::{Event, Machine, NoMemory};
 use ffi3_place::{Abi, Loc};
 use ffi3_riscv::Riscv;
-use ffi3_type_rules::limits::LARGEST_TYPE;
+use ffi3_type_spec::limits::LARGEST_TYPE;
 use ffi3_types::{Bytes, CheckedType, FfiType, Sig};
 use ffi3_values::{Value, Values, fits, value_from_bytes, value_text};
 use ffi3_win64::Win64;

@@ -4,32 +4,33 @@ use Rattle.std.proofs.Common.{◌≡◌, ◌⊎◌, inl, inr, ℕ, zero, suc, �
 use Rattle.std.specs.List.{AllByRecursion}
 use Rattle.std.specs.Int.{w64, from_le_bytes}
 use Rattle.std.proofs.lemmas.Bool.{cases_lt}
-use Rattle.ffi3_type_rules.specs.declared.Isa.{Isa}
-use Rattle.ffi3_type_rules.specs.declared.Isa.TheVariants.{Amd64, Aarch64, Riscv}
-use Rattle.ffi3_type_rules.specs.declared.limits.TheConstants.{STACK, STACK_TOP}
-use Rattle.ffi3_type_rules.specs.Isa.{isa_of}
-use Rattle.ffi3_place_rules.specs.declared.Loc.{Loc}
-use Rattle.ffi3_place_rules.specs.declared.Loc.TheVariants.{G, F, S}
-use Rattle.ffi3_place_rules.specs.declared.SaveWord.{SaveWord}
-use Rattle.ffi3_place_rules.specs.declared.SaveWord.TheVariants.{Register, Hidden, Spare}
-use Rattle.ffi3_place_rules.specs.Isa.{area_bytes, entry_scratch, entry_stores, hidden_register, to_list, callee_saved_words, spare_words}
-use Rattle.ffi3_place_rules.specs.Standard.{Standard}
-use Rattle.ffi3_place_rules.specs.Agrees.{AgreesWithMachine}
-use Rattle.ffi3_place_rules.specs.ByStubs.{AgreesWithStubs}
-use Rattle.ffi3_place_rules.specs.Sound.{IsNoneOf, IsOneOf}
-use Rattle.ffi3_place_rules.proofs.Forbidden.{each_exists}
-use Rattle.ffi3_place_rules.proofs.Tests.{each_at}
+use Rattle.ffi3_type_spec.specs.declared.Isa.{Isa}
+use Rattle.ffi3_type_spec.specs.declared.Isa.TheVariants.{Amd64, Aarch64, Riscv}
+use Rattle.ffi3_type_spec.specs.declared.limits.TheConstants.{STACK, STACK_TOP}
+use Rattle.ffi3_type_spec.specs.TargetIsa.{isa_of}
+use Rattle.ffi3_place_spec.specs.declared.Loc.{Loc}
+use Rattle.ffi3_place_spec.specs.declared.Loc.TheVariants.{G, F, S}
+use Rattle.ffi3_place_spec.specs.declared.SaveWord.{SaveWord}
+use Rattle.ffi3_place_spec.specs.declared.SaveWord.TheVariants.{Register, Hidden, Spare}
+use Rattle.ffi3_place_spec.specs.MachineRegisters.{to_list}
+use Rattle.ffi3_place_spec.specs.StubRegisters.{area_bytes, entry_scratch, entry_stores, hidden_register, callee_saved_words, spare_words}
+use Rattle.ffi3_place_spec.specs.Standard.{Standard}
+use Rattle.ffi3_place_spec.specs.Agrees.{AgreesWithMachine}
+use Rattle.ffi3_place_spec.specs.ByStubs.{AgreesWithStubs}
+use Rattle.ffi3_place_spec.specs.Sound.{IsNoneOf, IsOneOf}
+use Rattle.ffi3_place_spec.proofs.Forbidden.{each_exists}
+use Rattle.ffi3_place_spec.proofs.Tests.{each_at}
 use Rattle.ffi3_memory.specs.Memory.{low_bytes, number_of}
 use Rattle.ffi3_machine.specs.State.{State, IsMachine, with_sp, with_x}
 use Rattle.ffi3_machine.specs.Stubs.{Entry}
 use Rattle.ffi3_stubs.specs.Effects.{held}
 use Rattle.ffi3_stubs.specs.Calls.{CameFromWords, HasEntered, WentToWords, steps_of}
-use Rattle.ffi3_pieces.specs.Passing.{by_exchange, passing, passing_if}
-use Rattle.ffi3_pieces.specs.Stored.{IsPlace, SameAt, WroteOnly, stack_byte, word_in}
-use Rattle.ffi3_pieces.proofs.Held.{held_small, left_by, stored_as_passed, word_held}
+use Rattle.ffi3_machine_transfer.specs.Passing.{by_exchange, passing, passing_if}
+use Rattle.ffi3_machine_transfer.specs.Stored.{IsPlace, SameAt, WroteOnly, stack_byte, word_in}
+use Rattle.ffi3_machine_transfer.proofs.Held.{held_small, left_by, stored_as_passed, word_held}
 use Rattle.ffi3_marshal.proofs.Lawful.{machine_places}
-use Rattle.ffi3_pieces.proofs.Passing.{steps_more, steps_same, told_there, word_read, word_stored}
-use Rattle.ffi3_pieces.proofs.Tables.{each_with, one_of_each, reserved_not_entered}
+use Rattle.ffi3_machine_transfer.proofs.Passing.{steps_more, steps_same, told_there, word_read, word_stored}
+use Rattle.ffi3_machine_transfer.proofs.Tables.{each_with, one_of_each, reserved_not_entered}
 use Rattle.ffi3_callee.specs.Entered.{IsEntered}
 use Rattle.ffi3_callee.specs.Saved.{AreGivenBack, AreSaved, HoldRegisters, IsHiddenWord, IsToSave, saved_word}
 use Rattle.ffi3_callee.proofs.Keeping.{reserved_there}

@@ -4,32 +4,32 @@ use Rattle.std.proofs.Common.{◌≡◌, ℕ, zero, suc, ◌+◌, ◌-◌, ◌<�
 use Rattle.std.specs.List.{AllByRecursion}
 use Rattle.std.proofs.lemmas.Bool.{cases_lt}
 use Rattle.std.proofs.lemmas.List.{drop_more, ext_get_or}
-use Rattle.ffi3_type_rules.specs.declared.Target.{Target}
-use Rattle.ffi3_type_rules.specs.declared.Target.TheVariants.{Amd64}
-use Rattle.ffi3_type_rules.specs.Tree.{Tree, tree_at}
-use Rattle.ffi3_type_rules.specs.Layout.{size_of}
-use Rattle.ffi3_type_rules.specs.Signature.{Signature, SignatureHasNoFault}
-use Rattle.ffi3_type_rules.specs.Value.{ValueTree, void_value, value_in}
-use Rattle.ffi3_type_rules.proofs.Layouts.{least_multiple-above}
-use Rattle.ffi3_type_rules.proofs.Parts.{index_part, length_part, same_part}
-use Rattle.ffi3_place_rules.specs.declared.Loc.{Loc}
-use Rattle.ffi3_place_rules.specs.declared.Loc.TheVariants.{G, F, S}
-use Rattle.ffi3_place_rules.specs.declared.Place.{Place}
-use Rattle.ffi3_place_rules.specs.declared.Place.TheVariants.{Direct, ByRef}
-use Rattle.ffi3_place_rules.specs.Image.{Image}
-use Rattle.ffi3_place_rules.specs.Standard.{Standard, block_bytes, frame_of, plan_of, round8}
-use Rattle.ffi3_place_rules.specs.Holds.{OwnsArgument, OwnsArguments}
-use Rattle.ffi3_place_rules.specs.Sound.{IsSound, argument_locs}
-use Rattle.ffi3_place_rules.proofs.Elements.{argument_read}
-use Rattle.ffi3_type_rules.specs.declared.limits.TheConstants.{STACK, STACK_BYTES, STACK_TOP}
+use Rattle.ffi3_type_spec.specs.declared.Target.{Target}
+use Rattle.ffi3_type_spec.specs.declared.Target.TheVariants.{Amd64}
+use Rattle.ffi3_type_spec.specs.Tree.{Tree, tree_at}
+use Rattle.ffi3_type_spec.specs.Layout.{size_of}
+use Rattle.ffi3_type_spec.specs.Signature.{Signature, SignatureHasNoFault}
+use Rattle.ffi3_type_spec.specs.Value.{ValueTree, void_value, value_in}
+use Rattle.ffi3_type_spec.proofs.Layouts.{least_multiple-above}
+use Rattle.ffi3_type_spec.proofs.Parts.{index_part, length_part, same_part}
+use Rattle.ffi3_place_spec.specs.declared.Loc.{Loc}
+use Rattle.ffi3_place_spec.specs.declared.Loc.TheVariants.{G, F, S}
+use Rattle.ffi3_place_spec.specs.declared.Place.{Place}
+use Rattle.ffi3_place_spec.specs.declared.Place.TheVariants.{Direct, ByRef}
+use Rattle.ffi3_place_spec.specs.Image.{Image}
+use Rattle.ffi3_place_spec.specs.Standard.{Standard, block_bytes, frame_of, plan_of, round8}
+use Rattle.ffi3_place_spec.specs.Holds.{OwnsArgument, OwnsArguments}
+use Rattle.ffi3_place_spec.specs.Sound.{IsSound, argument_locs}
+use Rattle.ffi3_place_spec.proofs.Elements.{argument_read}
+use Rattle.ffi3_type_spec.specs.declared.limits.TheConstants.{STACK, STACK_BYTES, STACK_TOP}
 use Rattle.ffi3_machine.specs.State.{State, stack_at, stored}
-use Rattle.ffi3_pieces.specs.Stored.{IsWritable, SameAt, WroteOnly, WroteWithin}
-use Rattle.ffi3_pieces.specs.Standing.{IsReady, AreReady}
+use Rattle.ffi3_machine_transfer.specs.Stored.{IsWritable, SameAt, WroteOnly, WroteWithin}
+use Rattle.ffi3_machine_transfer.specs.Standing.{IsReady, AreReady}
 use Rattle.ffi3_marshal.proofs.Arguments.{place_read}
-use Rattle.ffi3_pieces.proofs.Composing.{only_nothing, only_then, only_wider}
+use Rattle.ffi3_machine_transfer.proofs.Composing.{only_nothing, only_then, only_wider}
 use Rattle.ffi3_marshal.proofs.Lawful.{all_ready}
-use Rattle.ffi3_pieces.proofs.Stepping.{same_word_in}
-use Rattle.ffi3_pieces.proofs.Putting.{stored_inside, stored_within}
+use Rattle.ffi3_machine_transfer.proofs.Stepping.{same_word_in}
+use Rattle.ffi3_machine_transfer.proofs.Putting.{stored_inside, stored_within}
 use Rattle.ffi3_body.specs.SeenActivation.{block_offset, arguments_in}
 use Rattle.ffi3_body.proofs.Blocks.{offset-turn, whole_within, arguments_by_each}
 use Rattle.ffi3_callee.specs.Loaded.{AreFound, IsFound, IsRead, image_from}

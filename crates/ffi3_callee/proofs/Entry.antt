@@ -4,40 +4,41 @@ use Rattle.std.specs.Prelude.{Option}
 use Rattle.std.specs.List.{AllByRecursion, flat_map}
 use Rattle.std.specs.Int.{w64, from_le_bytes}
 use Rattle.std.proofs.lemmas.List.{drop-drop, drop-take, get_or-drop}
-use Rattle.ffi3_type_rules.specs.declared.Target.TheVariants.{Amd64}
-use Rattle.ffi3_type_rules.specs.Isa.{isa_of}
-use Rattle.ffi3_type_rules.specs.Tree.{Tree}
-use Rattle.ffi3_type_rules.specs.Layout.{Leaf, size_of}
-use Rattle.ffi3_type_rules.specs.Signature.{Signature, SignatureHasNoFault}
-use Rattle.ffi3_type_rules.specs.Value.{ValueTree, value_in}
-use Rattle.ffi3_place_rules.specs.declared.Loc.{Loc}
-use Rattle.ffi3_place_rules.specs.declared.Loc.TheVariants.{G, F, S}
-use Rattle.ffi3_place_rules.specs.declared.Piece.{Piece}
-use Rattle.ffi3_place_rules.specs.declared.Place.{Place}
-use Rattle.ffi3_place_rules.specs.declared.Place.TheVariants.{Direct, ByRef}
-use Rattle.ffi3_place_rules.specs.declared.Res.{Res}
-use Rattle.ffi3_place_rules.specs.declared.Res.TheVariants.{Nothing, Direct as DirectRes, Hidden}
-use Rattle.ffi3_place_rules.specs.Image.{Image, byte_at, word_at}
-use Rattle.ffi3_place_rules.specs.Standard.{Standard, block_bytes, frame_of, plan_of}
-use Rattle.ffi3_place_rules.specs.Holds.{Carries, LeavesStand, OwnsArgument, OwnsArguments, OwnsHidden}
-use Rattle.ffi3_place_rules.specs.Isa.{hidden_register, to_list}
-use Rattle.ffi3_place_rules.specs.Sound.{IsOneOf, IsOnStackOrIn, IsSound, argument_locs, buffer_locs, copy_locs, hidden_locs, place_locs}
-use Rattle.ffi3_type_rules.specs.declared.limits.TheConstants.{STACK, STACK_BYTES, STACK_TOP}
-use Rattle.ffi3_type_rules.proofs.Placed.{faultless_is_plain}
+use Rattle.ffi3_type_spec.specs.declared.Target.TheVariants.{Amd64}
+use Rattle.ffi3_type_spec.specs.TargetIsa.{isa_of}
+use Rattle.ffi3_type_spec.specs.Tree.{Tree}
+use Rattle.ffi3_type_spec.specs.Layout.{Leaf, size_of}
+use Rattle.ffi3_type_spec.specs.Signature.{Signature, SignatureHasNoFault}
+use Rattle.ffi3_type_spec.specs.Value.{ValueTree, value_in}
+use Rattle.ffi3_place_spec.specs.declared.Loc.{Loc}
+use Rattle.ffi3_place_spec.specs.declared.Loc.TheVariants.{G, F, S}
+use Rattle.ffi3_place_spec.specs.declared.Piece.{Piece}
+use Rattle.ffi3_place_spec.specs.declared.Place.{Place}
+use Rattle.ffi3_place_spec.specs.declared.Place.TheVariants.{Direct, ByRef}
+use Rattle.ffi3_place_spec.specs.declared.Res.{Res}
+use Rattle.ffi3_place_spec.specs.declared.Res.TheVariants.{Nothing, Direct as DirectRes, Hidden}
+use Rattle.ffi3_place_spec.specs.Image.{Image, byte_at, word_at}
+use Rattle.ffi3_place_spec.specs.Standard.{Standard, block_bytes, frame_of, plan_of}
+use Rattle.ffi3_place_spec.specs.Holds.{Carries, LeavesStand, OwnsArgument, OwnsArguments, OwnsHidden}
+use Rattle.ffi3_place_spec.specs.MachineRegisters.{to_list}
+use Rattle.ffi3_place_spec.specs.StubRegisters.{hidden_register}
+use Rattle.ffi3_place_spec.specs.Sound.{IsOneOf, IsOnStackOrIn, IsSound, argument_locs, buffer_locs, copy_locs, hidden_locs, place_locs}
+use Rattle.ffi3_type_spec.specs.declared.limits.TheConstants.{STACK, STACK_BYTES, STACK_TOP}
+use Rattle.ffi3_type_spec.proofs.Placed.{faultless_is_plain}
 use Rattle.ffi3_machine.specs.State.{State, image_of, scribbled, stack_at, with_sp}
-use Rattle.ffi3_pieces.specs.Passing.{passing}
-use Rattle.ffi3_pieces.specs.Stored.{IsPlace, SameAt, WroteOnly, WroteWithin, with_journal_of}
-use Rattle.ffi3_pieces.specs.Standing.{AreReady}
-use Rattle.ffi3_pieces.proofs.Alike as alikes
-use Rattle.ffi3_pieces.proofs.Alike.{AreAlike, arguments_owned}
-use Rattle.ffi3_pieces.proofs.Composing.{wrote_wider}
-use Rattle.ffi3_pieces.proofs.Tables.{one_of_each}
+use Rattle.ffi3_machine_transfer.specs.Passing.{passing}
+use Rattle.ffi3_machine_transfer.specs.Stored.{IsPlace, SameAt, WroteOnly, WroteWithin, with_journal_of}
+use Rattle.ffi3_machine_transfer.specs.Standing.{AreReady}
+use Rattle.ffi3_machine_transfer.proofs.Alike as alikes
+use Rattle.ffi3_machine_transfer.proofs.Alike.{AreAlike, arguments_owned}
+use Rattle.ffi3_machine_transfer.proofs.Composing.{wrote_wider}
+use Rattle.ffi3_machine_transfer.proofs.Tables.{one_of_each}
 use Rattle.ffi3_marshal.proofs.Lawful.{all_ready, call_places, each_first, each_rest}
-use Rattle.ffi3_pieces.proofs.Owning.{image_word}
-use Rattle.ffi3_pieces.proofs.Stepping.{same_word_in}
+use Rattle.ffi3_machine_transfer.proofs.Owning.{image_word}
+use Rattle.ffi3_machine_transfer.proofs.Stepping.{same_word_in}
 use Rattle.ffi3_body.specs.SeenActivation.{arguments_in}
-use Rattle.ffi3_place_rules.specs.declared.SaveWord.{SaveWord}
-use Rattle.ffi3_place_rules.specs.declared.SaveWord.TheVariants.{Register, Hidden as HiddenWord, Spare}
+use Rattle.ffi3_place_spec.specs.declared.SaveWord.{SaveWord}
+use Rattle.ffi3_place_spec.specs.declared.SaveWord.TheVariants.{Register, Hidden as HiddenWord, Spare}
 use Rattle.ffi3_callee.specs.Loaded.{AreFound, image_from}
 use Rattle.ffi3_callee.specs.Entered.{IsEntered}
 use Rattle.ffi3_callee.specs.Given.{IsAddressOf, IsAddressOrZero}
@@ -45,7 +46,7 @@ use Rattle.ffi3_callee.specs.Received.{IsReceived, OwnsAtEntry, hidden_of}
 use Rattle.ffi3_callee.specs.Saved.{AreSaved, HiddenLies, IsSaveable, IsToSave, hidden_word, saved_word}
 use Rattle.ffi3_callee.proofs.Beside.{copied_beside, wrote_down}
 use Rattle.ffi3_callee.proofs.Copying.{each_writable, same_image, stretch_stays}
-use Rattle.ffi3_place_rules.proofs.Words.{same_bytes}
+use Rattle.ffi3_place_spec.proofs.Words.{same_bytes}
 use Rattle.ffi3_callee.proofs.Return.{any_sp}
 
 -- ---- the frame behind the return address

@@ -4,26 +4,26 @@ use Rattle.std.proofs.Common.{◌≡◌, ◌⊎◌, inl, inr, ℕ, suc, ◌+◌,
 use Rattle.std.specs.List.{AllByRecursion}
 use Rattle.std.proofs.lemmas.Bool.Decides.{nat_tests}
 use Rattle.std.proofs.lemmas.List.{ext_get_or}
-use Rattle.ffi3_type_rules.specs.declared.limits.TheConstants.{STACK_TOP}
-use Rattle.ffi3_type_rules.specs.declared.Isa.{Isa}
-use Rattle.ffi3_type_rules.specs.declared.Isa.TheVariants.{Amd64, Aarch64, Riscv}
-use Rattle.ffi3_type_rules.specs.Isa.{isa_of}
-use Rattle.ffi3_place_rules.specs.declared.Loc.{Loc}
-use Rattle.ffi3_place_rules.specs.declared.Loc.TheVariants.{G, F, S}
-use Rattle.ffi3_place_rules.specs.declared.Res.{Res}
-use Rattle.ffi3_place_rules.specs.declared.Res.TheVariants.{Nothing, Direct as DirectRes, Hidden as HiddenRes}
-use Rattle.ffi3_place_rules.specs.declared.SaveWord.{SaveWord}
-use Rattle.ffi3_place_rules.specs.declared.SaveWord.TheVariants.{Register, Hidden, Spare}
-use Rattle.ffi3_place_rules.specs.Image.{register}
-use Rattle.ffi3_place_rules.specs.Isa.{is_reserved, link_place, pushed_bytes, reserved_places, to_list}
-use Rattle.ffi3_place_rules.specs.Standard.{Standard}
-use Rattle.ffi3_place_rules.specs.Agrees.{AgreesWithMachine, given_back, saved_registers, special}
-use Rattle.ffi3_place_rules.specs.Holds.{Kept, SameIn}
-use Rattle.ffi3_place_rules.specs.Sound.{Apart, IsNoneOf, closed_to_results, piece_locs, result_locs}
-use Rattle.ffi3_place_rules.proofs.Tests.{each_weaker}
+use Rattle.ffi3_type_spec.specs.declared.limits.TheConstants.{STACK_TOP}
+use Rattle.ffi3_type_spec.specs.declared.Isa.{Isa}
+use Rattle.ffi3_type_spec.specs.declared.Isa.TheVariants.{Amd64, Aarch64, Riscv}
+use Rattle.ffi3_type_spec.specs.TargetIsa.{isa_of}
+use Rattle.ffi3_place_spec.specs.declared.Loc.{Loc}
+use Rattle.ffi3_place_spec.specs.declared.Loc.TheVariants.{G, F, S}
+use Rattle.ffi3_place_spec.specs.declared.Res.{Res}
+use Rattle.ffi3_place_spec.specs.declared.Res.TheVariants.{Nothing, Direct as DirectRes, Hidden as HiddenRes}
+use Rattle.ffi3_place_spec.specs.declared.SaveWord.{SaveWord}
+use Rattle.ffi3_place_spec.specs.declared.SaveWord.TheVariants.{Register, Hidden, Spare}
+use Rattle.ffi3_place_spec.specs.Image.{register}
+use Rattle.ffi3_place_spec.specs.MachineRegisters.{is_reserved, link_place, pushed_bytes, reserved_places, to_list}
+use Rattle.ffi3_place_spec.specs.Standard.{Standard}
+use Rattle.ffi3_place_spec.specs.Agrees.{AgreesWithMachine, given_back, saved_registers, special}
+use Rattle.ffi3_place_spec.specs.Holds.{Kept, SameIn}
+use Rattle.ffi3_place_spec.specs.Sound.{Apart, IsNoneOf, closed_to_results, piece_locs, result_locs}
+use Rattle.ffi3_place_spec.proofs.Tests.{each_weaker}
 use Rattle.ffi3_machine.specs.State.{State, image_of, returned, scribble_general, scribbled, scribbled_general, scribbled_register}
 use Rattle.ffi3_machine.specs.Scribbled.{get_or-scribbled_general, length-scribbled_general}
-use Rattle.ffi3_pieces.specs.Stored.{IsPlace, word_in}
+use Rattle.ffi3_machine_transfer.specs.Stored.{IsPlace, word_in}
 use Rattle.ffi3_marshal.proofs.Lawful.{across_none, each_first, each_join, each_rest, machine_places}
 use Rattle.ffi3_callee.specs.Given.{RegistersStay, ReservedStay, result_uses}
 use Rattle.ffi3_callee.specs.Saved.{HaveRegisters}

@@ -5,26 +5,26 @@ use Rattle.std.specs.List.{AllByRecursion, Any}
 use Rattle.std.specs.Int.{w64, to_le_bytes}
 use Rattle.std.proofs.lemmas.Bool.{cases_lt}
 use Rattle.std.proofs.lemmas.List.{drop_all, get_or-take, length-take-le}
-use Rattle.ffi3_type_rules.specs.Tree.{Tree}
-use Rattle.ffi3_type_rules.specs.Layout.{size_of}
-use Rattle.ffi3_type_rules.proofs.Parts.{index_part, length_part}
-use Rattle.ffi3_place_rules.specs.declared.Loc.{Loc}
-use Rattle.ffi3_place_rules.specs.declared.Loc.TheVariants.{G, F, S}
-use Rattle.ffi3_place_rules.specs.declared.Piece.{Piece}
-use Rattle.ffi3_place_rules.specs.declared.Place.TheVariants.{Direct}
-use Rattle.ffi3_place_rules.specs.Holds.{Carries}
-use Rattle.ffi3_place_rules.specs.Sound.{HaveAll, IsPieceOf, IsWithin, place_size}
-use Rattle.ffi3_place_rules.proofs.Elements.{drop_read}
-use Rattle.ffi3_place_rules.proofs.Tests.{each_at}
+use Rattle.ffi3_type_spec.specs.Tree.{Tree}
+use Rattle.ffi3_type_spec.specs.Layout.{size_of}
+use Rattle.ffi3_type_spec.proofs.Parts.{index_part, length_part}
+use Rattle.ffi3_place_spec.specs.declared.Loc.{Loc}
+use Rattle.ffi3_place_spec.specs.declared.Loc.TheVariants.{G, F, S}
+use Rattle.ffi3_place_spec.specs.declared.Piece.{Piece}
+use Rattle.ffi3_place_spec.specs.declared.Place.TheVariants.{Direct}
+use Rattle.ffi3_place_spec.specs.Holds.{Carries}
+use Rattle.ffi3_place_spec.specs.Sound.{HaveAll, IsPieceOf, IsWithin, place_size}
+use Rattle.ffi3_place_spec.proofs.Elements.{drop_read}
+use Rattle.ffi3_place_spec.proofs.Tests.{each_at}
 use Rattle.ffi3_cif.specs.declared.runs.Run.{Run}
 use Rattle.ffi3_cif.specs.Runs.{AreRunsOf, Copies, Neighbours, OneCopies, Rises, run_at, run_then, stack_runs}
-use Rattle.ffi3_type_rules.specs.declared.limits.TheConstants.{STACK}
+use Rattle.ffi3_type_spec.specs.declared.limits.TheConstants.{STACK}
 use Rattle.ffi3_machine.specs.State.{State, stack_at, stored}
-use Rattle.ffi3_pieces.specs.Stored.{AreBytesOf, WroteOnly, byte_of, stack_byte}
-use Rattle.ffi3_pieces.specs.Runs.{RunLies}
-use Rattle.ffi3_pieces.proofs.Composing.{only_nothing, only_then, only_wider, same_byte}
-use Rattle.ffi3_pieces.proofs.Putting.{only_stored, stored_inside}
-use Rattle.ffi3_pieces.proofs.Runs.{by_piece, behind_piece, rises_to, rising_drop}
+use Rattle.ffi3_machine_transfer.specs.Stored.{AreBytesOf, WroteOnly, byte_of, stack_byte}
+use Rattle.ffi3_machine_transfer.specs.Runs.{RunLies}
+use Rattle.ffi3_machine_transfer.proofs.Composing.{only_nothing, only_then, only_wider, same_byte}
+use Rattle.ffi3_machine_transfer.proofs.Putting.{only_stored, stored_inside}
+use Rattle.ffi3_machine_transfer.proofs.Runs.{by_piece, behind_piece, rises_to, rising_drop}
 use Rattle.ffi3_callee.specs.Loaded.{AreLoaded, HaveByte, IsRead}
 use Rattle.ffi3_callee.specs.Moved.{ArePiecesMoved, AreRunsMoved, CarriesInRegister, IsPieceMoved, OneCarriesInRegister, is_on_stack}
 use Rattle.ffi3_callee.proofs.Copying.{place_above, stored_there}

@@ -8,19 +8,19 @@ use Rattle.std.proofs.lemmas.List.{get_or_past}
 use Rattle.std.proofs.lemmas.List.Folds.{list_any_more}
 use Rattle.std.specs.List.{list_any}
 use Rattle.std.proofs.lemmas.Nat.{le_bytes_8}
-use Rattle.ffi3_type_rules.specs.Signature.{Signature}
-use Rattle.ffi3_type_rules.specs.declared.limits.TheConstants.{STACK, STACK_BYTES, STACK_TOP}
-use Rattle.ffi3_place_rules.specs.declared.Loc.{Loc}
-use Rattle.ffi3_place_rules.specs.declared.Loc.TheVariants.{G, F, S}
-use Rattle.ffi3_place_rules.specs.Standard.{Standard, frame_of}
-use Rattle.ffi3_place_rules.specs.Sound.{IsNoneOf}
-use Rattle.ffi3_place_rules.proofs.Tests.{and_left, and_right, each_of_eight, not_true}
+use Rattle.ffi3_type_spec.specs.Signature.{Signature}
+use Rattle.ffi3_type_spec.specs.declared.limits.TheConstants.{STACK, STACK_BYTES, STACK_TOP}
+use Rattle.ffi3_place_spec.specs.declared.Loc.{Loc}
+use Rattle.ffi3_place_spec.specs.declared.Loc.TheVariants.{G, F, S}
+use Rattle.ffi3_place_spec.specs.Standard.{Standard, frame_of}
+use Rattle.ffi3_place_spec.specs.Sound.{IsNoneOf}
+use Rattle.ffi3_place_spec.proofs.Tests.{and_left, and_right, each_of_eight, not_true}
 use Rattle.ffi3_machine.specs.State.{State, filled, stored}
-use Rattle.ffi3_pieces.specs.Stored.{IsPlace, IsWordPut, WroteOnly, byte_of, stack_byte, word_in}
+use Rattle.ffi3_machine_transfer.specs.Stored.{IsPlace, IsWordPut, WroteOnly, byte_of, stack_byte, word_in}
 use Rattle.ffi3_marshal.proofs.Composing.{register_is_whole}
-use Rattle.ffi3_pieces.proofs.Composing.{only_nothing, only_then, only_wider, same_byte, wrote_nothing, wrote_then, wrote_wider}
-use Rattle.ffi3_pieces.proofs.Putting.{only_stored, stored_inside, stored_outside}
-use Rattle.ffi3_pieces.proofs.Stepping.{same_word_in}
+use Rattle.ffi3_machine_transfer.proofs.Composing.{only_nothing, only_then, only_wider, same_byte, wrote_nothing, wrote_then, wrote_wider}
+use Rattle.ffi3_machine_transfer.proofs.Putting.{only_stored, stored_inside, stored_outside}
+use Rattle.ffi3_machine_transfer.proofs.Stepping.{same_word_in}
 use Rattle.ffi3_callee.specs.Poison.{belongs, carries, is_argument_register, is_free, is_register}
 use Rattle.ffi3_callee.specs.Overwritten.{AreRegistersDone, IsFrameDone, IsLeftOrFree, IsRegisterDone, RegistersKeep}
 

@@ -1,18 +1,18 @@
 -- The machine's own registers, where only what is passed, or the stack, is written.
 use Rattle.std.proofs.Common.{◌≡◌, ℕ, Bool, get_or, ap, sym, ◌∙◌, subst, arith}
-use Rattle.ffi3_type_rules.specs.declared.limits.TheConstants.{STACK_TOP}
-use Rattle.ffi3_type_rules.specs.Tree.{Tree}
-use Rattle.ffi3_place_rules.specs.declared.Loc.{Loc}
-use Rattle.ffi3_place_rules.specs.declared.Loc.TheVariants.{G, F, S}
-use Rattle.ffi3_place_rules.specs.declared.Res.{Res}
-use Rattle.ffi3_place_rules.specs.declared.Res.TheVariants.{Nothing, Direct, Hidden}
-use Rattle.ffi3_place_rules.specs.Standard.{Standard}
-use Rattle.ffi3_place_rules.specs.Agrees.{AgreesWithMachine}
+use Rattle.ffi3_type_spec.specs.declared.limits.TheConstants.{STACK_TOP}
+use Rattle.ffi3_type_spec.specs.Tree.{Tree}
+use Rattle.ffi3_place_spec.specs.declared.Loc.{Loc}
+use Rattle.ffi3_place_spec.specs.declared.Loc.TheVariants.{G, F, S}
+use Rattle.ffi3_place_spec.specs.declared.Res.{Res}
+use Rattle.ffi3_place_spec.specs.declared.Res.TheVariants.{Nothing, Direct, Hidden}
+use Rattle.ffi3_place_spec.specs.Standard.{Standard}
+use Rattle.ffi3_place_spec.specs.Agrees.{AgreesWithMachine}
 use Rattle.ffi3_machine.specs.State.{State, IsMachine}
-use Rattle.ffi3_pieces.specs.Passing.{by_exchange, passing, passing_if}
-use Rattle.ffi3_pieces.specs.Stored.{IsPlace, SameAt, WroteOnly, word_in}
-use Rattle.ffi3_pieces.proofs.Passing.{own_general, own_register}
-use Rattle.ffi3_pieces.proofs.Tables.{each_with}
+use Rattle.ffi3_machine_transfer.specs.Passing.{by_exchange, passing, passing_if}
+use Rattle.ffi3_machine_transfer.specs.Stored.{IsPlace, SameAt, WroteOnly, word_in}
+use Rattle.ffi3_machine_transfer.proofs.Passing.{own_general, own_register}
+use Rattle.ffi3_machine_transfer.proofs.Tables.{each_with}
 use Rattle.ffi3_callee.specs.Given.{ReservedStay, ResultWrites}
 use Rattle.ffi3_callee.proofs.Keeping.{reserved_there}
 

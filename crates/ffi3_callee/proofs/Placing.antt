@@ -2,21 +2,21 @@
 use Rattle.std.proofs.Common.{◌≡◌, ℕ, ◌+◌, ◌-◌, ◌≤◌, List, [], ◌∷◌, take, drop, get_or, length, ap, sym, ◌∙◌, arith}
 use Rattle.std.specs.List.{AllByRecursion}
 use Rattle.std.proofs.lemmas.List.{drop-drop, drop-take, take-take}
-use Rattle.ffi3_type_rules.specs.Tree.{Tree}
-use Rattle.ffi3_type_rules.specs.Layout.{Leaf, size_of, leaves_of}
-use Rattle.ffi3_type_rules.specs.Value.{value_in}
-use Rattle.ffi3_place_rules.specs.declared.Loc.{Loc}
-use Rattle.ffi3_place_rules.specs.declared.Piece.{Piece}
-use Rattle.ffi3_place_rules.specs.declared.Place.TheVariants.{Direct, ByRef}
-use Rattle.ffi3_place_rules.specs.Image.{byte_at}
-use Rattle.ffi3_place_rules.specs.Holds.{leaf_bytes, Carries, StandsInPieces, LeavesStand}
-use Rattle.ffi3_place_rules.specs.Sound.{CoversLeaf, HaveAll, IsPieceOf, piece_locs, IsWithin}
-use Rattle.ffi3_place_rules.proofs.Tests.{each_weaker}
-use Rattle.ffi3_type_rules.specs.declared.limits.TheConstants.{STACK}
+use Rattle.ffi3_type_spec.specs.Tree.{Tree}
+use Rattle.ffi3_type_spec.specs.Layout.{Leaf, size_of, leaves_of}
+use Rattle.ffi3_type_spec.specs.Value.{value_in}
+use Rattle.ffi3_place_spec.specs.declared.Loc.{Loc}
+use Rattle.ffi3_place_spec.specs.declared.Piece.{Piece}
+use Rattle.ffi3_place_spec.specs.declared.Place.TheVariants.{Direct, ByRef}
+use Rattle.ffi3_place_spec.specs.Image.{byte_at}
+use Rattle.ffi3_place_spec.specs.Holds.{leaf_bytes, Carries, StandsInPieces, LeavesStand}
+use Rattle.ffi3_place_spec.specs.Sound.{CoversLeaf, HaveAll, IsPieceOf, piece_locs, IsWithin}
+use Rattle.ffi3_place_spec.proofs.Tests.{each_weaker}
+use Rattle.ffi3_type_spec.specs.declared.limits.TheConstants.{STACK}
 use Rattle.ffi3_machine.specs.State.{State, stack_at, with_sp}
-use Rattle.ffi3_pieces.specs.Stored.{IsPlace, word_in}
-use Rattle.ffi3_pieces.proofs.Owning.{image_byte}
-use Rattle.ffi3_place_rules.proofs.Reading.{LeavesRead, ReadsLeaf, reads}
+use Rattle.ffi3_machine_transfer.specs.Stored.{IsPlace, word_in}
+use Rattle.ffi3_machine_transfer.proofs.Owning.{image_byte}
+use Rattle.ffi3_place_spec.proofs.Reading.{LeavesRead, ReadsLeaf, reads}
 use Rattle.ffi3_callee.specs.Loaded.{AreLoaded, HaveByte, IsRead, image_from}
 
 pub parts_within : (t : Tree) (pieces : List Piece) (size : ℕ) → size ≡ size_of t → HaveAll t pieces → AllByRecursion (IsWithin size) pieces

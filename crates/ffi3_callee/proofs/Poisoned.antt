@@ -6,26 +6,26 @@ use Rattle.std.specs.Int.{w64, to_le_bytes}
 use Rattle.std.proofs.lemmas.List.Folds.{list_any_at}
 use Rattle.std.proofs.lemmas.Bool.Decides.{nat_tests}
 use Rattle.std.proofs.lemmas.List.{get_or-take, get_or-drop, take_all}
-use Rattle.ffi3_type_rules.specs.declared.Target.{Target}
-use Rattle.ffi3_type_rules.specs.declared.Target.TheVariants.{Amd64 as ForAmd64}
-use Rattle.ffi3_type_rules.specs.declared.Isa.{Isa}
-use Rattle.ffi3_type_rules.specs.declared.Isa.TheVariants.{Amd64, Aarch64, Riscv}
-use Rattle.ffi3_type_rules.specs.Isa.{isa_of}
-use Rattle.ffi3_type_rules.specs.Signature.{Signature, SignatureHasNoFault}
-use Rattle.ffi3_type_rules.specs.Value.{ValueTree}
-use Rattle.ffi3_type_rules.specs.declared.limits.TheConstants.{STACK, STACK_BYTES, STACK_TOP}
-use Rattle.ffi3_type_rules.proofs.Parts.{length_part}
-use Rattle.ffi3_place_rules.specs.declared.Loc.{Loc}
-use Rattle.ffi3_place_rules.specs.declared.Loc.TheVariants.{G, F, S}
-use Rattle.ffi3_place_rules.specs.Image.{byte_at, word_at}
-use Rattle.ffi3_place_rules.specs.Isa.{link_place, link_register, pushed_bytes, reserved_places, stack_pointer, trampoline_registers, to_list}
-use Rattle.ffi3_place_rules.specs.Standard.{Standard, frame_of, plan_of}
-use Rattle.ffi3_place_rules.specs.Agrees.{AgreesWithMachine}
-use Rattle.ffi3_place_rules.specs.Sound.{Apart, IsSound, argument_locs, closed_to_arguments, closed_to_results}
-use Rattle.ffi3_place_rules.proofs.Tests.{and_left, and_right}
+use Rattle.ffi3_type_spec.specs.declared.Target.{Target}
+use Rattle.ffi3_type_spec.specs.declared.Target.TheVariants.{Amd64 as ForAmd64}
+use Rattle.ffi3_type_spec.specs.declared.Isa.{Isa}
+use Rattle.ffi3_type_spec.specs.declared.Isa.TheVariants.{Amd64, Aarch64, Riscv}
+use Rattle.ffi3_type_spec.specs.TargetIsa.{isa_of}
+use Rattle.ffi3_type_spec.specs.Signature.{Signature, SignatureHasNoFault}
+use Rattle.ffi3_type_spec.specs.Value.{ValueTree}
+use Rattle.ffi3_type_spec.specs.declared.limits.TheConstants.{STACK, STACK_BYTES, STACK_TOP}
+use Rattle.ffi3_type_spec.proofs.Parts.{length_part}
+use Rattle.ffi3_place_spec.specs.declared.Loc.{Loc}
+use Rattle.ffi3_place_spec.specs.declared.Loc.TheVariants.{G, F, S}
+use Rattle.ffi3_place_spec.specs.Image.{byte_at, word_at}
+use Rattle.ffi3_place_spec.specs.MachineRegisters.{link_place, link_register, pushed_bytes, reserved_places, stack_pointer, trampoline_registers, to_list}
+use Rattle.ffi3_place_spec.specs.Standard.{Standard, frame_of, plan_of}
+use Rattle.ffi3_place_spec.specs.Agrees.{AgreesWithMachine}
+use Rattle.ffi3_place_spec.specs.Sound.{Apart, IsSound, argument_locs, closed_to_arguments, closed_to_results}
+use Rattle.ffi3_place_spec.proofs.Tests.{and_left, and_right}
 use Rattle.ffi3_machine.specs.State.{HasReturnAddress, HasReturnAt, State, image_of, stack_at}
-use Rattle.ffi3_pieces.specs.Stored.{IsPlace, IsWritable, WroteWithin, byte_of, stack_byte, word_in}
-use Rattle.ffi3_pieces.proofs.Composing.{wrote_then, wrote_wider}
+use Rattle.ffi3_machine_transfer.specs.Stored.{IsPlace, IsWritable, WroteWithin, byte_of, stack_byte, word_in}
+use Rattle.ffi3_machine_transfer.proofs.Composing.{wrote_then, wrote_wider}
 use Rattle.ffi3_marshal.proofs.Stepping.{each_read}
 use Rattle.ffi3_marshal.proofs.Lawful.{across_none, all_ready, each_first, each_join, each_rest, machine_places}
 use Rattle.ffi3_callee.specs.Poison.{IsPoisoned, MarkFalls, carries, hidden_has, is_argument_register, is_free, is_register, places_have}

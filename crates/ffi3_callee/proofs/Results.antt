@@ -3,36 +3,36 @@ use Rattle.std.specs.Prelude.{true, ◌&&◌, Option, Some, None}
 use Rattle.std.proofs.Common.{◌≡◌, inl, inr, ⊎_elim, ℕ, ◌+◌, ◌-◌, ◌*◌, ◌<◌, ◌≤◌, List, [], ◌∷◌, take, drop, get_or, length, refl, ap, sym, ◌∙◌, subst, arith}
 use Rattle.std.specs.List.{AllByRecursion}
 use Rattle.std.proofs.lemmas.Bool.{cases_lt}
-use Rattle.ffi3_type_rules.specs.declared.Target.{Target}
-use Rattle.ffi3_type_rules.specs.declared.Target.TheVariants.{Amd64}
-use Rattle.ffi3_type_rules.specs.Tree.{Tree}
-use Rattle.ffi3_type_rules.specs.Layout.{leaves_of, size_of}
-use Rattle.ffi3_type_rules.specs.Signature.{Signature}
-use Rattle.ffi3_type_rules.specs.Value.{ValueTree, fits, value_in}
-use Rattle.ffi3_type_rules.specs.Isa.{isa_of}
-use Rattle.ffi3_type_rules.proofs.Layouts.{least_multiple-above}
-use Rattle.ffi3_type_rules.proofs.Parts.{length_part}
-use Rattle.ffi3_place_rules.specs.declared.Loc.{Loc}
-use Rattle.ffi3_place_rules.specs.declared.Loc.TheVariants.{G, F, S}
-use Rattle.ffi3_place_rules.specs.declared.Piece.{Piece}
-use Rattle.ffi3_place_rules.specs.declared.Place.TheVariants.{Direct}
-use Rattle.ffi3_place_rules.specs.declared.Res.{Res}
-use Rattle.ffi3_place_rules.specs.declared.Res.TheVariants.{Nothing, Direct as DirectRes, Hidden}
-use Rattle.ffi3_place_rules.specs.Standard.{Standard, ResultSpot, no_result, in_result_pieces, in_buffer, plan_of, frame_of, result_at, buffer_end, frame_copies_end, round8}
-use Rattle.ffi3_place_rules.specs.Holds.{leaf_bytes, FillsAs, FillsResult, HoldsResult, OwnsResult, RegisterHolds}
-use Rattle.ffi3_place_rules.specs.Sound.{ResultHasAll, piece_locs, result_locs}
-use Rattle.ffi3_type_rules.specs.declared.limits.TheConstants.{STACK, STACK_BYTES, STACK_TOP}
+use Rattle.ffi3_type_spec.specs.declared.Target.{Target}
+use Rattle.ffi3_type_spec.specs.declared.Target.TheVariants.{Amd64}
+use Rattle.ffi3_type_spec.specs.Tree.{Tree}
+use Rattle.ffi3_type_spec.specs.Layout.{leaves_of, size_of}
+use Rattle.ffi3_type_spec.specs.Signature.{Signature}
+use Rattle.ffi3_type_spec.specs.Value.{ValueTree, fits, value_in}
+use Rattle.ffi3_type_spec.specs.TargetIsa.{isa_of}
+use Rattle.ffi3_type_spec.proofs.Layouts.{least_multiple-above}
+use Rattle.ffi3_type_spec.proofs.Parts.{length_part}
+use Rattle.ffi3_place_spec.specs.declared.Loc.{Loc}
+use Rattle.ffi3_place_spec.specs.declared.Loc.TheVariants.{G, F, S}
+use Rattle.ffi3_place_spec.specs.declared.Piece.{Piece}
+use Rattle.ffi3_place_spec.specs.declared.Place.TheVariants.{Direct}
+use Rattle.ffi3_place_spec.specs.declared.Res.{Res}
+use Rattle.ffi3_place_spec.specs.declared.Res.TheVariants.{Nothing, Direct as DirectRes, Hidden}
+use Rattle.ffi3_place_spec.specs.Standard.{Standard, ResultSpot, no_result, in_result_pieces, in_buffer, plan_of, frame_of, result_at, buffer_end, frame_copies_end, round8}
+use Rattle.ffi3_place_spec.specs.Holds.{leaf_bytes, FillsAs, FillsResult, HoldsResult, OwnsResult, RegisterHolds}
+use Rattle.ffi3_place_spec.specs.Sound.{ResultHasAll, piece_locs, result_locs}
+use Rattle.ffi3_type_spec.specs.declared.limits.TheConstants.{STACK, STACK_BYTES, STACK_TOP}
 use Rattle.ffi3_machine.specs.State.{State, stack_at, with_sp}
-use Rattle.ffi3_pieces.specs.Stored.{IsByteOf, IsPlace, byte_of, word_in, KeepsPadding, KeepsUnused, Stays, WroteWithin}
-use Rattle.ffi3_pieces.specs.Standing.{PiecesStand, IsReady}
+use Rattle.ffi3_machine_transfer.specs.Stored.{IsByteOf, IsPlace, byte_of, word_in, KeepsPadding, KeepsUnused, Stays, WroteWithin}
+use Rattle.ffi3_machine_transfer.specs.Standing.{PiecesStand, IsReady}
 use Rattle.ffi3_marshal.proofs.Arguments.{lies_more}
-use Rattle.ffi3_pieces.proofs.Composing.{wrote_then}
+use Rattle.ffi3_machine_transfer.proofs.Composing.{wrote_then}
 use Rattle.ffi3_marshal.proofs.Lawful.{machine_places}
-use Rattle.ffi3_pieces.proofs.Owning.{owned, filled}
-use Rattle.ffi3_pieces.proofs.Stepping.{same_word_in}
+use Rattle.ffi3_machine_transfer.proofs.Owning.{owned, filled}
+use Rattle.ffi3_machine_transfer.proofs.Stepping.{same_word_in}
 use Rattle.ffi3_callee.specs.Loaded.{image_from}
-use Rattle.ffi3_place_rules.specs.declared.SaveWord.{SaveWord}
-use Rattle.ffi3_place_rules.proofs.OnMachine.{IsSoundOnMachine}
+use Rattle.ffi3_place_spec.specs.declared.SaveWord.{SaveWord}
+use Rattle.ffi3_place_spec.proofs.OnMachine.{IsSoundOnMachine}
 use Rattle.ffi3_callee.specs.Saved.{AreSaved, IsToSave, saved_word}
 use Rattle.ffi3_callee.specs.Given.{IsSettable, RegisterHoldsWord, RegistersStay, ResultKeepsUnused, ResultWrites, result_uses}
 use Rattle.ffi3_callee.proofs.Copying.{each_writable, stretch_stays}

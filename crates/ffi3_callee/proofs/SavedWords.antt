@@ -4,19 +4,19 @@ use Rattle.std.specs.Prelude.{Option}
 use Rattle.std.specs.List.{AllByRecursion}
 use Rattle.std.specs.Int.{w64, to_le_bytes}
 use Rattle.std.proofs.lemmas.Bool.{cases_lt}
-use Rattle.ffi3_place_rules.specs.declared.Loc.{Loc}
-use Rattle.ffi3_place_rules.specs.declared.Loc.TheVariants.{G, F, S}
-use Rattle.ffi3_place_rules.specs.Sound.{Apart, IsNoneOf}
-use Rattle.ffi3_place_rules.proofs.Tests.{each_at}
-use Rattle.ffi3_type_rules.specs.declared.limits.TheConstants.{STACK, STACK_BYTES, STACK_TOP}
-use Rattle.ffi3_place_rules.specs.Agrees.{saved_registers}
+use Rattle.ffi3_place_spec.specs.declared.Loc.{Loc}
+use Rattle.ffi3_place_spec.specs.declared.Loc.TheVariants.{G, F, S}
+use Rattle.ffi3_place_spec.specs.Sound.{Apart, IsNoneOf}
+use Rattle.ffi3_place_spec.proofs.Tests.{each_at}
+use Rattle.ffi3_type_spec.specs.declared.limits.TheConstants.{STACK, STACK_BYTES, STACK_TOP}
+use Rattle.ffi3_place_spec.specs.Agrees.{saved_registers}
 use Rattle.ffi3_machine.specs.State.{State, stored}
-use Rattle.ffi3_pieces.specs.Stored.{IsPlace, SameAt, Stays, WroteOnly, WroteWithin, word_in}
-use Rattle.ffi3_pieces.proofs.Composing.{only_nothing, only_then, only_wider, same_itself, same_then, wrote_nothing, wrote_then}
-use Rattle.ffi3_pieces.proofs.Putting.{only_stored, stored_inside, stored_outside, word_there}
-use Rattle.ffi3_pieces.proofs.Stepping.{same_word_in}
-use Rattle.ffi3_place_rules.specs.declared.SaveWord.{SaveWord}
-use Rattle.ffi3_place_rules.specs.declared.SaveWord.TheVariants.{Register, Hidden, Spare}
+use Rattle.ffi3_machine_transfer.specs.Stored.{IsPlace, SameAt, Stays, WroteOnly, WroteWithin, word_in}
+use Rattle.ffi3_machine_transfer.proofs.Composing.{only_nothing, only_then, only_wider, same_itself, same_then, wrote_nothing, wrote_then}
+use Rattle.ffi3_machine_transfer.proofs.Putting.{only_stored, stored_inside, stored_outside, word_there}
+use Rattle.ffi3_machine_transfer.proofs.Stepping.{same_word_in}
+use Rattle.ffi3_place_spec.specs.declared.SaveWord.{SaveWord}
+use Rattle.ffi3_place_spec.specs.declared.SaveWord.TheVariants.{Register, Hidden, Spare}
 use Rattle.ffi3_callee.specs.Saved.{AreGivenBack, AreSaved, HoldRegisters, IsHiddenWord, IsRestorable, IsToSave, hidden_word, saved_word, with_given_back, with_saved, with_word, word_to_save}
 use Rattle.ffi3_callee.proofs.Copying.{place_above}
 

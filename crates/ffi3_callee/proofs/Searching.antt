@@ -4,9 +4,9 @@ use Rattle.std.specs.List.{list_any}
 use Rattle.std.proofs.Common.{◌≡◌, ℕ, ◌+◌, ◌<◌, ◌≤◌, List, ◌∷◌, take, drop, get_or, length, refl, ap, sym, ◌∙◌}
 use Rattle.std.proofs.lemmas.List.{take_all, drop_all}
 use Rattle.std.proofs.lemmas.List.Folds.{list_any_at, list_any_more}
-use Rattle.ffi3_type_rules.specs.Tree.{Tree}
-use Rattle.ffi3_place_rules.specs.declared.Loc.{Loc}
-use Rattle.ffi3_place_rules.specs.declared.Place.{Place}
+use Rattle.ffi3_type_spec.specs.Tree.{Tree}
+use Rattle.ffi3_place_spec.specs.declared.Loc.{Loc}
+use Rattle.ffi3_place_spec.specs.declared.Place.{Place}
 use Rattle.ffi3_callee.specs.Poison.{place_has, places_have}
 
 pub both_false : (a b : Bool) → a ≡ false → b ≡ false → (a || b) ≡ false

@@ -4,26 +4,26 @@ use Rattle.std.proofs.Common.{◌≡◌, ℕ, ◌+◌, ◌-◌, ◌<◌, ◌≤�
 use Rattle.std.specs.List.{AllByRecursion, list_any}
 use Rattle.std.specs.Int.{w64, from_le_bytes}
 use Rattle.std.proofs.lemmas.Bool.Decides.{nat_tests}
-use Rattle.ffi3_type_rules.specs.declared.Target.{Target}
-use Rattle.ffi3_type_rules.specs.Tree.{Tree}
-use Rattle.ffi3_type_rules.specs.Layout.{Leaf, leaves_of, scalar_size, size_of}
-use Rattle.ffi3_type_rules.specs.Value.{ValueTree, fits, value_in}
-use Rattle.ffi3_type_rules.proofs.Parts.{index_part, length_part}
-use Rattle.ffi3_place_rules.specs.declared.Loc.{Loc}
-use Rattle.ffi3_place_rules.specs.declared.Loc.TheVariants.{G, F, S}
-use Rattle.ffi3_place_rules.specs.declared.Piece.{Piece}
-use Rattle.ffi3_place_rules.specs.declared.Place.{Place}
-use Rattle.ffi3_place_rules.specs.declared.Place.TheVariants.{Direct, ByRef}
-use Rattle.ffi3_place_rules.specs.declared.Res.{Res}
-use Rattle.ffi3_place_rules.specs.declared.Res.TheVariants.{Nothing, Direct as DirectRes, Hidden}
-use Rattle.ffi3_place_rules.specs.Image.{Image, byte_at, word_at}
-use Rattle.ffi3_place_rules.specs.Holds.{leaf_bytes, Carries, LeavesStand, OwnsArgument, OwnsArguments, OwnsHidden}
-use Rattle.ffi3_place_rules.specs.Sound.{IsPieceOf, hidden_locs, piece_locs, place_size}
-use Rattle.ffi3_place_rules.proofs.Words.{same_bytes}
-use Rattle.ffi3_place_rules.proofs.Covered.{EndsIn, leaves_end}
-use Rattle.ffi3_pieces.specs.Stored.{IsPlace}
-use Rattle.ffi3_pieces.specs.Standing.{AreReady, IsReady}
-use Rattle.ffi3_place_rules.proofs.Reading.{LeavesRead, leaves_read, reads}
+use Rattle.ffi3_type_spec.specs.declared.Target.{Target}
+use Rattle.ffi3_type_spec.specs.Tree.{Tree}
+use Rattle.ffi3_type_spec.specs.Layout.{Leaf, leaves_of, scalar_size, size_of}
+use Rattle.ffi3_type_spec.specs.Value.{ValueTree, fits, value_in}
+use Rattle.ffi3_type_spec.proofs.Parts.{index_part, length_part}
+use Rattle.ffi3_place_spec.specs.declared.Loc.{Loc}
+use Rattle.ffi3_place_spec.specs.declared.Loc.TheVariants.{G, F, S}
+use Rattle.ffi3_place_spec.specs.declared.Piece.{Piece}
+use Rattle.ffi3_place_spec.specs.declared.Place.{Place}
+use Rattle.ffi3_place_spec.specs.declared.Place.TheVariants.{Direct, ByRef}
+use Rattle.ffi3_place_spec.specs.declared.Res.{Res}
+use Rattle.ffi3_place_spec.specs.declared.Res.TheVariants.{Nothing, Direct as DirectRes, Hidden}
+use Rattle.ffi3_place_spec.specs.Image.{Image, byte_at, word_at}
+use Rattle.ffi3_place_spec.specs.Holds.{leaf_bytes, Carries, LeavesStand, OwnsArgument, OwnsArguments, OwnsHidden}
+use Rattle.ffi3_place_spec.specs.Sound.{IsPieceOf, hidden_locs, piece_locs, place_size}
+use Rattle.ffi3_place_spec.proofs.Words.{same_bytes}
+use Rattle.ffi3_place_spec.proofs.Covered.{EndsIn, leaves_end}
+use Rattle.ffi3_machine_transfer.specs.Stored.{IsPlace}
+use Rattle.ffi3_machine_transfer.specs.Standing.{AreReady, IsReady}
+use Rattle.ffi3_place_spec.proofs.Reading.{LeavesRead, leaves_read, reads}
 use Rattle.ffi3_callee.specs.Poison.{address_has, byte_number, copy_has, hidden_has, is_leaf_byte, leaf_has, passes, piece_has, place_has, places_have}
 
 -- ---- tests

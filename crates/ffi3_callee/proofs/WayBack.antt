@@ -2,39 +2,40 @@
 use Rattle.std.specs.Prelude.{Option, Some, None, option_map}
 use Rattle.std.proofs.Common.{◌≡◌, inl, ℕ, suc, ◌+◌, ◌-◌, ◌%◌, ◌^◌, ◌<◌, ◌≤◌, Bool, true, false, List, [], ◌∷◌, ◌++◌, take, drop, get_or, length, refl, ap, sym, ◌∙◌, subst, arith}
 use Rattle.std.specs.List.{AllByRecursion}
-use Rattle.ffi3_type_rules.specs.declared.Target.{Target}
-use Rattle.ffi3_type_rules.specs.declared.Isa.{Isa}
-use Rattle.ffi3_type_rules.specs.declared.Isa.TheVariants.{Amd64, Aarch64, Riscv}
-use Rattle.ffi3_type_rules.specs.declared.limits.TheConstants.{RETURN, STACK, STACK_TOP}
-use Rattle.ffi3_type_rules.specs.Isa.{isa_of}
-use Rattle.ffi3_type_rules.specs.Signature.{Signature, SignatureHasNoFault}
-use Rattle.ffi3_type_rules.specs.Value.{ValueTree}
-use Rattle.ffi3_type_rules.proofs.Placed.{faultless_is_plain}
-use Rattle.ffi3_place_rules.specs.declared.Loc.{Loc}
-use Rattle.ffi3_place_rules.specs.declared.Loc.TheVariants.{G, F, S}
-use Rattle.ffi3_place_rules.specs.declared.SaveWord.{SaveWord}
-use Rattle.ffi3_place_rules.specs.declared.SaveWord.TheVariants.{Register, Hidden, Spare}
-use Rattle.ffi3_place_rules.specs.Isa.{area_bytes, exit_scratch, has_stubs, link_register, to_list, callee_saved_words, pushed_bytes, result_loads}
-use Rattle.ffi3_place_rules.specs.Image.{Image, register}
-use Rattle.ffi3_place_rules.specs.Standard.{Standard, frame_of, plan_of}
-use Rattle.ffi3_place_rules.specs.Agrees.{AgreesWithMachine, given_back, saved_registers}
-use Rattle.ffi3_place_rules.specs.ByStubs.{AgreesWithStubs, ResultGoesByStubs}
-use Rattle.ffi3_place_rules.specs.Holds.{HoldsResult, Kept, SameIn}
-use Rattle.ffi3_place_rules.specs.Sound.{IsNoneOf, IsOneOf, IsSound, result_locs}
-use Rattle.ffi3_place_rules.proofs.Tests.{each_at}
-use Rattle.ffi3_place_rules.proofs.OnMachine.{as_before}
+use Rattle.ffi3_type_spec.specs.declared.Target.{Target}
+use Rattle.ffi3_type_spec.specs.declared.Isa.{Isa}
+use Rattle.ffi3_type_spec.specs.declared.Isa.TheVariants.{Amd64, Aarch64, Riscv}
+use Rattle.ffi3_type_spec.specs.declared.limits.TheConstants.{RETURN, STACK, STACK_TOP}
+use Rattle.ffi3_type_spec.specs.TargetIsa.{isa_of}
+use Rattle.ffi3_type_spec.specs.Signature.{Signature, SignatureHasNoFault}
+use Rattle.ffi3_type_spec.specs.Value.{ValueTree}
+use Rattle.ffi3_type_spec.proofs.Placed.{faultless_is_plain}
+use Rattle.ffi3_place_spec.specs.declared.Loc.{Loc}
+use Rattle.ffi3_place_spec.specs.declared.Loc.TheVariants.{G, F, S}
+use Rattle.ffi3_place_spec.specs.declared.SaveWord.{SaveWord}
+use Rattle.ffi3_place_spec.specs.declared.SaveWord.TheVariants.{Register, Hidden, Spare}
+use Rattle.ffi3_place_spec.specs.MachineRegisters.{link_register, to_list, pushed_bytes}
+use Rattle.ffi3_place_spec.specs.StubRegisters.{area_bytes, exit_scratch, has_stubs, callee_saved_words, result_loads}
+use Rattle.ffi3_place_spec.specs.Image.{Image, register}
+use Rattle.ffi3_place_spec.specs.Standard.{Standard, frame_of, plan_of}
+use Rattle.ffi3_place_spec.specs.Agrees.{AgreesWithMachine, given_back, saved_registers}
+use Rattle.ffi3_place_spec.specs.ByStubs.{AgreesWithStubs, ResultGoesByStubs}
+use Rattle.ffi3_place_spec.specs.Holds.{HoldsResult, Kept, SameIn}
+use Rattle.ffi3_place_spec.specs.Sound.{IsNoneOf, IsOneOf, IsSound, result_locs}
+use Rattle.ffi3_place_spec.proofs.Tests.{each_at}
+use Rattle.ffi3_place_spec.proofs.OnMachine.{as_before}
 use Rattle.ffi3_memory.specs.Memory.{number_of}
 use Rattle.ffi3_machine.specs.State.{State, HasReturnAddress, HasReturnAt, IsMachine, image_of, stack_at, with_x, x_of}
-use Rattle.ffi3_machine.specs.Step.{even}
+use Rattle.ffi3_machine.specs.MachineStep.{even}
 use Rattle.ffi3_machine.specs.Stubs.{Exit, exchanged_at}
 use Rattle.ffi3_stubs.specs.Calls.{HasLeft, left_to, steps_of, CameFromWords}
-use Rattle.ffi3_pieces.specs.Passing.{by_exchange, passing, passing_if}
-use Rattle.ffi3_pieces.specs.Stored.{IsPlace, SameAt, WroteWithin, with_journal_of, word_in}
-use Rattle.ffi3_pieces.proofs.Held.{left_by, loaded_as_passed}
+use Rattle.ffi3_machine_transfer.specs.Passing.{by_exchange, passing, passing_if}
+use Rattle.ffi3_machine_transfer.specs.Stored.{IsPlace, SameAt, WroteWithin, with_journal_of, word_in}
+use Rattle.ffi3_machine_transfer.proofs.Held.{left_by, loaded_as_passed}
 use Rattle.ffi3_marshal.proofs.Lawful.{each_first, each_rest, machine_places}
-use Rattle.ffi3_pieces.proofs.Outcomes as outcome
-use Rattle.ffi3_pieces.proofs.Passing.{place_low, steps_more, steps_same, stubs_there, told_below, told_there}
-use Rattle.ffi3_pieces.proofs.Tables.{each_with, reserved_not_left}
+use Rattle.ffi3_machine_transfer.proofs.Outcomes as outcome
+use Rattle.ffi3_machine_transfer.proofs.Passing.{place_low, steps_more, steps_same, stubs_there, told_below, told_there}
+use Rattle.ffi3_machine_transfer.proofs.Tables.{each_with, reserved_not_left}
 use Rattle.ffi3_callee.specs.Loaded.{image_from}
 use Rattle.ffi3_callee.specs.Given.{RegistersStay, ReservedStay}
 use Rattle.ffi3_callee.specs.GoneBack.{HasGoneBack, IsAtReturn, IsGiven, IsLeftAlone, returned_by, returned_if}

@@ -4,13 +4,13 @@ use Rattle.std.specs.Int.{w64, to_le_bytes}
 use Rattle.std.proofs.lemmas.Bool.{cases_lt}
 use Rattle.std.proofs.lemmas.List.{drop_at, ext_get_or, get_or-drop, take_at}
 use Rattle.std.proofs.lemmas.Nat.{le_bytes_8}
-use Rattle.ffi3_type_rules.proofs.Parts.{index_part, length_part}
+use Rattle.ffi3_type_spec.proofs.Parts.{index_part, length_part}
 use Rattle.ffi3_memory.specs.Memory.{number_of}
 use Rattle.ffi3_machine.specs.State.{State, AreBytes, IsMachine, scribbled}
 use Rattle.ffi3_machine.proofs.Words.{bytes-drop, bytes-take}
-use Rattle.ffi3_pieces.specs.Passing.{by_exchange, passing, passing_if, words_at}
-use Rattle.ffi3_pieces.specs.Stored.{WroteOnly}
-use Rattle.ffi3_pieces.proofs.Passing.{get_or-words_at}
+use Rattle.ffi3_machine_transfer.specs.Passing.{by_exchange, passing, passing_if, words_at}
+use Rattle.ffi3_machine_transfer.specs.Stored.{WroteOnly}
+use Rattle.ffi3_machine_transfer.proofs.Passing.{get_or-words_at}
 use Rattle.ffi3_callee.proofs.OwnKept.{own_list}
 
 -- ---- bytes are those of their words

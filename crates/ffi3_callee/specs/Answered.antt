@@ -1,17 +1,17 @@
 -- The machine once a callee has answered: what else is true of it at its return.
 use Rattle.std.specs.Prelude.{◌≡◌, ◌⊎◌, ℕ, ◌+◌, ◌<◌, ◌≤◌, ⊤, length, get_or}
-use Rattle.ffi3_type_rules.specs.Isa.{isa_of}
-use Rattle.ffi3_type_rules.specs.Layout.{size_of}
-use Rattle.ffi3_type_rules.specs.Signature.{Signature}
-use Rattle.ffi3_type_rules.specs.Tree.{Tree}
-use Rattle.ffi3_type_rules.specs.declared.limits.TheConstants.{STACK}
-use Rattle.ffi3_place_rules.specs.Standard.{Standard, block_bytes, plan_of}
-use Rattle.ffi3_place_rules.specs.declared.Res.{Res}
-use Rattle.ffi3_place_rules.specs.declared.Res.TheVariants.{Nothing, Direct, Hidden}
+use Rattle.ffi3_type_spec.specs.TargetIsa.{isa_of}
+use Rattle.ffi3_type_spec.specs.Layout.{size_of}
+use Rattle.ffi3_type_spec.specs.Signature.{Signature}
+use Rattle.ffi3_type_spec.specs.Tree.{Tree}
+use Rattle.ffi3_type_spec.specs.declared.limits.TheConstants.{STACK}
+use Rattle.ffi3_place_spec.specs.Standard.{Standard, block_bytes, plan_of}
+use Rattle.ffi3_place_spec.specs.declared.Res.{Res}
+use Rattle.ffi3_place_spec.specs.declared.Res.TheVariants.{Nothing, Direct, Hidden}
 use Rattle.ffi3_machine.specs.State.{State, HasReturnAddress}
 use Rattle.ffi3_machine.specs.Stubs.{Entry, Exit}
 use Rattle.ffi3_stubs.specs.Calls.{steps_of}
-use Rattle.ffi3_pieces.specs.Passing.{by_exchange, steps_if}
+use Rattle.ffi3_machine_transfer.specs.Passing.{by_exchange, steps_if}
 use Rattle.ffi3_callee.specs.GoneBack.{IsAtReturn}
 
 -- an address is none of a hidden result's buffer

@@ -1,18 +1,18 @@
 -- What a callee changes of the machine when it gives a result.
 use Rattle.std.specs.Prelude.{◌≡◌, ℕ, ◌+◌, ⊤, List, [], Option, Some, None}
 use Rattle.std.specs.List.{AllByRecursion}
-use Rattle.ffi3_type_rules.specs.declared.Target.{Target}
-use Rattle.ffi3_type_rules.specs.Tree.{Tree}
-use Rattle.ffi3_type_rules.specs.Layout.{size_of}
-use Rattle.ffi3_place_rules.specs.declared.Loc.{Loc}
-use Rattle.ffi3_place_rules.specs.declared.Res.{Res}
-use Rattle.ffi3_place_rules.specs.declared.Res.TheVariants.{Nothing, Direct, Hidden}
-use Rattle.ffi3_place_rules.specs.Standard.{Standard}
-use Rattle.ffi3_place_rules.specs.Sound.{IsNoneOf, piece_locs}
-use Rattle.ffi3_place_rules.specs.Isa.{to_list}
-use Rattle.ffi3_type_rules.specs.declared.limits.TheConstants.{STACK_TOP}
+use Rattle.ffi3_type_spec.specs.declared.Target.{Target}
+use Rattle.ffi3_type_spec.specs.Tree.{Tree}
+use Rattle.ffi3_type_spec.specs.Layout.{size_of}
+use Rattle.ffi3_place_spec.specs.declared.Loc.{Loc}
+use Rattle.ffi3_place_spec.specs.declared.Res.{Res}
+use Rattle.ffi3_place_spec.specs.declared.Res.TheVariants.{Nothing, Direct, Hidden}
+use Rattle.ffi3_place_spec.specs.Standard.{Standard}
+use Rattle.ffi3_place_spec.specs.Sound.{IsNoneOf, piece_locs}
+use Rattle.ffi3_place_spec.specs.MachineRegisters.{to_list}
+use Rattle.ffi3_type_spec.specs.declared.limits.TheConstants.{STACK_TOP}
 use Rattle.ffi3_machine.specs.State.{State}
-use Rattle.ffi3_pieces.specs.Stored.{IsPlace, word_in, IsWritable, KeepsPadding, KeepsUnused, WroteWithin}
+use Rattle.ffi3_machine_transfer.specs.Stored.{IsPlace, word_in, IsWritable, KeepsPadding, KeepsUnused, WroteWithin}
 
 -- where there is such a register, it is one of 32 to which writes are not dropped
 abbrev pub IsSettable : Target → Option Loc → Type 0

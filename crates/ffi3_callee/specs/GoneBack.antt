@@ -1,18 +1,19 @@
 -- The machine once a callee has gone back.
 use Rattle.std.specs.Prelude.{◌≡◌, ℕ, ◌+◌, ◌-◌, Bool, true, false, ◌++◌}
-use Rattle.ffi3_type_rules.specs.declared.limits.TheConstants.{RETURN, STACK_TOP}
-use Rattle.ffi3_type_rules.specs.Isa.{isa_of}
-use Rattle.ffi3_place_rules.specs.declared.Loc.{Loc}
-use Rattle.ffi3_place_rules.specs.Isa.{exit_scratch, link_register, callee_saved_words, result_loads}
-use Rattle.ffi3_place_rules.specs.Image.{Image, register}
-use Rattle.ffi3_place_rules.specs.Standard.{Standard}
-use Rattle.ffi3_place_rules.specs.Agrees.{saved_registers}
-use Rattle.ffi3_place_rules.specs.Sound.{IsNoneOf, IsOneOf}
+use Rattle.ffi3_type_spec.specs.declared.limits.TheConstants.{RETURN, STACK_TOP}
+use Rattle.ffi3_type_spec.specs.TargetIsa.{isa_of}
+use Rattle.ffi3_place_spec.specs.declared.Loc.{Loc}
+use Rattle.ffi3_place_spec.specs.MachineRegisters.{link_register}
+use Rattle.ffi3_place_spec.specs.StubRegisters.{exit_scratch, callee_saved_words, result_loads}
+use Rattle.ffi3_place_spec.specs.Image.{Image, register}
+use Rattle.ffi3_place_spec.specs.Standard.{Standard}
+use Rattle.ffi3_place_spec.specs.Agrees.{saved_registers}
+use Rattle.ffi3_place_spec.specs.Sound.{IsNoneOf, IsOneOf}
 use Rattle.ffi3_machine.specs.State.{State, HasReturnAddress, HasReturnAt, returned, with_pc, with_sp, with_x}
 use Rattle.ffi3_machine.specs.Stubs.{Exit, stub_at}
 use Rattle.ffi3_stubs.specs.Calls.{after_exit, steps_of}
-use Rattle.ffi3_pieces.specs.Passing.{by_exchange, passing, steps_if}
-use Rattle.ffi3_pieces.specs.Stored.{IsPlace, SameAt, WroteWithin, with_journal_of}
+use Rattle.ffi3_machine_transfer.specs.Passing.{by_exchange, passing, steps_if}
+use Rattle.ffi3_machine_transfer.specs.Stored.{IsPlace, SameAt, WroteWithin, with_journal_of}
 use Rattle.ffi3_callee.specs.Saved.{AreGivenBack, HoldRegisters, with_given_back}
 
 -- the machine that has gone back, whose sp at the entry was `entry`: through the stub Exit, which is told the save area's address, or by giving back word after word

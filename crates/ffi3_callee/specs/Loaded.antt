@@ -1,17 +1,17 @@
 -- Arguments that are read from their places, and what stays of the machine.
 use Rattle.std.specs.Prelude.{◌≡◌, ℕ, ◌+◌, ◌-◌, ◌≤◌, ⊤, List, get_or}
 use Rattle.std.specs.List.{AllByRecursion, Any}
-use Rattle.ffi3_type_rules.specs.Tree.{Tree}
-use Rattle.ffi3_type_rules.specs.Value.{ValueTree, value_in}
-use Rattle.ffi3_place_rules.specs.declared.Piece.{Piece}
-use Rattle.ffi3_place_rules.specs.declared.Place.{Place}
-use Rattle.ffi3_place_rules.specs.declared.Place.TheVariants.{Direct, ByRef}
-use Rattle.ffi3_place_rules.specs.Image.{Image}
-use Rattle.ffi3_place_rules.specs.Holds.{Carries, OwnsArgument}
-use Rattle.ffi3_type_rules.specs.declared.limits.TheConstants.{STACK_TOP}
+use Rattle.ffi3_type_spec.specs.Tree.{Tree}
+use Rattle.ffi3_type_spec.specs.Value.{ValueTree, value_in}
+use Rattle.ffi3_place_spec.specs.declared.Piece.{Piece}
+use Rattle.ffi3_place_spec.specs.declared.Place.{Place}
+use Rattle.ffi3_place_spec.specs.declared.Place.TheVariants.{Direct, ByRef}
+use Rattle.ffi3_place_spec.specs.Image.{Image}
+use Rattle.ffi3_place_spec.specs.Holds.{Carries, OwnsArgument}
+use Rattle.ffi3_type_spec.specs.declared.limits.TheConstants.{STACK_TOP}
 use Rattle.ffi3_machine.specs.State.{State, image_of, with_sp}
-use Rattle.ffi3_pieces.specs.Stored.{byte_of, word_in}
-use Rattle.ffi3_pieces.specs.Standing.{PlaceLies}
+use Rattle.ffi3_machine_transfer.specs.Stored.{byte_of, word_in}
+use Rattle.ffi3_machine_transfer.specs.Standing.{PlaceLies}
 
 -- the machine's registers, and so many bytes of its stack from an address on
 abbrev pub image_from : ℕ → ℕ → State → Image

@@ -1,16 +1,16 @@
 -- An argument's bytes that are moved from their places to a copy of the argument.
 use Rattle.std.specs.Prelude.{◌≡◌, ℕ, ◌+◌, ◌-◌, ◌⊎◌, Bool, true, false, List, [], ◌∷◌}
 use Rattle.std.specs.List.{AllByRecursion}
-use Rattle.ffi3_place_rules.specs.declared.Loc.{Loc}
-use Rattle.ffi3_place_rules.specs.declared.Loc.TheVariants.{G, F, S}
-use Rattle.ffi3_place_rules.specs.declared.Piece.{Piece}
-use Rattle.ffi3_place_rules.specs.Holds.{Carries}
+use Rattle.ffi3_place_spec.specs.declared.Loc.{Loc}
+use Rattle.ffi3_place_spec.specs.declared.Loc.TheVariants.{G, F, S}
+use Rattle.ffi3_place_spec.specs.declared.Piece.{Piece}
+use Rattle.ffi3_place_spec.specs.Holds.{Carries}
 use Rattle.ffi3_cif.specs.declared.runs.Run.{Run}
 use Rattle.ffi3_cif.specs.Runs.{OneCopies}
 use Rattle.ffi3_machine.specs.State.{State}
-use Rattle.ffi3_place_rules.specs.Sound.{IsWithin}
-use Rattle.ffi3_pieces.specs.Stored.{WroteOnly, byte_of, stack_byte}
-use Rattle.ffi3_pieces.specs.Runs.{RunLies}
+use Rattle.ffi3_place_spec.specs.Sound.{IsWithin}
+use Rattle.ffi3_machine_transfer.specs.Stored.{WroteOnly, byte_of, stack_byte}
+use Rattle.ffi3_machine_transfer.specs.Runs.{RunLies}
 use Rattle.ffi3_callee.specs.Loaded.{HaveByte}
 
 -- each byte of a run stands at its offset of the copy at `to`

@@ -1,12 +1,12 @@
 -- What holds while the bytes that carry nothing are overwritten: register by register, then the frame byte by byte.
 use Rattle.std.specs.Prelude.{◌≡◌, ℕ, ◌+◌, ◌<◌, ◌⊎◌, true, false, nat_lt, ◌&&◌, take}
 use Rattle.std.specs.List.{list_any}
-use Rattle.ffi3_type_rules.specs.Signature.{Signature}
-use Rattle.ffi3_place_rules.specs.declared.Loc.{Loc}
-use Rattle.ffi3_place_rules.specs.declared.Loc.TheVariants.{S}
-use Rattle.ffi3_place_rules.specs.Standard.{Standard, frame_of}
+use Rattle.ffi3_type_spec.specs.Signature.{Signature}
+use Rattle.ffi3_place_spec.specs.declared.Loc.{Loc}
+use Rattle.ffi3_place_spec.specs.declared.Loc.TheVariants.{S}
+use Rattle.ffi3_place_spec.specs.Standard.{Standard, frame_of}
 use Rattle.ffi3_machine.specs.State.{State}
-use Rattle.ffi3_pieces.specs.Stored.{IsPlace, WroteOnly, WroteWithin, byte_of, stack_byte, word_in}
+use Rattle.ffi3_machine_transfer.specs.Stored.{IsPlace, WroteOnly, WroteWithin, byte_of, stack_byte, word_in}
 use Rattle.ffi3_callee.specs.Poison.{MarkFalls, is_free, is_register}
 
 -- a register's byte stays, or it is free and becomes `byte`

@@ -1,20 +1,20 @@
 -- The machine after a callee took its arguments, and what the callee remembers of its entry.
 use Rattle.std.specs.Prelude.{◌≡◌, ◌+◌, ◌-◌, ◌≤◌, Bool, false, List, Option, Some, None, length}
-use Rattle.ffi3_type_rules.specs.declared.limits.TheConstants.{STACK, STACK_TOP}
-use Rattle.ffi3_type_rules.specs.Isa.{isa_of}
-use Rattle.ffi3_type_rules.specs.Signature.{Signature}
-use Rattle.ffi3_type_rules.specs.Value.{ValueTree}
-use Rattle.ffi3_place_rules.specs.declared.Loc.{Loc}
-use Rattle.ffi3_place_rules.specs.declared.Res.{Res}
-use Rattle.ffi3_place_rules.specs.declared.Res.TheVariants.{Nothing, Direct, Hidden}
-use Rattle.ffi3_place_rules.specs.Standard.{Standard, block_bytes, frame_of, plan_of}
-use Rattle.ffi3_place_rules.specs.Holds.{Own}
+use Rattle.ffi3_type_spec.specs.declared.limits.TheConstants.{STACK, STACK_TOP}
+use Rattle.ffi3_type_spec.specs.TargetIsa.{isa_of}
+use Rattle.ffi3_type_spec.specs.Signature.{Signature}
+use Rattle.ffi3_type_spec.specs.Value.{ValueTree}
+use Rattle.ffi3_place_spec.specs.declared.Loc.{Loc}
+use Rattle.ffi3_place_spec.specs.declared.Res.{Res}
+use Rattle.ffi3_place_spec.specs.declared.Res.TheVariants.{Nothing, Direct, Hidden}
+use Rattle.ffi3_place_spec.specs.Standard.{Standard, block_bytes, frame_of, plan_of}
+use Rattle.ffi3_place_spec.specs.Holds.{Own}
 use Rattle.ffi3_machine.specs.State.{State, image_of, scribbled, stack_at}
 use Rattle.ffi3_body.specs.SeenActivation.{arguments_in}
 use Rattle.ffi3_machine.specs.Stubs.{Entry}
 use Rattle.ffi3_stubs.specs.Calls.{steps_of}
-use Rattle.ffi3_pieces.specs.Passing.{by_exchange, steps_if}
-use Rattle.ffi3_pieces.specs.Stored.{WroteWithin, with_journal_of}
+use Rattle.ffi3_machine_transfer.specs.Passing.{by_exchange, steps_if}
+use Rattle.ffi3_machine_transfer.specs.Stored.{WroteWithin, with_journal_of}
 use Rattle.ffi3_callee.specs.Entered.{entered_if}
 use Rattle.ffi3_callee.specs.Given.{IsAddressOrZero}
 use Rattle.ffi3_callee.specs.Saved.{AreSaved}

@@ -1,14 +1,14 @@
 -- The words of a save area: what each is to hold, and what is given back from it.
 use Rattle.std.specs.Prelude.{◌≡◌, ℕ, suc, ◌+◌, ◌*◌, ◌<◌, ⊤, List, [], ◌∷◌, get_or, length, Option, Some, None}
 use Rattle.std.specs.Int.{w64, to_le_bytes}
-use Rattle.ffi3_type_rules.specs.declared.Target.{Target}
-use Rattle.ffi3_type_rules.specs.declared.limits.TheConstants.{STACK_TOP}
-use Rattle.ffi3_place_rules.specs.declared.Loc.{Loc}
-use Rattle.ffi3_place_rules.specs.declared.Loc.TheVariants.{G, F, S}
-use Rattle.ffi3_place_rules.specs.declared.SaveWord.{SaveWord}
-use Rattle.ffi3_place_rules.specs.declared.SaveWord.TheVariants.{Register, Hidden, Spare}
+use Rattle.ffi3_type_spec.specs.declared.Target.{Target}
+use Rattle.ffi3_type_spec.specs.declared.limits.TheConstants.{STACK_TOP}
+use Rattle.ffi3_place_spec.specs.declared.Loc.{Loc}
+use Rattle.ffi3_place_spec.specs.declared.Loc.TheVariants.{G, F, S}
+use Rattle.ffi3_place_spec.specs.declared.SaveWord.{SaveWord}
+use Rattle.ffi3_place_spec.specs.declared.SaveWord.TheVariants.{Register, Hidden, Spare}
 use Rattle.ffi3_machine.specs.State.{State, stored, with_floating, with_general}
-use Rattle.ffi3_pieces.specs.Stored.{IsPlace, IsWritable, word_in}
+use Rattle.ffi3_machine_transfer.specs.Stored.{IsPlace, IsWritable, word_in}
 
 -- word i of those that stand one behind the other from an address on
 abbrev pub saved_word : ℕ → ℕ → State → ℕ

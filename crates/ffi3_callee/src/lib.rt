@@ -2,45 +2,45 @@
 #![tactic(auto)]
 
 ghost use Rattle.std.specs.Prelude.{◌≡◌, ◌+◌, ◌-◌, ◌<◌, ◌≤◌, List, length, slice_index_or};
-ghost use Rattle.ffi3_type_rules.specs.declared.limits.TheConstants.{ENTRY, STACK, STACK_TOP};
-ghost use Rattle.ffi3_type_rules.specs.Isa.{isa_of};
-ghost use Rattle.ffi3_type_rules.specs.Tree.{tree_at};
-ghost use Rattle.ffi3_type_rules.specs.Layout.{size_of};
-ghost use Rattle.ffi3_type_rules.specs.Value.{ValueTree, value_in, void_value};
-ghost use Rattle.ffi3_place_rules.specs.Holds.{OwnsArguments};
-ghost use Rattle.ffi3_place_rules.specs.Standard.{block_bytes, frame_of, plan_of};
+ghost use Rattle.ffi3_type_spec.specs.declared.limits.TheConstants.{ENTRY, STACK, STACK_TOP};
+ghost use Rattle.ffi3_type_spec.specs.TargetIsa.{isa_of};
+ghost use Rattle.ffi3_type_spec.specs.Tree.{tree_at};
+ghost use Rattle.ffi3_type_spec.specs.Layout.{size_of};
+ghost use Rattle.ffi3_type_spec.specs.Value.{ValueTree, value_in, void_value};
+ghost use Rattle.ffi3_place_spec.specs.Holds.{OwnsArguments};
+ghost use Rattle.ffi3_place_spec.specs.Standard.{block_bytes, frame_of, plan_of};
 ghost use Rattle.ffi3_machine.specs.State.{scribbled_floating, scribbled_general, stack_at};
 ghost use Rattle.ffi3_body.specs.SeenActivation.{arguments_in, block_offset};
-ghost use Rattle.ffi3_pieces.specs.Passing.{by_exchange, passing};
-ghost use Rattle.ffi3_pieces.specs.Stored.{WroteOnly};
+ghost use Rattle.ffi3_machine_transfer.specs.Passing.{by_exchange, passing};
+ghost use Rattle.ffi3_machine_transfer.specs.Stored.{WroteOnly};
 ghost use Rattle.ffi3_callee.specs.Loaded.{AreFound, image_from};
 ghost use Rattle.ffi3_callee.specs.Given.{ReservedStay};
 ghost use Rattle.ffi3_callee.specs.Received.{IsIncoming, IsReceived, OwnsAtEntry, hidden_of, received_if};
 ghost use Rattle.ffi3_callee.specs.Saved.{HiddenLies, hidden_word};
 
-mod answering;
-mod entering;
-mod giving;
-mod going;
+mod activation;
+mod arguments;
+mod epilogue;
 mod poisoning;
-mod restoring;
-mod saving;
-mod taking;
+mod prologue;
+mod return_path;
+mod returned_value;
+mod save_area;
 
-pub use answering::answer;
-use entering::enter;
+pub use activation::answer;
+use arguments::copy_argument;
+pub use epilogue::restore;
 use ffi3_cif::Cif;
 use ffi3_machine::{Machine, StackBase};
-use ffi3_pieces::place_word;
+use ffi3_machine_transfer::place_word;
 use ffi3_place::{Abi, Loc, Res};
-use ffi3_type_rules::round_up;
+use ffi3_type_spec::round_up;
 use ffi3_types::CheckedSig;
-pub use giving::give_result;
-pub use going::go_back;
 pub use poisoning::poison;
-pub use restoring::restore;
+use prologue::enter;
+pub use return_path::go_back;
+pub use returned_value::give_result;
 use std::marker::Model;
-use taking::copy_argument;
 
 /// What a callee remembers of its entry until it returns: the addresses of its copy of the arguments and of a hidden
 /// result's buffer, and the stack pointer.

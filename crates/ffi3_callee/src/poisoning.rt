@@ -2,11 +2,11 @@
 ghost use Rattle.std.specs.Prelude.{◌≡◌, ℕ, ◌+◌, ◌<◌, ◌≤◌, List, get_or, length, if◌then◌else◌, true};
 ghost use Rattle.std.specs.List.{list_any};
 ghost use Rattle.std.specs.Int.{w64, to_le_bytes};
-ghost use Rattle.ffi3_type_rules.specs.declared.limits.TheConstants.{ENTRY, STACK, STACK_TOP};
-ghost use Rattle.ffi3_type_rules.specs.Value.{ValueTree};
-ghost use Rattle.ffi3_place_rules.specs.Standard.{frame_of};
+ghost use Rattle.ffi3_type_spec.specs.declared.limits.TheConstants.{ENTRY, STACK, STACK_TOP};
+ghost use Rattle.ffi3_type_spec.specs.Value.{ValueTree};
+ghost use Rattle.ffi3_place_spec.specs.Standard.{frame_of};
 ghost use Rattle.ffi3_machine.specs.State.{HasReturnAddress};
-ghost use Rattle.ffi3_pieces.specs.Stored.{IsPlace, IsWordPut, IsWritable};
+ghost use Rattle.ffi3_machine_transfer.specs.Stored.{IsPlace, IsWordPut, IsWritable};
 ghost use Rattle.ffi3_callee.specs.Poison.{IsPoisoned, address_has, byte_number, carries, copy_has, hidden_has, is_argument_register, is_leaf_byte, piece_has, place_has};
 ghost use Rattle.ffi3_callee.specs.Received.{OwnsAtEntry};
 ghost use Rattle.ffi3_callee.specs.Overwritten.{AreRegistersDone, IsFrameDone, IsRegisterDone};
@@ -14,7 +14,7 @@ ghost use Rattle.ffi3_callee.specs.Saved.{with_register};
 
 use ffi3_cif::Cif;
 use ffi3_machine::{Machine, StackBase};
-use ffi3_pieces::own_word;
+use ffi3_machine_transfer::own_word;
 use ffi3_place::{Abi, Loc, Piece, Pieces, Place, Res};
 use ffi3_types::CheckedType;
 

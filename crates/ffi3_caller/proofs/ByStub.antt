@@ -3,23 +3,24 @@ use Rattle.std.proofs.Common.{◌≡◌, ℕ, ◌+◌, ◌-◌, ◌%◌, ◌^◌
 use Rattle.std.specs.List.{replace_range}
 use Rattle.std.specs.Int.{w64, to_le_bytes}
 use Rattle.std.proofs.lemmas.List.{get_or-set_other}
-use Rattle.ffi3_type_rules.specs.declared.Isa.{Isa}
-use Rattle.ffi3_type_rules.specs.declared.Isa.TheVariants.{Amd64, Aarch64, Riscv}
-use Rattle.ffi3_type_rules.specs.declared.limits.TheConstants.{RETURN, STACK, STACK_TOP}
-use Rattle.ffi3_type_rules.specs.Isa.{isa_of}
-use Rattle.ffi3_place_rules.specs.declared.Loc.{Loc}
-use Rattle.ffi3_place_rules.specs.declared.Loc.TheVariants.{G, F, S}
-use Rattle.ffi3_place_rules.specs.Isa.{call_loads, call_scratch, exit_scratch, link_place, link_register, to_list, pushed_bytes, result_loads}
-use Rattle.ffi3_place_rules.specs.Sound.{IsNoneOf, IsOneOf}
+use Rattle.ffi3_type_spec.specs.declared.Isa.{Isa}
+use Rattle.ffi3_type_spec.specs.declared.Isa.TheVariants.{Amd64, Aarch64, Riscv}
+use Rattle.ffi3_type_spec.specs.declared.limits.TheConstants.{RETURN, STACK, STACK_TOP}
+use Rattle.ffi3_type_spec.specs.TargetIsa.{isa_of}
+use Rattle.ffi3_place_spec.specs.declared.Loc.{Loc}
+use Rattle.ffi3_place_spec.specs.declared.Loc.TheVariants.{G, F, S}
+use Rattle.ffi3_place_spec.specs.MachineRegisters.{link_place, link_register, to_list, pushed_bytes}
+use Rattle.ffi3_place_spec.specs.StubRegisters.{call_loads, call_scratch, exit_scratch, result_loads}
+use Rattle.ffi3_place_spec.specs.Sound.{IsNoneOf, IsOneOf}
 use Rattle.ffi3_machine.specs.State.{State, HasReturnAddress, HasReturnAt, IsMachine, IsSlot, called, linked_general, linked_stack, lowered, with_x, x_of}
 use Rattle.ffi3_machine.specs.Stubs.{Call, Return, exchanged_at}
 use Rattle.ffi3_stubs.specs.Calls.{CameFromExchange, HasCalled, HasReturned, IsLinked, called_stack, steps_of, target_of}
-use Rattle.ffi3_pieces.specs.Passing.{by_exchange, passing_if}
-use Rattle.ffi3_pieces.specs.Stored.{IsPlace, SameAt}
-use Rattle.ffi3_pieces.proofs.Composing.{same_itself}
-use Rattle.ffi3_pieces.proofs.Exchanged.{word_written}
-use Rattle.ffi3_pieces.proofs.Held.{left_by, loaded_as_passed, stored_as_passed}
-use Rattle.ffi3_pieces.proofs.Passing.{place_low, steps_more, steps_same, told_below, told_length, told_there}
+use Rattle.ffi3_machine_transfer.specs.Passing.{by_exchange, passing_if}
+use Rattle.ffi3_machine_transfer.specs.Stored.{IsPlace, SameAt}
+use Rattle.ffi3_machine_transfer.proofs.Composing.{same_itself}
+use Rattle.ffi3_machine_transfer.proofs.Exchanged.{word_written}
+use Rattle.ffi3_machine_transfer.proofs.Held.{left_by, loaded_as_passed, stored_as_passed}
+use Rattle.ffi3_machine_transfer.proofs.Passing.{place_low, steps_more, steps_same, told_below, told_length, told_there}
 use Rattle.ffi3_caller.specs.Called.{HasComeBack, IsCarried, IsLeft, IsPassedBack, IsUntouched, SlotIsCalled, frame_start_if, told}
 
 -- ---- a call by its stub

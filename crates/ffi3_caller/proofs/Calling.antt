@@ -3,36 +3,36 @@ use Rattle.std.specs.Prelude.{true, Option, Some, None}
 use Rattle.std.proofs.Common.{◌≡◌, ℕ, zero, suc, ◌+◌, ◌-◌, ◌<◌, ◌≤◌, List, [], ◌∷◌, ◌++◌, get_or, length, replicate, inl, subst, sym, ◌∙◌, ap, refl, arith}
 use Rattle.std.specs.List.{AllByRecursion, flat_map, replace_range}
 use Rattle.std.proofs.lemmas.List.{get_or-replicate, length-replicate}
-use Rattle.ffi3_type_rules.specs.declared.Target.{Target}
-use Rattle.ffi3_type_rules.specs.declared.Isa.{Isa}
-use Rattle.ffi3_type_rules.specs.declared.Isa.TheVariants.{Amd64, Aarch64, Riscv}
-use Rattle.ffi3_type_rules.specs.declared.limits.TheConstants.{STACK}
-use Rattle.ffi3_type_rules.specs.Isa.{isa_of}
-use Rattle.ffi3_type_rules.specs.Tree.{Tree, trees_of}
-use Rattle.ffi3_type_rules.specs.Signature.{Signature, SignatureHasNoFault}
-use Rattle.ffi3_type_rules.specs.Value.{ValueTree, all_fit, values_of}
-use Rattle.ffi3_place_rules.specs.declared.Loc.{Loc}
-use Rattle.ffi3_place_rules.specs.declared.Loc.TheVariants.{G, F, S}
-use Rattle.ffi3_place_rules.specs.declared.Place.{Place}
-use Rattle.ffi3_place_rules.specs.declared.Place.TheVariants.{Direct, ByRef}
-use Rattle.ffi3_place_rules.specs.declared.Res.{Res}
-use Rattle.ffi3_place_rules.specs.declared.Res.TheVariants.{Nothing, Direct as DirectRes, Hidden}
-use Rattle.ffi3_place_rules.specs.Isa.{reserved_places, to_list}
-use Rattle.ffi3_place_rules.specs.Standard.{Standard, plan_of, frame_of}
-use Rattle.ffi3_place_rules.specs.Agrees.{AgreesWithMachine, given_back, special}
-use Rattle.ffi3_place_rules.specs.Holds.{FillArguments, OwnsArguments, OwnsHidden, RegisterHolds}
-use Rattle.ffi3_place_rules.specs.Sound.{Apart, IsNoneOf, IsSound, PlacesHaveAll, argument_locs, buffer_locs, copy_locs, hidden_locs, closed_to_arguments, closed_to_results, place_locs, stack_words, stack_words_for}
+use Rattle.ffi3_type_spec.specs.declared.Target.{Target}
+use Rattle.ffi3_type_spec.specs.declared.Isa.{Isa}
+use Rattle.ffi3_type_spec.specs.declared.Isa.TheVariants.{Amd64, Aarch64, Riscv}
+use Rattle.ffi3_type_spec.specs.declared.limits.TheConstants.{STACK}
+use Rattle.ffi3_type_spec.specs.TargetIsa.{isa_of}
+use Rattle.ffi3_type_spec.specs.Tree.{Tree, trees_of}
+use Rattle.ffi3_type_spec.specs.Signature.{Signature, SignatureHasNoFault}
+use Rattle.ffi3_type_spec.specs.Value.{ValueTree, all_fit, values_of}
+use Rattle.ffi3_place_spec.specs.declared.Loc.{Loc}
+use Rattle.ffi3_place_spec.specs.declared.Loc.TheVariants.{G, F, S}
+use Rattle.ffi3_place_spec.specs.declared.Place.{Place}
+use Rattle.ffi3_place_spec.specs.declared.Place.TheVariants.{Direct, ByRef}
+use Rattle.ffi3_place_spec.specs.declared.Res.{Res}
+use Rattle.ffi3_place_spec.specs.declared.Res.TheVariants.{Nothing, Direct as DirectRes, Hidden}
+use Rattle.ffi3_place_spec.specs.MachineRegisters.{reserved_places, to_list}
+use Rattle.ffi3_place_spec.specs.Standard.{Standard, plan_of, frame_of}
+use Rattle.ffi3_place_spec.specs.Agrees.{AgreesWithMachine, given_back, special}
+use Rattle.ffi3_place_spec.specs.Holds.{FillArguments, OwnsArguments, OwnsHidden, RegisterHolds}
+use Rattle.ffi3_place_spec.specs.Sound.{Apart, IsNoneOf, IsSound, PlacesHaveAll, argument_locs, buffer_locs, copy_locs, hidden_locs, closed_to_arguments, closed_to_results, place_locs, stack_words, stack_words_for}
 use Rattle.ffi3_machine.specs.State.{State, image_of, filled, stored, lowered, scribbled, scribbled_general, scribbled_register, with_sp}
 use Rattle.ffi3_machine.specs.Scribbled.{get_or-scribbled_general}
-use Rattle.ffi3_pieces.specs.Stored.{stack_byte, IsPlace, IsWritable, SameAt, Stays, WroteWithin}
-use Rattle.ffi3_pieces.specs.Standing.{AllKeepUnused, AllStand, all_uses, HiddenStands}
+use Rattle.ffi3_machine_transfer.specs.Stored.{stack_byte, IsPlace, IsWritable, SameAt, Stays, WroteWithin}
+use Rattle.ffi3_machine_transfer.specs.Standing.{AllKeepUnused, AllStand, all_uses, HiddenStands}
 use Rattle.ffi3_marshal.proofs.Composing.{none_append}
-use Rattle.ffi3_pieces.proofs.Composing.{same_then, wrote_then}
-use Rattle.ffi3_pieces.proofs.Putting.{stored_inside, stored_within}
-use Rattle.ffi3_pieces.proofs.Stepping.{same_word_in}
-use Rattle.ffi3_pieces.proofs.Owning.{image_word, owned, filled as all_filled}
+use Rattle.ffi3_machine_transfer.proofs.Composing.{same_then, wrote_then}
+use Rattle.ffi3_machine_transfer.proofs.Putting.{stored_inside, stored_within}
+use Rattle.ffi3_machine_transfer.proofs.Stepping.{same_word_in}
+use Rattle.ffi3_machine_transfer.proofs.Owning.{image_word, owned, filled as all_filled}
 use Rattle.ffi3_marshal.proofs.Lawful.{each_first, each_rest, each_join, each_map, apart_first, apart_across, across_none, across_first, uses_each, machine_places, call_places, all_ready}
-use Rattle.ffi3_pieces.proofs.Arguments.{all_keep_stay, all_stay}
+use Rattle.ffi3_machine_transfer.proofs.Arguments.{all_keep_stay, all_stay}
 use Rattle.ffi3_caller.specs.Called.{CountStands}
 
 -- ---- the frame

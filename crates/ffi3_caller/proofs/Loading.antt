@@ -4,17 +4,17 @@ use Rattle.std.specs.List.{AllByRecursion, Any, replace_range}
 use Rattle.std.specs.Int.{w64, to_le_bytes}
 use Rattle.std.proofs.lemmas.Bool.{cases_lt}
 use Rattle.std.proofs.lemmas.List.{get_or-take, get_or-drop, get_or_append_left, get_or-append_right, length-append, length-take-le, length-drop}
-use Rattle.ffi3_type_rules.specs.Layout.{Leaf}
-use Rattle.ffi3_place_rules.specs.declared.Loc.{Loc}
-use Rattle.ffi3_place_rules.specs.declared.Loc.TheVariants.{G, F, S}
-use Rattle.ffi3_place_rules.specs.declared.Piece.{Piece}
-use Rattle.ffi3_place_rules.specs.Image.{Image, byte_at}
-use Rattle.ffi3_place_rules.specs.Holds.{Carries, StandsInPieces, LeavesStand}
-use Rattle.ffi3_place_rules.specs.Sound.{CoversLeaf, IsWithin}
+use Rattle.ffi3_type_spec.specs.Layout.{Leaf}
+use Rattle.ffi3_place_spec.specs.declared.Loc.{Loc}
+use Rattle.ffi3_place_spec.specs.declared.Loc.TheVariants.{G, F, S}
+use Rattle.ffi3_place_spec.specs.declared.Piece.{Piece}
+use Rattle.ffi3_place_spec.specs.Image.{Image, byte_at}
+use Rattle.ffi3_place_spec.specs.Holds.{Carries, StandsInPieces, LeavesStand}
+use Rattle.ffi3_place_spec.specs.Sound.{CoversLeaf, IsWithin}
 use Rattle.ffi3_machine.specs.State.{State, image_of}
-use Rattle.ffi3_pieces.specs.Stored.{IsPlace}
+use Rattle.ffi3_machine_transfer.specs.Stored.{IsPlace}
 use Rattle.ffi3_caller.specs.Loaded.{AreWithin, register_of, loaded, with_piece}
-use Rattle.ffi3_place_rules.proofs.Reading.{ReadsLeaf, LeavesRead}
+use Rattle.ffi3_place_spec.proofs.Reading.{ReadsLeaf, LeavesRead}
 
 -- the pieces from number i on are still to be loaded
 pub record IsLeftToLoad (m : State) (pieces : List Piece) (old : List ℕ) (i : ℕ) (out : List ℕ) : Type 0 where

@@ -5,34 +5,35 @@ use Rattle.std.specs.List.{AllByRecursion, flat_map}
 use Rattle.std.specs.Int.{w64, to_le_bytes}
 use Rattle.std.proofs.lemmas.List.{drop-drop, drop-take, length-append, length-take-le}
 use Rattle.std.proofs.lemmas.Slice.{drop-append-drop}
-use Rattle.ffi3_type_rules.specs.declared.Target.{Target}
-use Rattle.ffi3_type_rules.specs.declared.Isa.{Isa}
-use Rattle.ffi3_type_rules.specs.declared.Isa.TheVariants.{Amd64, Aarch64, Riscv}
-use Rattle.ffi3_type_rules.specs.declared.limits.TheConstants.{STACK, RETURN}
-use Rattle.ffi3_type_rules.specs.Isa.{isa_of}
-use Rattle.ffi3_type_rules.specs.Signature.{Signature, SignatureHasNoFault}
-use Rattle.ffi3_type_rules.specs.Value.{ValueTree}
-use Rattle.ffi3_type_rules.proofs.Parts.{length_part}
-use Rattle.ffi3_type_rules.proofs.Placed.{faultless_is_plain}
-use Rattle.ffi3_place_rules.specs.declared.Loc.{Loc}
-use Rattle.ffi3_place_rules.specs.declared.Loc.TheVariants.{G, F, S}
-use Rattle.ffi3_place_rules.specs.Isa.{call_loads, call_scratch, exit_scratch, has_stubs, link_place, link_register, to_list, pushed_bytes, reserved_places}
-use Rattle.ffi3_place_rules.specs.Standard.{Standard, frame_of, plan_of}
-use Rattle.ffi3_place_rules.specs.Agrees.{AgreesWithMachine, given_back, special}
-use Rattle.ffi3_place_rules.specs.ByStubs.{AgreesWithStubs, ResultGoesByStubs}
-use Rattle.ffi3_place_rules.specs.Holds.{OwnResult, OwnsArguments, OwnsHidden, FillArguments, RegisterHolds, Holds}
-use Rattle.ffi3_place_rules.specs.Image.{register}
-use Rattle.ffi3_place_rules.specs.Sound.{Apart, IsNoneOf, IsOneOf, IsOnStackOrIn, IsSound, argument_locs, buffer_locs, closed_to_arguments, closed_to_results, copy_locs, hidden_locs, place_locs, result_locs}
-use Rattle.ffi3_place_rules.proofs.OnMachine.{IsSoundOnMachine}
+use Rattle.ffi3_type_spec.specs.declared.Target.{Target}
+use Rattle.ffi3_type_spec.specs.declared.Isa.{Isa}
+use Rattle.ffi3_type_spec.specs.declared.Isa.TheVariants.{Amd64, Aarch64, Riscv}
+use Rattle.ffi3_type_spec.specs.declared.limits.TheConstants.{STACK, RETURN}
+use Rattle.ffi3_type_spec.specs.TargetIsa.{isa_of}
+use Rattle.ffi3_type_spec.specs.Signature.{Signature, SignatureHasNoFault}
+use Rattle.ffi3_type_spec.specs.Value.{ValueTree}
+use Rattle.ffi3_type_spec.proofs.Parts.{length_part}
+use Rattle.ffi3_type_spec.proofs.Placed.{faultless_is_plain}
+use Rattle.ffi3_place_spec.specs.declared.Loc.{Loc}
+use Rattle.ffi3_place_spec.specs.declared.Loc.TheVariants.{G, F, S}
+use Rattle.ffi3_place_spec.specs.MachineRegisters.{link_place, link_register, to_list, pushed_bytes, reserved_places}
+use Rattle.ffi3_place_spec.specs.StubRegisters.{call_loads, call_scratch, exit_scratch, has_stubs}
+use Rattle.ffi3_place_spec.specs.Standard.{Standard, frame_of, plan_of}
+use Rattle.ffi3_place_spec.specs.Agrees.{AgreesWithMachine, given_back, special}
+use Rattle.ffi3_place_spec.specs.ByStubs.{AgreesWithStubs, ResultGoesByStubs}
+use Rattle.ffi3_place_spec.specs.Holds.{OwnResult, OwnsArguments, OwnsHidden, FillArguments, RegisterHolds, Holds}
+use Rattle.ffi3_place_spec.specs.Image.{register}
+use Rattle.ffi3_place_spec.specs.Sound.{Apart, IsNoneOf, IsOneOf, IsOnStackOrIn, IsSound, argument_locs, buffer_locs, closed_to_arguments, closed_to_results, copy_locs, hidden_locs, place_locs, result_locs}
+use Rattle.ffi3_place_spec.proofs.OnMachine.{IsSoundOnMachine}
 use Rattle.ffi3_machine.specs.State.{State, image_of, linked_stack, stack_at}
-use Rattle.ffi3_pieces.specs.Passing.{by_exchange, passing}
-use Rattle.ffi3_pieces.specs.Stored.{IsPlace, SameAt}
-use Rattle.ffi3_pieces.proofs.Alike.{AreAlike, arguments_owned, arguments_filled, address_owned, count_held}
+use Rattle.ffi3_machine_transfer.specs.Passing.{by_exchange, passing}
+use Rattle.ffi3_machine_transfer.specs.Stored.{IsPlace, SameAt}
+use Rattle.ffi3_machine_transfer.proofs.Alike.{AreAlike, arguments_owned, arguments_filled, address_owned, count_held}
 use Rattle.ffi3_marshal.proofs.Lawful.{call_places, each_first, each_rest, each_map, machine_places}
-use Rattle.ffi3_pieces.proofs.Outcomes.{own_result_kept}
-use Rattle.ffi3_pieces.proofs.Passing.{stubs_there}
+use Rattle.ffi3_machine_transfer.proofs.Outcomes.{own_result_kept}
+use Rattle.ffi3_machine_transfer.proofs.Passing.{stubs_there}
 use Rattle.ffi3_marshal.proofs.Ranges.{range_length}
-use Rattle.ffi3_pieces.proofs.Tables.{each_with, one_of_each, preserved_not_called, preserved_not_returned, reserved_are_places, reserved_not_called, reserved_not_link, reserved_not_returned}
+use Rattle.ffi3_machine_transfer.proofs.Tables.{each_with, one_of_each, preserved_not_called, preserved_not_returned, reserved_are_places, reserved_not_called, reserved_not_link, reserved_not_returned}
 use Rattle.ffi3_caller.specs.Called.{HasComeBack, IsCarried, IsLeft, IsPassedBack, IsUntouched, SlotIsCalled, at_frame}
 
 -- ---- the stack

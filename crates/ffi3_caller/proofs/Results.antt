@@ -2,28 +2,28 @@
 use Rattle.std.proofs.Common.{◌≡◌, ℕ, ◌+◌, ◌-◌, ◌≤◌, List, [], ◌∷◌, take, drop, length, ap, sym, ◌∙◌, subst, arith}
 use Rattle.std.specs.List.{AllByRecursion}
 use Rattle.std.proofs.lemmas.List.{drop-drop, drop-take, take-take}
-use Rattle.ffi3_type_rules.specs.declared.Isa.{Isa}
-use Rattle.ffi3_type_rules.specs.declared.limits.TheConstants.{STACK}
-use Rattle.ffi3_type_rules.specs.Isa.{isa_of}
-use Rattle.ffi3_type_rules.specs.Tree.{Tree}
-use Rattle.ffi3_type_rules.specs.Layout.{size_of, leaves_of}
-use Rattle.ffi3_type_rules.specs.Signature.{Signature}
-use Rattle.ffi3_type_rules.specs.Value.{ValueTree, value_in}
-use Rattle.ffi3_type_rules.proofs.Layouts.{least_multiple-above}
-use Rattle.ffi3_place_rules.specs.declared.Loc.{Loc}
-use Rattle.ffi3_place_rules.specs.declared.Piece.{Piece}
-use Rattle.ffi3_place_rules.specs.declared.Res.{Res}
-use Rattle.ffi3_place_rules.specs.declared.Res.TheVariants.{Direct as DirectRes, Hidden}
-use Rattle.ffi3_place_rules.specs.Standard.{Standard, ResultSpot, no_result, in_result_pieces, in_buffer, plan_of, frame_of, result_at, buffer_end, frame_copies_end, round8}
-use Rattle.ffi3_place_rules.specs.Holds.{leaf_bytes, OwnResult, OwnsResult}
-use Rattle.ffi3_place_rules.specs.Sound.{LiesIn, HaveAll, IsPieceOf, ResultHasAll, piece_locs, result_locs, IsWithin}
-use Rattle.ffi3_place_rules.proofs.Tests.{each_weaker}
+use Rattle.ffi3_type_spec.specs.declared.Isa.{Isa}
+use Rattle.ffi3_type_spec.specs.declared.limits.TheConstants.{STACK}
+use Rattle.ffi3_type_spec.specs.TargetIsa.{isa_of}
+use Rattle.ffi3_type_spec.specs.Tree.{Tree}
+use Rattle.ffi3_type_spec.specs.Layout.{size_of, leaves_of}
+use Rattle.ffi3_type_spec.specs.Signature.{Signature}
+use Rattle.ffi3_type_spec.specs.Value.{ValueTree, value_in}
+use Rattle.ffi3_type_spec.proofs.Layouts.{least_multiple-above}
+use Rattle.ffi3_place_spec.specs.declared.Loc.{Loc}
+use Rattle.ffi3_place_spec.specs.declared.Piece.{Piece}
+use Rattle.ffi3_place_spec.specs.declared.Res.{Res}
+use Rattle.ffi3_place_spec.specs.declared.Res.TheVariants.{Direct as DirectRes, Hidden}
+use Rattle.ffi3_place_spec.specs.Standard.{Standard, ResultSpot, no_result, in_result_pieces, in_buffer, plan_of, frame_of, result_at, buffer_end, frame_copies_end, round8}
+use Rattle.ffi3_place_spec.specs.Holds.{leaf_bytes, OwnResult, OwnsResult}
+use Rattle.ffi3_place_spec.specs.Sound.{LiesIn, HaveAll, IsPieceOf, ResultHasAll, piece_locs, result_locs, IsWithin}
+use Rattle.ffi3_place_spec.proofs.Tests.{each_weaker}
 use Rattle.ffi3_machine.specs.State.{State, image_of, stack_at}
-use Rattle.ffi3_pieces.specs.Stored.{IsPlace}
+use Rattle.ffi3_machine_transfer.specs.Stored.{IsPlace}
 use Rattle.ffi3_marshal.proofs.Lawful.{machine_place}
 use Rattle.ffi3_caller.specs.Loaded.{AreWithin, loaded}
-use Rattle.ffi3_place_rules.proofs.Reading.{reads}
-use Rattle.ffi3_place_rules.proofs.OnMachine.{IsSoundOnMachine}
+use Rattle.ffi3_place_spec.proofs.Reading.{reads}
+use Rattle.ffi3_place_spec.proofs.OnMachine.{IsSoundOnMachine}
 use Rattle.ffi3_caller.proofs.Loading.{leaves_loaded}
 
 each_loc : (P : Loc → Type 0) (pieces : List Piece) → AllByRecursion P (piece_locs pieces) → AllByRecursion (λ p. P p.loc) pieces

@@ -1,17 +1,19 @@
 -- The machine before a call's arguments are stored, at the slot that is called, and back at the caller.
 use Rattle.std.specs.Prelude.{◌≡◌, ℕ, ◌+◌, ◌-◌, ⊤, Bool, true, false, length, ◌++◌, Option, Some, None}
-use Rattle.ffi3_type_rules.specs.declared.Isa.{Isa}
-use Rattle.ffi3_type_rules.specs.Isa.{isa_of}
-use Rattle.ffi3_place_rules.specs.declared.Loc.{Loc}
-use Rattle.ffi3_place_rules.specs.Isa.{call_loads, call_scratch, exit_scratch, link_place, link_register, to_list}
-use Rattle.ffi3_place_rules.specs.Isa.{pushed_bytes, result_loads}
-use Rattle.ffi3_place_rules.specs.Sound.{IsNoneOf, IsOneOf, IsOnStackOrIn}
+use Rattle.ffi3_type_spec.specs.declared.Isa.{Isa}
+use Rattle.ffi3_type_spec.specs.TargetIsa.{isa_of}
+use Rattle.ffi3_place_spec.specs.declared.Loc.{Loc}
+use Rattle.ffi3_place_spec.specs.MachineRegisters.{link_place, link_register, to_list}
+use Rattle.ffi3_place_spec.specs.StubRegisters.{call_loads, call_scratch, exit_scratch}
+use Rattle.ffi3_place_spec.specs.MachineRegisters.{pushed_bytes}
+use Rattle.ffi3_place_spec.specs.StubRegisters.{result_loads}
+use Rattle.ffi3_place_spec.specs.Sound.{IsNoneOf, IsOneOf, IsOnStackOrIn}
 use Rattle.ffi3_machine.specs.State.{State, HasReturnAddress, called, filled, linked_stack, lowered, scribbled, with_pc}
 use Rattle.ffi3_machine.specs.State.{with_sp, with_x}
 use Rattle.ffi3_machine.specs.Stubs.{Call, Return, stub_at}
 use Rattle.ffi3_stubs.specs.Calls.{after_call, after_return, steps_of}
-use Rattle.ffi3_pieces.specs.Passing.{by_exchange, passing, steps_if}
-use Rattle.ffi3_pieces.specs.Stored.{IsPlace, SameAt, word_in}
+use Rattle.ffi3_machine_transfer.specs.Passing.{by_exchange, passing, steps_if}
+use Rattle.ffi3_machine_transfer.specs.Stored.{IsPlace, SameAt, word_in}
 
 -- the register holds the number, if there is one
 abbrev pub CountStands : ℕ → State → Option Loc → ℕ → Type 0

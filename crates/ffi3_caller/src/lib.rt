@@ -4,29 +4,29 @@
 
 ghost use Rattle.std.specs.Prelude.{◌≡◌, ◌+◌, ◌-◌, ◌<◌, ◌≤◌, IfErr, IfOk, length};
 ghost use Rattle.std.specs.List.{AllByRecursion};
-ghost use Rattle.ffi3_type_rules.specs.Layout.{size_of};
-ghost use Rattle.ffi3_type_rules.specs.Value.{ValueTree, value_in};
-ghost use Rattle.ffi3_place_rules.specs.Holds.{OwnResult};
-ghost use Rattle.ffi3_place_rules.specs.Sound.{IsWithin};
-ghost use Rattle.ffi3_place_rules.specs.Standard.{need_of, frame_of};
-ghost use Rattle.ffi3_type_rules.specs.declared.limits.TheConstants.{STACK, STACK_TOP};
+ghost use Rattle.ffi3_type_spec.specs.Layout.{size_of};
+ghost use Rattle.ffi3_type_spec.specs.Value.{ValueTree, value_in};
+ghost use Rattle.ffi3_place_spec.specs.Holds.{OwnResult};
+ghost use Rattle.ffi3_place_spec.specs.Sound.{IsWithin};
+ghost use Rattle.ffi3_place_spec.specs.Standard.{need_of, frame_of};
+ghost use Rattle.ffi3_type_spec.specs.declared.limits.TheConstants.{STACK, STACK_TOP};
 ghost use Rattle.ffi3_machine.specs.State.{image_of};
-ghost use Rattle.ffi3_pieces.specs.Passing.{by_exchange, passing};
-ghost use Rattle.ffi3_pieces.specs.Stored.{IsPlace};
+ghost use Rattle.ffi3_machine_transfer.specs.Passing.{by_exchange, passing};
+ghost use Rattle.ffi3_machine_transfer.specs.Stored.{IsPlace};
 ghost use Rattle.ffi3_caller.specs.Called.{at_frame, dropped_if, frame_start};
 ghost use Rattle.ffi3_caller.specs.Loaded.{AreWithin, loaded, with_piece};
 
-mod coming;
-mod slot;
-mod store;
+mod arguments;
+mod return_path;
+mod slot_call;
 
-pub use coming::come_back;
+pub use arguments::store_args;
 use ffi3_cif::Cif;
 use ffi3_machine::{Machine, STACK};
-use ffi3_pieces::{by_exchange, passed_floating, passed_general};
+use ffi3_machine_transfer::{by_exchange, passed_floating, passed_general};
 use ffi3_place::{Abi, Loc, Piece, Pieces, Res};
-pub use slot::call;
-pub use store::store_args;
+pub use return_path::come_back;
+pub use slot_call::call;
 use thiserror::Error;
 
 /// A call takes more bytes of stack than are left.

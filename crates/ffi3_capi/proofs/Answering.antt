@@ -1,11 +1,11 @@
 -- What is answered to C.
 use Rattle.std.specs.Prelude.{Some, None, Option, slice_get}
 use Rattle.std.proofs.Common.{◌≡◌, ℕ, List, Bool, sym, subst, ap, ◌∙◌}
-use Rattle.ffi3_type_rules.specs.declared.Target.{Target}
-use Rattle.ffi3_type_rules.specs.Tree.{Tree}
-use Rattle.ffi3_type_rules.specs.Signature.{Signature}
+use Rattle.ffi3_type_spec.specs.declared.Target.{Target}
+use Rattle.ffi3_type_spec.specs.Tree.{Tree}
+use Rattle.ffi3_type_spec.specs.Signature.{Signature}
 use Rattle.ffi3_nodes.specs.declared.Node.{Node}
-use Rattle.ffi3_place_rules.specs.Image.{Image}
+use Rattle.ffi3_place_spec.specs.Image.{Image}
 use Rattle.ffi3_capi.specs.declared.fault.TextFault.{TextFault}
 use Rattle.ffi3_capi.specs.declared.pieces.PlacedPiece.{PlacedPiece}
 use Rattle.ffi3_capi.specs.declared.placing.PlacedCall.{PlacedCall}
@@ -23,10 +23,10 @@ use Rattle.ffi3_capi.specs.declared.whole.WholeType.{WholeType}
 use Rattle.ffi3_capi.specs.WholeType.{whole_type, no_whole_type, AreNodesOfTypeBy, IsTypeRefusal, TellsType, told as told_type, refused as no_type_told}
 use Rattle.ffi3_capi.specs.Filled.{has_room, filled, room_status}
 use Rattle.ffi3_capi.specs.Refused.{status_of, fault_in, count_in}
-use Rattle.ffi3_explain_rules.specs.Standards.{standard_of}
+use Rattle.ffi3_explain_spec.specs.Standards.{standard_of}
 use Rattle.ffi3_capi.specs.Placed.{targets, IsPlacement, IsPlaceRefusal, no_call, Places, placed, refused}
 use Rattle.ffi3_capi.specs.OnTarget.{OnTarget, unknown}
-use Rattle.ffi3_format_rules.specs.declared.Format.{Format}
+use Rattle.ffi3_format_spec.specs.declared.Format.{Format}
 use Rattle.ffi3_capi.specs.Laid.{IsLaid, IsLayoutRefusal, no_type, LaysOut, laid_out, refused as no_layout}
 use Rattle.ffi3_capi.specs.Entry.{AreFound, AreFoundBy, AreNotRead, AreNotReadBy, Reads, read, unread, unread_status, no_arguments}
 

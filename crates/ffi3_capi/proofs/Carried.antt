@@ -3,11 +3,11 @@ use Rattle.std.specs.Prelude.{⊤, cond, Bool, true, false}
 use Rattle.std.proofs.Common.{◌≡◌, ℕ, zero, suc, ◌+◌, ◌*◌, ◌-◌, ◌<◌, ◌≤◌, List, [], ◌∷◌, ◌++◌, map, refl, ap, sym, ◌∙◌, arith, append_assoc}
 use Rattle.std.specs.List.{range_with_len}
 use Rattle.std.proofs.lemmas.Bool.{eqb-true, lt-ltb, le-ltb}
-use Rattle.ffi3_type_rules.proofs.Tests.{and_left, and_right}
-use Rattle.ffi3_place_rules.specs.declared.Loc.{Loc}
-use Rattle.ffi3_place_rules.specs.declared.Loc.TheVariants.{F, S}
-use Rattle.ffi3_place_rules.specs.declared.Piece.{Piece}
-use Rattle.ffi3_place_rules.specs.Isa.{significand, sign_and_exponent, upper_half}
+use Rattle.ffi3_type_spec.proofs.Tests.{and_left, and_right}
+use Rattle.ffi3_place_spec.specs.declared.Loc.{Loc}
+use Rattle.ffi3_place_spec.specs.declared.Loc.TheVariants.{F, S}
+use Rattle.ffi3_place_spec.specs.declared.Piece.{Piece}
+use Rattle.ffi3_place_spec.specs.MachineRegisters.{significand, sign_and_exponent, upper_half}
 use Rattle.ffi3_capi.specs.declared.codes.TheConstants.{ON_STACK, IN_FLOATING, IN_X87, HOLDS_BYTES}
 use Rattle.ffi3_capi.specs.declared.pieces.PlacedPiece.{PlacedPiece}
 use Rattle.ffi3_capi.specs.Pieces.{value_piece, goes_on, longer, is_above, is_upper_half, whole_vector, is_x87, whole_x87, joined_to}

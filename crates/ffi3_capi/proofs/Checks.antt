@@ -1,13 +1,13 @@
 -- What is told of a text that is checked.
 use Rattle.std.proofs.Common.{◌≡◌, ℕ, List, [], ◌∷◌, length, map, ap, sym, subst, refl, ◌∙◌, zero, suc}
 use Rattle.std.specs.Prelude.{IsUtf8, IsSome, Some, None, slice_get, slice_index_or}
-use Rattle.ffi3_type_rules.specs.Fault.{bad_typedef, left_out_type, too_large, too_deep}
-use Rattle.ffi3_type_rules.specs.Tree.{Tree, void, scalar, left_out, structure, array, long_double, complex, vector}
-use Rattle.ffi3_type_rules.specs.Signature.{Signature, SignatureFault, too_many, bad_type, bad_fixed, bad_argument_type}
-use Rattle.ffi3_cdecl_rules.specs.Tokens.{wide, Sign}
-use Rattle.ffi3_cdecl_rules.specs.Reading.{bad_token, unexpected, bad_number, bad_signature, IsReadingIn}
-use Rattle.ffi3_cdecl_rules.specs.Reasons.{Told, IsTold}
-use Rattle.ffi3_cdecl_rules.specs.Telling.{tell}
+use Rattle.ffi3_type_spec.specs.Fault.{bad_typedef, left_out_type, too_large, too_deep}
+use Rattle.ffi3_type_spec.specs.Tree.{Tree, void, scalar, left_out, structure, array, long_double, complex, vector}
+use Rattle.ffi3_type_spec.specs.Signature.{Signature, SignatureFault, too_many, bad_type, bad_fixed, bad_argument_type}
+use Rattle.ffi3_cdecl_spec.specs.Tokens.{wide, Sign}
+use Rattle.ffi3_cdecl_spec.specs.Reading.{bad_token, unexpected, bad_number, bad_signature, IsReadingIn}
+use Rattle.ffi3_cdecl_spec.specs.Reasons.{Told, IsTold}
+use Rattle.ffi3_cdecl_spec.specs.Telling.{tell}
 use Rattle.ffi3_cdecl.specs.ReadingFor.{IsReadingFor}
 use Rattle.ffi3_diagnostics.specs.declared.expected.Expected.{Expected}
 use Rattle.ffi3_diagnostics.specs.ToldOf.{expected_of, kinds_of}

@@ -2,15 +2,15 @@
 use Rattle.std.proofs.Common.{◌≡◌, ℕ, Bool, true, false, List, refl, sym, subst, ◌∙◌}
 use Rattle.std.specs.Prelude.{Some, IsUtf8}
 use Rattle.ffi3_types.specs.SignatureFaultOf.{signature_fault_of}
-use Rattle.ffi3_cdecl_rules.specs.Grammar.{Declaration}
-use Rattle.ffi3_cdecl_rules.specs.Reading.{Outcome, reads, bad_token, unexpected, bad_number, bad_signature, IsReadingIn, has_bad_token, has_unexpected, has_bad_number}
-use Rattle.ffi3_cdecl_rules.specs.Tokens.{wide, Sign}
+use Rattle.ffi3_cdecl_spec.specs.Grammar.{Declaration}
+use Rattle.ffi3_cdecl_spec.specs.Reading.{Outcome, reads, bad_token, unexpected, bad_number, bad_signature, IsReadingIn, has_bad_token, has_unexpected, has_bad_number}
+use Rattle.ffi3_cdecl_spec.specs.Tokens.{wide, Sign}
 use Rattle.ffi3_cdecl.specs.declared.fault.DeclFault.{DeclFault}
 use Rattle.ffi3_cdecl.specs.declared.fault.DeclFault.TheVariants.{BadToken, Unexpected, BadNumber, Sig, NoMemory}
 use Rattle.ffi3_cdecl.specs.ReadingFor.{IsReadingFor, IsJudgedFor, is_placed, has_bad_signature, is_judged}
 use Rattle.ffi3_cdecl.specs.ReadingFor.{has_bad_token as no_token, has_unexpected as no_place, has_bad_number as no_number}
 use Rattle.ffi3_cdecl.specs.Tells.{Tells}
-use Rattle.ffi3_format_rules.specs.declared.Format.{Format}
+use Rattle.ffi3_format_spec.specs.declared.Format.{Format}
 use Rattle.ffi3_capi.specs.declared.fault.TextFault.{TextFault}
 use Rattle.ffi3_capi.specs.declared.fault.FaultKind.TheVariants.{NotUtf8}
 use Rattle.ffi3_capi.specs.Faults.{fault_with, IsFaultOf, misread, not_text, IsFaultIn, misread_in, no_text}

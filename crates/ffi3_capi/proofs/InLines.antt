@@ -2,14 +2,14 @@
 use Rattle.std.proofs.Common.{◌≡◌, ℕ, List, [], ◌∷◌, ◌++◌, length, ap, sym, subst, ◌∙◌, append_assoc}
 use Rattle.std.specs.Prelude.{IsUtf8, IsSome, None, slice_get, codes}
 use Rattle.std.specs.Fmt.{decimal}
-use Rattle.ffi3_type_rules.specs.Signature.{Signature, SignatureFault}
-use Rattle.ffi3_cdecl_rules.specs.Tokens.{wide}
-use Rattle.ffi3_cdecl_rules.specs.Reading.{bad_token, unexpected, bad_number, bad_signature, IsReadingIn}
-use Rattle.ffi3_cdecl_rules.specs.Reasons.{Told, IsTold}
-use Rattle.ffi3_cdecl_rules.specs.Telling.{tell}
+use Rattle.ffi3_type_spec.specs.Signature.{Signature, SignatureFault}
+use Rattle.ffi3_cdecl_spec.specs.Tokens.{wide}
+use Rattle.ffi3_cdecl_spec.specs.Reading.{bad_token, unexpected, bad_number, bad_signature, IsReadingIn}
+use Rattle.ffi3_cdecl_spec.specs.Reasons.{Told, IsTold}
+use Rattle.ffi3_cdecl_spec.specs.Telling.{tell}
 use Rattle.ffi3_cdecl.specs.ReadingFor.{IsReadingFor}
-use Rattle.ffi3_diagnostics_rules.specs.Positions.{placed_words}
-use Rattle.ffi3_diagnostics_rules.specs.ToldText.{told_words, lines_at}
+use Rattle.ffi3_diagnostics_spec.specs.Positions.{placed_words}
+use Rattle.ffi3_diagnostics_spec.specs.ToldText.{told_words, lines_at}
 use Rattle.ffi3_capi.specs.declared.fault.TextFault.{TextFault}
 use Rattle.ffi3_capi.specs.declared.fault.FaultKind.TheVariants.{NotUtf8}
 use Rattle.ffi3_capi.specs.Chars.{char_sign}

@@ -3,9 +3,9 @@ use Rattle.std.specs.Prelude.{replicate}
 use Rattle.std.proofs.Common.{◌≡◌, ℕ, ◌+◌, List, [], ◌∷◌, ◌++◌, length, map, ap, sym, ◌∙◌, arith}
 use Rattle.std.specs.List.{range_with_len}
 use Rattle.std.proofs.lemmas.List.FromFn.{map-range_with_len_more}
-use Rattle.ffi3_type_rules.specs.Tree.{Tree, struct_of, trees_of, list_of-trees_of}
+use Rattle.ffi3_type_spec.specs.Tree.{Tree, struct_of, trees_of, list_of-trees_of}
 use Rattle.std.proofs.lemmas.List.{length-map}
-use Rattle.ffi3_type_rules.specs.Layout.{size_of, align_of, leaves_of, layouts, start_of}
+use Rattle.ffi3_type_spec.specs.Layout.{size_of, align_of, leaves_of, layouts, start_of}
 use Rattle.ffi3_capi.specs.declared.fault.TextFault.{TextFault}
 use Rattle.ffi3_capi.specs.declared.fault.FaultKind.TheVariants.{NoFault}
 use Rattle.ffi3_capi.specs.declared.whole.WholeType.{WholeType}

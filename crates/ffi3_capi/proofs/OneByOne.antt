@@ -2,18 +2,18 @@
 use Rattle.std.specs.Prelude.{Some, None, Option, slice_get, ◌&&◌}
 use Rattle.std.proofs.Common.{◌≡◌, ℕ, suc, ◌+◌, ◌≤◌, List, [], ◌∷◌, ◌++◌, drop, length, replicate, refl, ap, sym, ◌∙◌, subst, arith, append_assoc, append-nil}
 use Rattle.std.proofs.lemmas.List.{drop_all}
-use Rattle.ffi3_type_rules.specs.declared.Target.{Target}
-use Rattle.ffi3_type_rules.specs.Tree.{Tree}
-use Rattle.ffi3_type_rules.specs.Layout.{size_of}
-use Rattle.ffi3_type_rules.specs.Signature.{Signature}
-use Rattle.ffi3_type_rules.specs.Value.{ValueTree}
-use Rattle.ffi3_place_rules.specs.declared.Place.{Place}
-use Rattle.ffi3_place_rules.specs.Image.{Image}
-use Rattle.ffi3_place_rules.specs.Standard.{Standard, plan_of, round8}
-use Rattle.ffi3_place_rules.specs.Sound.{PlaceHasAll}
-use Rattle.ffi3_explain_rules.specs.declared.Outside.{Outside}
-use Rattle.ffi3_explain_rules.specs.Arguments.{first_outside, least_stack, or_later, outside_of, value_by_standard, values_by_standard}
-use Rattle.ffi3_explain_rules.specs.Standards.{standard_of}
+use Rattle.ffi3_type_spec.specs.declared.Target.{Target}
+use Rattle.ffi3_type_spec.specs.Tree.{Tree}
+use Rattle.ffi3_type_spec.specs.Layout.{size_of}
+use Rattle.ffi3_type_spec.specs.Signature.{Signature}
+use Rattle.ffi3_type_spec.specs.Value.{ValueTree}
+use Rattle.ffi3_place_spec.specs.declared.Place.{Place}
+use Rattle.ffi3_place_spec.specs.Image.{Image}
+use Rattle.ffi3_place_spec.specs.Standard.{Standard, plan_of, round8}
+use Rattle.ffi3_place_spec.specs.Sound.{PlaceHasAll}
+use Rattle.ffi3_explain_spec.specs.declared.Outside.{Outside}
+use Rattle.ffi3_explain_spec.specs.Arguments.{first_outside, least_stack, or_later, outside_of, value_by_standard, values_by_standard}
+use Rattle.ffi3_explain_spec.specs.Standards.{standard_of}
 use Rattle.ffi3_transfer.specs.Places.{ArgumentIsThere, ArgumentsAreReady}
 use Rattle.ffi3_explain.proofs.Standing.{told_values}
 use Rattle.ffi3_capi.specs.declared.each.EachArgument.{EachArgument}

@@ -2,25 +2,25 @@
 use Rattle.std.specs.Prelude.{true, false, cond, Bool, Option, Some, None, slice_get}
 use Rattle.std.proofs.Common.{◌≡◌, ℕ, ◌+◌, ◌-◌, List, length, refl, ap, sym, ◌∙◌, subst, arith}
 use Rattle.std.specs.List.{AllByRecursion}
-use Rattle.ffi3_type_rules.specs.declared.Target.{Target}
-use Rattle.ffi3_type_rules.specs.Tree.{Tree, void}
-use Rattle.ffi3_type_rules.specs.Layout.{size_of}
-use Rattle.ffi3_type_rules.specs.Isa.{isa_of}
-use Rattle.ffi3_type_rules.specs.Signature.{Signature}
-use Rattle.ffi3_type_rules.specs.Value.{ValueTree, void_value, leaf_value, struct_value, value_in, fits, part}
-use Rattle.ffi3_place_rules.specs.declared.Loc.{Loc}
-use Rattle.ffi3_place_rules.specs.declared.Res.{Res}
-use Rattle.ffi3_place_rules.specs.declared.Res.TheVariants.{Nothing, Direct, Hidden}
-use Rattle.ffi3_place_rules.specs.Image.{Image, register}
-use Rattle.ffi3_place_rules.specs.Isa.{to_list}
-use Rattle.ffi3_place_rules.specs.Standard.{Standard, plan_of}
-use Rattle.ffi3_place_rules.specs.Holds.{OwnResult, OwnsResult, RegisterHolds}
-use Rattle.ffi3_place_rules.specs.Sound.{IsSound, LiesIn, ResultHasAll}
-use Rattle.ffi3_place_rules.proofs.Further.{each_stands}
-use Rattle.ffi3_explain_rules.specs.Arguments.{is_in_image}
-use Rattle.ffi3_explain_rules.proofs.Pieces.{stood_is_read}
-use Rattle.ffi3_explain_rules.specs.Explain.{first_bytes}
-use Rattle.ffi3_explain_rules.specs.Standards.{standard_of}
+use Rattle.ffi3_type_spec.specs.declared.Target.{Target}
+use Rattle.ffi3_type_spec.specs.Tree.{Tree, void}
+use Rattle.ffi3_type_spec.specs.Layout.{size_of}
+use Rattle.ffi3_type_spec.specs.TargetIsa.{isa_of}
+use Rattle.ffi3_type_spec.specs.Signature.{Signature}
+use Rattle.ffi3_type_spec.specs.Value.{ValueTree, void_value, leaf_value, struct_value, value_in, fits, part}
+use Rattle.ffi3_place_spec.specs.declared.Loc.{Loc}
+use Rattle.ffi3_place_spec.specs.declared.Res.{Res}
+use Rattle.ffi3_place_spec.specs.declared.Res.TheVariants.{Nothing, Direct, Hidden}
+use Rattle.ffi3_place_spec.specs.Image.{Image, register}
+use Rattle.ffi3_place_spec.specs.MachineRegisters.{to_list}
+use Rattle.ffi3_place_spec.specs.Standard.{Standard, plan_of}
+use Rattle.ffi3_place_spec.specs.Holds.{OwnResult, OwnsResult, RegisterHolds}
+use Rattle.ffi3_place_spec.specs.Sound.{IsSound, LiesIn, ResultHasAll}
+use Rattle.ffi3_place_spec.proofs.Further.{each_stands}
+use Rattle.ffi3_explain_spec.specs.Arguments.{is_in_image}
+use Rattle.ffi3_explain_spec.proofs.Pieces.{stood_is_read}
+use Rattle.ffi3_explain_spec.specs.Explain.{first_bytes}
+use Rattle.ffi3_explain_spec.specs.Standards.{standard_of}
 use Rattle.ffi3_transfer.specs.Places.{HasPlace}
 use Rattle.ffi3_transfer.proofs.Ready.{places_there}
 use Rattle.ffi3_capi.specs.declared.fault.TextFault.{TextFault}

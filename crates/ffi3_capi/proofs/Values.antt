@@ -1,10 +1,10 @@
 -- The bytes of values, one value after another.
 use Rattle.std.proofs.Common.{◌≡◌, ℕ, ◌+◌, ◌-◌, ◌<◌, List, [], ◌∷◌, ◌++◌, length, replicate, take, ap, ◌∙◌, append_assoc, arith}
 use Rattle.std.proofs.lemmas.List.{take-replicate}
-use Rattle.ffi3_type_rules.specs.Tree.{Tree}
-use Rattle.ffi3_type_rules.specs.Layout.{size_of}
-use Rattle.ffi3_type_rules.specs.Value.{ValueTree, IsWritten}
-use Rattle.ffi3_place_rules.specs.Standard.{round8}
+use Rattle.ffi3_type_spec.specs.Tree.{Tree}
+use Rattle.ffi3_type_spec.specs.Layout.{size_of}
+use Rattle.ffi3_type_spec.specs.Value.{ValueTree, IsWritten}
+use Rattle.ffi3_place_spec.specs.Standard.{round8}
 use Rattle.ffi3_capi.specs.Entry.{HasOneMore, filler}
 
 -- so many zeros of eight

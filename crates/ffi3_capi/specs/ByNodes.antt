@@ -1,11 +1,11 @@
 -- What nodes declare, or which type they are, and why they are none, as C sees it.
 use Rattle.std.specs.Prelude.{◌≡◌, ℕ, ◌+◌, ◌<◌, ◌≤◌, ◌^◌, ◌==◌, cond, List, [], length, Option, Some, None}
-use Rattle.ffi3_type_rules.specs.declared.Role.TheVariants.{AsResult}
-use Rattle.ffi3_type_rules.specs.Tree.{Tree}
-use Rattle.ffi3_type_rules.specs.Fault.{Fault, IsFirstFault, IsResultType}
-use Rattle.ffi3_type_rules.specs.Signature.{Signature, SignatureFault, SignatureHasNoFault, IsFirstSignatureFault}
-use Rattle.ffi3_type_rules.specs.Signature.{SignatureIsPlaced, IsFirstFaultFor, for_places}
-use Rattle.ffi3_format_rules.specs.declared.Format.{Format}
+use Rattle.ffi3_type_spec.specs.declared.Role.TheVariants.{AsResult}
+use Rattle.ffi3_type_spec.specs.Tree.{Tree}
+use Rattle.ffi3_type_spec.specs.Fault.{Fault, IsFirstFault, IsResultType}
+use Rattle.ffi3_type_spec.specs.Signature.{Signature, SignatureFault, SignatureHasNoFault, IsFirstSignatureFault}
+use Rattle.ffi3_type_spec.specs.Signature.{SignatureIsPlaced, IsFirstFaultFor, for_places}
+use Rattle.ffi3_format_spec.specs.declared.Format.{Format}
 use Rattle.ffi3_nodes.specs.declared.Node.{Node}
 use Rattle.ffi3_nodes.specs.Nodes.{IsWritten, AreWritten, IsSignatureOf}
 use Rattle.ffi3_nodes.specs.Faults.{NodeFault, ended, unknown_kind, bad_count, too_deep, first_node_fault}

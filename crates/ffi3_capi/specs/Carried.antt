@@ -1,10 +1,10 @@
 -- Which byte of a value stands where, by the pieces that C is told.
 use Rattle.std.specs.Prelude.{◌≡◌, ℕ, ◌+◌, ◌-◌, cond, nat_lt, ◌==◌, List, map}
 use Rattle.std.specs.List.{range_with_len, flat_map}
-use Rattle.ffi3_place_rules.specs.declared.Loc.{Loc}
-use Rattle.ffi3_place_rules.specs.declared.Loc.TheVariants.{G, F, S}
-use Rattle.ffi3_place_rules.specs.declared.Piece.{Piece}
-use Rattle.ffi3_place_rules.specs.Isa.{significand, sign_and_exponent, upper_half}
+use Rattle.ffi3_place_spec.specs.declared.Loc.{Loc}
+use Rattle.ffi3_place_spec.specs.declared.Loc.TheVariants.{G, F, S}
+use Rattle.ffi3_place_spec.specs.declared.Piece.{Piece}
+use Rattle.ffi3_place_spec.specs.MachineRegisters.{significand, sign_and_exponent, upper_half}
 use Rattle.ffi3_capi.specs.declared.codes.TheConstants.{ON_STACK, IN_FLOATING, IN_X87}
 use Rattle.ffi3_capi.specs.declared.pieces.PlacedPiece.{PlacedPiece}
 use Rattle.ffi3_capi.specs.Pieces.{value_piece, joined}

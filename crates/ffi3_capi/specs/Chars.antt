@@ -1,8 +1,8 @@
 -- Whether a `char` is signed where no word says so. (Signed by the psABI AMD64 3.1.2, on Microsoft x64 and by Apple for arm64; unsigned by AAPCS64 "Arithmetic types" and the RISC-V psABI "C/C++ type representations")
 use Rattle.std.specs.Prelude.{ℕ, Option, Some, None, slice_get}
-use Rattle.ffi3_type_rules.specs.declared.Target.{Target}
-use Rattle.ffi3_type_rules.specs.declared.Target.TheVariants.{Amd64, Aapcs64, Riscv, Win64, Apple}
-use Rattle.ffi3_cdecl_rules.specs.Tokens.{Sign, signed, unsigned}
+use Rattle.ffi3_type_spec.specs.declared.Target.{Target}
+use Rattle.ffi3_type_spec.specs.declared.Target.TheVariants.{Amd64, Aapcs64, Riscv, Win64, Apple}
+use Rattle.ffi3_cdecl_spec.specs.Tokens.{Sign, signed, unsigned}
 use Rattle.ffi3_capi.specs.Placed.{targets}
 
 abbrev pub char_by : Option Target → Sign

@@ -1,15 +1,15 @@
 -- What `ffi3_check_text` answers, and what it writes: whether a text declares a function, and what is told of a place that is unexpected.
 use Rattle.std.specs.Prelude.{◌≡◌, ℕ, List, [], ◌∷◌, length, map, replicate, slice_index_or, Option, Some, None, IsSome}
 use Rattle.std.specs.Prelude.{IsUtf8, slice_get}
-use Rattle.ffi3_type_rules.specs.Signature.{Signature}
-use Rattle.ffi3_cdecl_rules.specs.Tokens.{wide, Sign}
-use Rattle.ffi3_cdecl_rules.specs.Reading.{unexpected, IsReadingIn}
-use Rattle.ffi3_cdecl_rules.specs.Expected.{Expected, a_type, a_name, a_number, closing_round, a_comma, a_semicolon}
-use Rattle.ffi3_cdecl_rules.specs.Expected.{the_end, a_star, closing_square, closing_curly, opening_curly}
-use Rattle.ffi3_cdecl_rules.specs.Expected.{opening_round, opening_square, the_dots, a_word}
-use Rattle.ffi3_cdecl_rules.specs.Reasons.{Base, a_struct_of, a_union_of, an_enum_of, a_type_named, Reason}
-use Rattle.ffi3_cdecl_rules.specs.Reasons.{an_attribute, a_keyword, by_value, Told, IsTold}
-use Rattle.ffi3_cdecl_rules.specs.Telling.{tell}
+use Rattle.ffi3_type_spec.specs.Signature.{Signature}
+use Rattle.ffi3_cdecl_spec.specs.Tokens.{wide, Sign}
+use Rattle.ffi3_cdecl_spec.specs.Reading.{unexpected, IsReadingIn}
+use Rattle.ffi3_cdecl_spec.specs.Expected.{Expected, a_type, a_name, a_number, closing_round, a_comma, a_semicolon}
+use Rattle.ffi3_cdecl_spec.specs.Expected.{the_end, a_star, closing_square, closing_curly, opening_curly}
+use Rattle.ffi3_cdecl_spec.specs.Expected.{opening_round, opening_square, the_dots, a_word}
+use Rattle.ffi3_cdecl_spec.specs.Reasons.{Base, a_struct_of, a_union_of, an_enum_of, a_type_named, Reason}
+use Rattle.ffi3_cdecl_spec.specs.Reasons.{an_attribute, a_keyword, by_value, Told, IsTold}
+use Rattle.ffi3_cdecl_spec.specs.Telling.{tell}
 use Rattle.ffi3_capi.specs.declared.codes.TheConstants.{DONE, NOT_DECLARED}
 use Rattle.ffi3_capi.specs.declared.checking.CheckedText.{CheckedText}
 use Rattle.ffi3_capi.specs.declared.fault.TextFault.{TextFault}

@@ -1,7 +1,7 @@
 -- What a text or nodes declare, and why they declare nothing.
 use Rattle.std.specs.Prelude.{ℕ}
-use Rattle.ffi3_type_rules.specs.Signature.{Signature}
-use Rattle.ffi3_cdecl_rules.specs.Tokens.{Sign}
+use Rattle.ffi3_type_spec.specs.Signature.{Signature}
+use Rattle.ffi3_cdecl_spec.specs.Tokens.{Sign}
 use Rattle.ffi3_capi.specs.declared.declaration.Declaration.{Declaration}
 use Rattle.ffi3_capi.specs.declared.declaration.Declaration.TheVariants.{Text, Nodes}
 use Rattle.ffi3_capi.specs.declared.fault.TextFault.{TextFault}

@@ -1,15 +1,15 @@
 -- What C is told of each of the arguments that registers and stack have where a function begins. What declares it declares a signature, or has a fault.
 use Rattle.std.specs.Prelude.{◌≡◌, ℕ, suc, ◌≤◌, ◌&&◌, List, [], ◌∷◌, ◌++◌, length, replicate, Option, Some, None}
-use Rattle.ffi3_type_rules.specs.declared.Target.{Target}
-use Rattle.ffi3_type_rules.specs.Tree.{Tree}
-use Rattle.ffi3_type_rules.specs.Layout.{size_of}
-use Rattle.ffi3_type_rules.specs.Signature.{Signature}
-use Rattle.ffi3_place_rules.specs.declared.Place.{Place}
-use Rattle.ffi3_place_rules.specs.Image.{Image}
-use Rattle.ffi3_place_rules.specs.Standard.{Standard, plan_of, round8}
-use Rattle.ffi3_explain_rules.specs.declared.Outside.{Outside}
-use Rattle.ffi3_explain_rules.specs.Arguments.{least_stack, outside_of, value_by_standard}
-use Rattle.ffi3_explain_rules.specs.Standards.{standard_of}
+use Rattle.ffi3_type_spec.specs.declared.Target.{Target}
+use Rattle.ffi3_type_spec.specs.Tree.{Tree}
+use Rattle.ffi3_type_spec.specs.Layout.{size_of}
+use Rattle.ffi3_type_spec.specs.Signature.{Signature}
+use Rattle.ffi3_place_spec.specs.declared.Place.{Place}
+use Rattle.ffi3_place_spec.specs.Image.{Image}
+use Rattle.ffi3_place_spec.specs.Standard.{Standard, plan_of, round8}
+use Rattle.ffi3_explain_spec.specs.declared.Outside.{Outside}
+use Rattle.ffi3_explain_spec.specs.Arguments.{least_stack, outside_of, value_by_standard}
+use Rattle.ffi3_explain_spec.specs.Standards.{standard_of}
 use Rattle.ffi3_capi.specs.declared.codes.TheConstants.{DONE, NOT_IN_STACK}
 use Rattle.ffi3_capi.specs.declared.each.EachArgument.{EachArgument}
 use Rattle.ffi3_capi.specs.declared.each.Seen.{Seen}

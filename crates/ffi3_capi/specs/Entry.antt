@@ -1,13 +1,13 @@
 -- What C is told of the arguments that registers and stack have where a function begins. What declares it declares a signature, or has a fault.
 use Rattle.std.specs.Prelude.{◌≡◌, ℕ, ◌-◌, ◌<◌, ◌≤◌, List, [], ◌∷◌, ◌++◌, length, replicate, Some, slice_get}
-use Rattle.ffi3_type_rules.specs.declared.Target.{Target}
-use Rattle.ffi3_type_rules.specs.Tree.{Tree}
-use Rattle.ffi3_type_rules.specs.Layout.{size_of}
-use Rattle.ffi3_type_rules.specs.Signature.{Signature}
-use Rattle.ffi3_type_rules.specs.Value.{ValueTree, IsWritten}
-use Rattle.ffi3_place_rules.specs.Image.{Image}
-use Rattle.ffi3_place_rules.specs.Standard.{Standard, round8}
-use Rattle.ffi3_explain_rules.specs.Arguments.{are_values, points_outside, held_by_standard, least_stack}
+use Rattle.ffi3_type_spec.specs.declared.Target.{Target}
+use Rattle.ffi3_type_spec.specs.Tree.{Tree}
+use Rattle.ffi3_type_spec.specs.Layout.{size_of}
+use Rattle.ffi3_type_spec.specs.Signature.{Signature}
+use Rattle.ffi3_type_spec.specs.Value.{ValueTree, IsWritten}
+use Rattle.ffi3_place_spec.specs.Image.{Image}
+use Rattle.ffi3_place_spec.specs.Standard.{Standard, round8}
+use Rattle.ffi3_explain_spec.specs.Arguments.{are_values, points_outside, held_by_standard, least_stack}
 use Rattle.ffi3_capi.specs.declared.codes.TheConstants.{SHORT_STACK, NOT_IN_STACK}
 use Rattle.ffi3_capi.specs.declared.entry.EntryArguments.{EntryArguments}
 use Rattle.ffi3_capi.specs.declared.entry.Found.{Found}
@@ -18,7 +18,7 @@ use Rattle.ffi3_capi.specs.declared.fault.FaultKind.TheVariants.{NoFault}
 use Rattle.ffi3_capi.specs.declared.status.Refusal.TheVariants.{NoSuchTarget, NoSuchValue, Fault, NoMemory}
 use Rattle.ffi3_capi.specs.Faults.{fault_with}
 use Rattle.ffi3_capi.specs.Filled.{has_room, filled, room_status}
-use Rattle.ffi3_explain_rules.specs.Standards.{standard_of}
+use Rattle.ffi3_explain_spec.specs.Standards.{standard_of}
 use Rattle.ffi3_capi.specs.Placed.{targets, IsPlaceRefusal}
 use Rattle.ffi3_capi.specs.Refused.{status_of, fault_in}
 

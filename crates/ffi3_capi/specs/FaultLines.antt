@@ -1,14 +1,14 @@
 -- What `ffi3_fault_lines` answers, and what it writes: the fault of a text in words, and of one that has a place in the text the line with a mark below the place.
 use Rattle.std.specs.Prelude.{◌≡◌, ℕ, List, [], ◌∷◌, ◌++◌, length, codes, None, IsSome, IsUtf8, slice_get}
 use Rattle.std.specs.Fmt.{decimal}
-use Rattle.ffi3_type_rules.specs.Signature.{Signature, SignatureFault}
-use Rattle.ffi3_cdecl_rules.specs.Tokens.{wide}
-use Rattle.ffi3_cdecl_rules.specs.Reading.{bad_token, unexpected, bad_number, bad_signature, IsReadingIn}
-use Rattle.ffi3_cdecl_rules.specs.Reasons.{IsTold}
-use Rattle.ffi3_cdecl_rules.specs.Telling.{tell}
+use Rattle.ffi3_type_spec.specs.Signature.{Signature, SignatureFault}
+use Rattle.ffi3_cdecl_spec.specs.Tokens.{wide}
+use Rattle.ffi3_cdecl_spec.specs.Reading.{bad_token, unexpected, bad_number, bad_signature, IsReadingIn}
+use Rattle.ffi3_cdecl_spec.specs.Reasons.{IsTold}
+use Rattle.ffi3_cdecl_spec.specs.Telling.{tell}
 use Rattle.ffi3_cdecl.specs.ReadingFor.{IsReadingFor}
-use Rattle.ffi3_diagnostics_rules.specs.Positions.{placed_words}
-use Rattle.ffi3_diagnostics_rules.specs.ToldText.{told_words, lines_at}
+use Rattle.ffi3_diagnostics_spec.specs.Positions.{placed_words}
+use Rattle.ffi3_diagnostics_spec.specs.ToldText.{told_words, lines_at}
 use Rattle.ffi3_capi.specs.declared.fault.FaultKind.TheVariants.{NotUtf8}
 use Rattle.ffi3_capi.specs.Chars.{char_sign}
 use Rattle.ffi3_capi.specs.Faults.{fault_with, signature_fault, DeclaresIn}

@@ -1,12 +1,12 @@
 -- Why a text, or nodes, declare no function that can be called, as C sees it.
 use Rattle.std.specs.Prelude.{◌≡◌, ℕ, List, [], ◌∷◌, Option, Some, None, IsUtf8}
-use Rattle.ffi3_type_rules.specs.Tree.{Tree, void, scalar, left_out, structure, array, long_double, complex, vector}
-use Rattle.ffi3_type_rules.specs.Fault.{Fault, bad_typedef, left_out_type, too_large, too_deep}
-use Rattle.ffi3_type_rules.specs.Signature.{Signature, Position, at_result, at_argument, SignatureFault, too_many}
-use Rattle.ffi3_type_rules.specs.Signature.{bad_type, bad_fixed, bad_argument_type}
-use Rattle.ffi3_cdecl_rules.specs.Reading.{Outcome, reads, bad_token, unexpected, bad_number, bad_signature, IsReadingIn}
-use Rattle.ffi3_cdecl_rules.specs.Tokens.{wide, Sign}
-use Rattle.ffi3_format_rules.specs.declared.Format.{Format}
+use Rattle.ffi3_type_spec.specs.Tree.{Tree, void, scalar, left_out, structure, array, long_double, complex, vector}
+use Rattle.ffi3_type_spec.specs.Fault.{Fault, bad_typedef, left_out_type, too_large, too_deep}
+use Rattle.ffi3_type_spec.specs.Signature.{Signature, Position, at_result, at_argument, SignatureFault, too_many}
+use Rattle.ffi3_type_spec.specs.Signature.{bad_type, bad_fixed, bad_argument_type}
+use Rattle.ffi3_cdecl_spec.specs.Reading.{Outcome, reads, bad_token, unexpected, bad_number, bad_signature, IsReadingIn}
+use Rattle.ffi3_cdecl_spec.specs.Tokens.{wide, Sign}
+use Rattle.ffi3_format_spec.specs.declared.Format.{Format}
 use Rattle.ffi3_cdecl.specs.ReadingFor.{IsReadingFor}
 use Rattle.ffi3_capi.specs.declared.codes.TheConstants.{RESULT_PART}
 use Rattle.ffi3_capi.specs.declared.fault.TextFault.{TextFault}

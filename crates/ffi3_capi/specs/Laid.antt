@@ -1,9 +1,9 @@
 -- What `ffi3_layout` answers, and what it writes. What it is given declares a signature, or has a fault.
 use Rattle.std.specs.Prelude.{◌≡◌, ℕ, cond, ◌==◌, List, map, length, Option, Some, None, slice_get}
-use Rattle.ffi3_type_rules.specs.Tree.{Tree, Scalar, u8, s8, u16, s16, u32, s32, u64, s64, u128, s128, float, double}
-use Rattle.ffi3_type_rules.specs.Tree.{pointer, x87, binary128}
-use Rattle.ffi3_type_rules.specs.Layout.{Leaf, size_of, align_of, leaves_of, scalar_size}
-use Rattle.ffi3_type_rules.specs.Signature.{Signature}
+use Rattle.ffi3_type_spec.specs.Tree.{Tree, Scalar, u8, s8, u16, s16, u32, s32, u64, s64, u128, s128, float, double}
+use Rattle.ffi3_type_spec.specs.Tree.{pointer, x87, binary128}
+use Rattle.ffi3_type_spec.specs.Layout.{Leaf, size_of, align_of, leaves_of, scalar_size}
+use Rattle.ffi3_type_spec.specs.Signature.{Signature}
 use Rattle.ffi3_capi.specs.declared.codes.TheConstants.{RESULT_PART, LEAF_X87, LEAF_BINARY128}
 use Rattle.ffi3_capi.specs.declared.fault.TextFault.{TextFault}
 use Rattle.ffi3_capi.specs.declared.fault.FaultKind.TheVariants.{NoFault}

@@ -1,13 +1,13 @@
 -- What `ffi3_check_layout` answers, and what it writes: whether a type is laid out as its client has it.
 use Rattle.std.specs.Prelude.{◌≡◌, ℕ, List, take, length, Option, Some, None, IsSome, slice_get}
-use Rattle.ffi3_type_rules.specs.Tree.{Tree}
-use Rattle.ffi3_type_rules.specs.Layout.{size_of, align_of}
+use Rattle.ffi3_type_spec.specs.Tree.{Tree}
+use Rattle.ffi3_type_spec.specs.Layout.{size_of, align_of}
 use Rattle.ffi3_nodes.specs.declared.Node.{Node}
 use Rattle.ffi3_capi.specs.declared.codes.TheConstants.{DONE, NOT_DECLARED, UNKNOWN_TARGET}
 use Rattle.ffi3_capi.specs.declared.fault.TextFault.{TextFault}
 use Rattle.ffi3_capi.specs.declared.fault.FaultKind.TheVariants.{NoFault, LaidOutOtherwise}
 use Rattle.ffi3_capi.specs.declared.status.Refusal.{Refusal}
-use Rattle.ffi3_format_rules.specs.declared.Format.{Format}
+use Rattle.ffi3_format_spec.specs.declared.Format.{Format}
 use Rattle.ffi3_capi.specs.Faults.{fault_with, fault_of_value}
 use Rattle.ffi3_capi.specs.Formats.{long_double_on}
 use Rattle.ffi3_capi.specs.Placed.{targets}

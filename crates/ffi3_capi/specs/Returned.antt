@@ -1,19 +1,19 @@
 -- What C is told of the result that registers and memory have where a function has returned. What declares the function declares a signature, or has a fault.
 use Rattle.std.specs.Prelude.{◌≡◌, ℕ, ◌+◌, ◌-◌, ⊤, List, [], length, replicate, Option, Some, None, cond}
-use Rattle.ffi3_type_rules.specs.declared.Target.{Target}
-use Rattle.ffi3_type_rules.specs.Tree.{Tree}
-use Rattle.ffi3_type_rules.specs.Layout.{size_of}
-use Rattle.ffi3_type_rules.specs.Signature.{Signature}
-use Rattle.ffi3_type_rules.specs.Value.{ValueTree, part, value_in}
-use Rattle.ffi3_place_rules.specs.declared.Loc.{Loc}
-use Rattle.ffi3_place_rules.specs.declared.Res.{Res}
-use Rattle.ffi3_place_rules.specs.declared.Res.TheVariants.{Nothing, Direct, Hidden}
-use Rattle.ffi3_place_rules.specs.Holds.{OwnResult, RegisterHolds}
-use Rattle.ffi3_place_rules.specs.Image.{Image, register}
-use Rattle.ffi3_place_rules.specs.Standard.{Standard, plan_of}
-use Rattle.ffi3_explain_rules.specs.Arguments.{is_in_image}
-use Rattle.ffi3_explain_rules.specs.Explain.{first_bytes}
-use Rattle.ffi3_explain_rules.specs.Standards.{standard_of}
+use Rattle.ffi3_type_spec.specs.declared.Target.{Target}
+use Rattle.ffi3_type_spec.specs.Tree.{Tree}
+use Rattle.ffi3_type_spec.specs.Layout.{size_of}
+use Rattle.ffi3_type_spec.specs.Signature.{Signature}
+use Rattle.ffi3_type_spec.specs.Value.{ValueTree, part, value_in}
+use Rattle.ffi3_place_spec.specs.declared.Loc.{Loc}
+use Rattle.ffi3_place_spec.specs.declared.Res.{Res}
+use Rattle.ffi3_place_spec.specs.declared.Res.TheVariants.{Nothing, Direct, Hidden}
+use Rattle.ffi3_place_spec.specs.Holds.{OwnResult, RegisterHolds}
+use Rattle.ffi3_place_spec.specs.Image.{Image, register}
+use Rattle.ffi3_place_spec.specs.Standard.{Standard, plan_of}
+use Rattle.ffi3_explain_spec.specs.Arguments.{is_in_image}
+use Rattle.ffi3_explain_spec.specs.Explain.{first_bytes}
+use Rattle.ffi3_explain_spec.specs.Standards.{standard_of}
 use Rattle.ffi3_capi.specs.declared.codes.TheConstants.{NOT_IN_STACK, NO_ADDRESS}
 use Rattle.ffi3_capi.specs.declared.fault.TextFault.{TextFault}
 use Rattle.ffi3_capi.specs.declared.fault.FaultKind.TheVariants.{NoFault}

@@ -1,8 +1,8 @@
 -- What `ffi3_layout_nodes` and `ffi3_offsets_nodes` answer, and what they write; and the same for a target.
 use Rattle.std.specs.Prelude.{ℕ, List, [], map, length, replicate, Option, Some, None}
 use Rattle.std.specs.List.{range_with_len}
-use Rattle.ffi3_type_rules.specs.Tree.{Tree, void, scalar, left_out, structure, array, list_of}
-use Rattle.ffi3_type_rules.specs.Layout.{size_of, align_of, offset_of}
+use Rattle.ffi3_type_spec.specs.Tree.{Tree, void, scalar, left_out, structure, array, list_of}
+use Rattle.ffi3_type_spec.specs.Layout.{size_of, align_of, offset_of}
 use Rattle.ffi3_nodes.specs.declared.Node.{Node}
 use Rattle.ffi3_capi.specs.declared.fault.TextFault.{TextFault}
 use Rattle.ffi3_capi.specs.declared.fault.FaultKind.TheVariants.{NoFault}
@@ -10,7 +10,7 @@ use Rattle.ffi3_capi.specs.declared.layouts.LaidLeaf.{LaidLeaf}
 use Rattle.ffi3_capi.specs.declared.whole.WholeType.{WholeType}
 use Rattle.ffi3_capi.specs.declared.status.Refusal.{Refusal}
 use Rattle.ffi3_capi.specs.declared.status.Refusal.TheVariants.{NoSuchTarget, NoSuchValue, Fault, NoMemory}
-use Rattle.ffi3_format_rules.specs.declared.Format.{Format}
+use Rattle.ffi3_format_spec.specs.declared.Format.{Format}
 use Rattle.ffi3_capi.specs.ByNodes.{AreNodesOfType, AreNodesOfTypeIn, IsFaultOfType, IsFaultOfTypeIn}
 use Rattle.ffi3_capi.specs.Faults.{fault_with}
 use Rattle.ffi3_capi.specs.Filled.{has_room, filled, room_status}

@@ -1,12 +1,12 @@
 // The bytes of values, one value after another.
 ghost use Rattle.std.specs.Prelude.{◌≡◌, OnOk, length, replicate, true};
-ghost use Rattle.ffi3_type_rules.specs.Layout.{size_of};
-ghost use Rattle.ffi3_type_rules.specs.Value.{IsWritten, fits};
+ghost use Rattle.ffi3_type_spec.specs.Layout.{size_of};
+ghost use Rattle.ffi3_type_spec.specs.Value.{IsWritten, fits};
 ghost use Rattle.ffi3_values.specs.ValueOf.{value_of};
 ghost use Rattle.ffi3_capi.specs.Entry.{HasOneMore};
 
-use ffi3_type_rules::limits::LARGEST_TYPE;
-use ffi3_type_rules::round_up;
+use ffi3_type_spec::limits::LARGEST_TYPE;
+use ffi3_type_spec::round_up;
 use ffi3_types::{Bytes, CheckedType, NoMemory};
 use ffi3_values::{Value, write_bytes};
 

@@ -1,6 +1,6 @@
 // What declares a function: a text, or nodes.
 ghost use Rattle.std.specs.Prelude.{◌≡◌, IfOk, IfErr, Some};
-ghost use Rattle.ffi3_type_rules.specs.Signature.{SignatureHasNoFault, SignatureIsPlaced};
+ghost use Rattle.ffi3_type_spec.specs.Signature.{SignatureHasNoFault, SignatureIsPlaced};
 ghost use Rattle.ffi3_capi.specs.declared.fault.TextFault.{TextFault};
 ghost use Rattle.ffi3_cdecl.specs.TokenOf.{sign_of};
 ghost use Rattle.ffi3_capi.specs.Chars.{char_sign};

@@ -1,7 +1,7 @@
 // The arguments of a function, from registers and stack where it begins.
 ghost use Rattle.std.specs.Prelude.{◌≡◌, IfOk, IfErr};
-ghost use Rattle.ffi3_type_rules.specs.Signature.{SignatureIsPlaced};
-ghost use Rattle.ffi3_explain_rules.specs.Standards.{standard_of};
+ghost use Rattle.ffi3_type_spec.specs.Signature.{SignatureIsPlaced};
+ghost use Rattle.ffi3_explain_spec.specs.Standards.{standard_of};
 ghost use Rattle.ffi3_transfer.specs.Stored.{image_in};
 ghost use Rattle.ffi3_capi.specs.DeclaredBy.{IsDeclaredOn, IsFaultOn};
 ghost use Rattle.ffi3_capi.specs.Entry.{AreFoundBy, AreNotReadBy, AreFound, AreNotRead, Reads, arguments_of, no_arguments, unread_status};

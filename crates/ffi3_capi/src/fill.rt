@@ -3,7 +3,7 @@ ghost use Rattle.std.specs.Prelude.{◌≡◌, ◌&&◌, length};
 ghost use Rattle.ffi3_capi.specs.Filled.{has_room, filled, room_status, with_end};
 
 use crate::codes::{DONE, TOO_SMALL};
-use ffi3_place_rules::Listed;
+use ffi3_place_spec::Listed;
 
 /// Writes the items to the front of the array, if all of them have room there. Answers whether they have.
 pub fn fill<T: Copy + Drop>(items: &Listed<T>, array: &mut [T]) -> bool

@@ -1,7 +1,7 @@
 // The layout of the types of the function that is declared.
 ghost use Rattle.std.specs.Prelude.{◌≡◌, IfOk, IfErr};
-ghost use Rattle.ffi3_type_rules.specs.Tree.{Scalar, scalar};
-ghost use Rattle.ffi3_type_rules.specs.Layout.{scalar_size};
+ghost use Rattle.ffi3_type_spec.specs.Tree.{Scalar, scalar};
+ghost use Rattle.ffi3_type_spec.specs.Layout.{scalar_size};
 ghost use Rattle.ffi3_types.specs.TreeOf.{tree_of};
 ghost use Rattle.ffi3_capi.specs.Chars.{layout_sign};
 ghost use Rattle.ffi3_capi.specs.DeclaredBy.{IsDeclaredBy, IsDeclaredOn, IsFaultBy, IsFaultOn};
@@ -14,7 +14,7 @@ use crate::fill::{fill, room_status};
 use crate::placing::target_numbered;
 use crate::status::Refusal;
 use ffi3_cdecl::Sign;
-use ffi3_place_rules::Listed;
+use ffi3_place_spec::Listed;
 use ffi3_types::{CheckedSig, CheckedType, FfiType, Leaf, NoMemory, PlacedSig};
 use std::alloc::Global;
 

@@ -1,8 +1,8 @@
 // The fault of a text in words, and of one that has a place in the text the line with a mark below the place.
 ghost use Rattle.std.specs.Prelude.{◌≡◌, ◌++◌, ◌∷◌, [], IfOk, IsSome, IsUtf8, slice_get};
-ghost use Rattle.ffi3_cdecl_rules.specs.Tokens.{wide};
-ghost use Rattle.ffi3_cdecl_rules.specs.Reading.{IsReadingIn, unexpected};
-ghost use Rattle.ffi3_diagnostics_rules.specs.ToldText.{lines_at};
+ghost use Rattle.ffi3_cdecl_spec.specs.Tokens.{wide};
+ghost use Rattle.ffi3_cdecl_spec.specs.Reading.{IsReadingIn, unexpected};
+ghost use Rattle.ffi3_diagnostics_spec.specs.ToldText.{lines_at};
 ghost use Rattle.ffi3_types.specs.SignatureFaultOf.{signature_fault_of};
 ghost use Rattle.ffi3_cdecl.specs.ReadingFor.{IsReadingFor};
 ghost use Rattle.ffi3_cdecl.specs.Tells.{Tells};

@@ -1,7 +1,7 @@
 // Whether a type is laid out as its client has it.
 ghost use Rattle.std.specs.Prelude.{◌≡◌, ℕ, List, IfOk, IfSome, Option, None, Some};
 ghost use Rattle.ffi3_nodes.specs.declared.Node.{Node};
-ghost use Rattle.ffi3_format_rules.specs.declared.Format.{Format};
+ghost use Rattle.ffi3_format_spec.specs.declared.Format.{Format};
 ghost use Rattle.ffi3_capi.specs.WholeType.{AreNodesOfTypeBy};
 ghost use Rattle.ffi3_capi.specs.NaturalLayout.{DifferFirst, IsNatural, IsAnother, ChecksLayout, ChecksLayoutFor, ChecksType};
 
@@ -11,7 +11,7 @@ use crate::placing::target_numbered;
 use crate::status::Refusal;
 use crate::whole::{find_type, find_type_on, offsets as natural_offsets};
 use ffi3_nodes::Node;
-use ffi3_place_rules::Listed;
+use ffi3_place_spec::Listed;
 use ffi3_types::{CheckedType, NoMemory, PlacedSig};
 use std::alloc::Global;
 

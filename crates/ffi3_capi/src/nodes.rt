@@ -1,7 +1,7 @@
 // What nodes declare, and which type they are.
 ghost use Rattle.std.specs.Prelude.{◌≡◌, IfOk, IfErr, Some};
-ghost use Rattle.ffi3_type_rules.specs.Signature.{SignatureHasNoFault, SignatureIsPlaced};
-ghost use Rattle.ffi3_type_rules.specs.Fault.{IsResultType};
+ghost use Rattle.ffi3_type_spec.specs.Signature.{SignatureHasNoFault, SignatureIsPlaced};
+ghost use Rattle.ffi3_type_spec.specs.Fault.{IsResultType};
 ghost use Rattle.ffi3_types.specs.TreeOf.{tree_of};
 ghost use Rattle.ffi3_nodes.specs.Read.{node_fault_of};
 ghost use Rattle.ffi3_capi.specs.declared.fault.TextFault.{TextFault};

@@ -1,7 +1,7 @@
 // Where bytes stand, one piece after another.
 ghost use Rattle.std.specs.Prelude.{◌≡◌, ◌+◌, ◌<◌, ◌≤◌, ◌^◌, ◌++◌, ◌∷◌, List, IfOk, OnOk, length, map};
 ghost use Rattle.std.specs.List.{AllByRecursion};
-ghost use Rattle.ffi3_type_rules.specs.declared.limits.TheConstants.{LARGEST_TYPE};
+ghost use Rattle.ffi3_type_spec.specs.declared.limits.TheConstants.{LARGEST_TYPE};
 ghost use Rattle.ffi3_capi.specs.Within.{EndsWithin, PlaceEndsWithin, ResultEndsWithin};
 ghost use Rattle.ffi3_capi.specs.Pieces.{place_of, number_of, is_packed, rest_of, value_piece, address_piece, goes_on, is_above, is_upper_half, is_x87, whole_x87, joined_to, joined, argument_pieces, arguments_from, hidden_pieces, returned_address, returned_pieces};
 
@@ -10,7 +10,7 @@ use crate::codes::{
     ON_STACK, REST_EXTENDED, REST_EXTENDED_BY_32, REST_FREE, REST_NONE, REST_ONES, RESULT_PART,
 };
 use ffi3_place::{Ext, Loc, Piece, Pieces, Place, Places, Res};
-use ffi3_place_rules::Listed;
+use ffi3_place_spec::Listed;
 use ffi3_types::NoMemory;
 
 /// Where bytes of an argument or of the result stand, or their address: C's `struct ffi3_piece`.

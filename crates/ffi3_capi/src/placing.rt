@@ -1,6 +1,6 @@
 // A call of the function that is declared.
 ghost use Rattle.std.specs.Prelude.{◌≡◌, IfOk, IfErr, slice_get};
-ghost use Rattle.ffi3_explain_rules.specs.Standards.{standard_of};
+ghost use Rattle.ffi3_explain_spec.specs.Standards.{standard_of};
 ghost use Rattle.ffi3_capi.specs.DeclaredBy.{IsDeclaredOn, IsFaultOn};
 ghost use Rattle.ffi3_capi.specs.Placed.{targets, no_call, placement_of, IsPlacement, IsPlaceRefusal, Places};
 

@@ -1,6 +1,6 @@
 // What a text declares, as people write it.
 ghost use Rattle.std.specs.Prelude.{◌≡◌, IfOk, IfErr, Some, IsUtf8};
-ghost use Rattle.ffi3_type_rules.specs.Signature.{SignatureHasNoFault, SignatureIsPlaced};
+ghost use Rattle.ffi3_type_spec.specs.Signature.{SignatureHasNoFault, SignatureIsPlaced};
 ghost use Rattle.ffi3_cdecl.specs.TokenOf.{sign_of};
 ghost use Rattle.ffi3_capi.specs.declared.fault.TextFault.{TextFault};
 ghost use Rattle.ffi3_capi.specs.Faults.{Declares, DeclaresIn, IsFaultOf, IsFaultIn};

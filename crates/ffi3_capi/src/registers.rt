@@ -7,7 +7,7 @@ use crate::codes::{IN_FLOATING, IN_GENERAL, IN_X87};
 use crate::fill::fill_text;
 use crate::placing::target_numbered;
 use ffi3_place::names::{floating_name, general_name};
-use ffi3_type_rules::Isa;
+use ffi3_type_spec::Isa;
 
 /// The name of an x87 register.
 fn x87_name(isa: Isa, r: u32) -> &'static str

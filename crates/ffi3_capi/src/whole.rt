@@ -1,12 +1,12 @@
 // The layout of the one type that nodes are.
 ghost use Rattle.std.specs.Prelude.{◌≡◌, IfOk, IfErr, List, Option, None, Some, length};
 ghost use Rattle.ffi3_nodes.specs.declared.Node.{Node};
-ghost use Rattle.ffi3_type_rules.specs.Tree.{struct_of};
-ghost use Rattle.ffi3_type_rules.specs.Fault.{IsLaidOut, IsResultType};
-ghost use Rattle.ffi3_type_rules.specs.Signature.{SignatureIsPlaced};
+ghost use Rattle.ffi3_type_spec.specs.Tree.{struct_of};
+ghost use Rattle.ffi3_type_spec.specs.Fault.{IsLaidOut, IsResultType};
+ghost use Rattle.ffi3_type_spec.specs.Signature.{SignatureIsPlaced};
 ghost use Rattle.ffi3_types.specs.TreeOf.{tree_of};
 ghost use Rattle.ffi3_capi.specs.ByNodes.{AreNodesOfType, AreNodesOfTypeIn};
-ghost use Rattle.ffi3_format_rules.specs.declared.Format.{Format};
+ghost use Rattle.ffi3_format_spec.specs.declared.Format.{Format};
 ghost use Rattle.ffi3_capi.specs.WholeType.{members_of, offsets_of, whole_type, no_whole_type, AreNodesOfTypeBy, IsTypeRefusal, TellsType, LaysOutNodes, LaysOutNodesFor, TellsOffsets, TellsOffsetsFor};
 ghost use Rattle.ffi3_capi.specs.Laid.{laid_leaves};
 ghost use Rattle.ffi3_capi.specs.Formats.{long_double_on};
@@ -20,8 +20,8 @@ use crate::nodes::{declared_by_nodes_in, type_of_nodes};
 use crate::placing::target_numbered;
 use crate::status::Refusal;
 use ffi3_nodes::Node;
-use ffi3_place_rules::Listed;
-use ffi3_type_rules::round_up;
+use ffi3_place_spec::Listed;
+use ffi3_type_spec::round_up;
 use ffi3_types::{CheckedType, FfiType, Fields, NoMemory, PlacedSig, Sig};
 use std::alloc::Global;
 

@@ -2,23 +2,23 @@
 use Rattle.std.proofs.Common.{◌≡◌, ℕ, zero, suc, ◌+◌, ◌<◌, ◌≤◌, ◌⊎◌, inl, inr, min, Bool, true, false, cond, nat_lt, List, [], ◌∷◌, length, map, Option, Some, None, option_map, refl, ap, sym, ◌∙◌, subst, arith}
 use Rattle.std.specs.Prelude.{◌&&◌, ◌||◌, not}
 use Rattle.std.proofs.lemmas.Bool.{cases_lt, lt-ltb, le-ltb}
-use Rattle.ffi3_type_rules.specs.declared.limits.TheConstants.{DEEPEST_NESTING, MOST_ARGUMENTS}
-use Rattle.ffi3_type_rules.specs.declared.Role.{Role}
-use Rattle.ffi3_type_rules.specs.declared.Role.TheVariants.{AsElement, PlacedResult, PlacedArgument}
-use Rattle.ffi3_type_rules.specs.Tree.{Tree, trees_of, struct_of, array_of}
-use Rattle.ffi3_type_rules.specs.Layout.{size_of}
-use Rattle.ffi3_type_rules.specs.Fault.{too_deep}
-use Rattle.ffi3_type_rules.specs.Signature.{SignatureFault, too_many, at_result, at_argument, for_places}
-use Rattle.ffi3_type_rules.specs.FirstFault.{Found, or_else, inside_element, fault_of_size, first_fault, first_inside, at_position, found_fault, first_in_arguments, first_in_fixed, first_fault_for}
-use Rattle.ffi3_format_rules.specs.declared.Format.{Format}
-use Rattle.ffi3_format_rules.specs.Format.{resolved, all_resolved, resolved_signature}
-use Rattle.ffi3_cdecl_rules.specs.Tokens.{TOO_GREAT}
-use Rattle.ffi3_cdecl_rules.specs.Grammar.{Declaration}
-use Rattle.ffi3_cdecl_rules.specs.Machine.{arrays}
-use Rattle.ffi3_cdecl_rules.specs.OnePass.{MOST_COUNTS, GREATEST_COUNT, with_count}
-use Rattle.ffi3_cdecl_rules.proofs.Alike.{AllSame, no_types, one_type, or_else_same, or_else_none, mapped_none, some_none, if_same, if_none, array_fault_is, of_same, none_of, too_deep_some}
-use Rattle.ffi3_cdecl_rules.proofs.Judged.{IsSmall}
-use Rattle.ffi3_cdecl_rules.proofs.Kept.{all_length, SameDeclaration}
+use Rattle.ffi3_type_spec.specs.declared.limits.TheConstants.{DEEPEST_NESTING, MOST_ARGUMENTS}
+use Rattle.ffi3_type_spec.specs.declared.Role.{Role}
+use Rattle.ffi3_type_spec.specs.declared.Role.TheVariants.{AsElement, PlacedResult, PlacedArgument}
+use Rattle.ffi3_type_spec.specs.Tree.{Tree, trees_of, struct_of, array_of}
+use Rattle.ffi3_type_spec.specs.Layout.{size_of}
+use Rattle.ffi3_type_spec.specs.Fault.{too_deep}
+use Rattle.ffi3_type_spec.specs.Signature.{SignatureFault, too_many, at_result, at_argument, for_places}
+use Rattle.ffi3_type_spec.specs.FirstFault.{Found, or_else, inside_element, fault_of_size, first_fault, first_inside, at_position, found_fault, first_in_arguments, first_in_fixed, first_fault_for}
+use Rattle.ffi3_format_spec.specs.declared.Format.{Format}
+use Rattle.ffi3_format_spec.specs.Format.{resolved, all_resolved, resolved_signature}
+use Rattle.ffi3_cdecl_spec.specs.Tokens.{TOO_GREAT}
+use Rattle.ffi3_cdecl_spec.specs.Grammar.{Declaration}
+use Rattle.ffi3_cdecl_spec.specs.Machine.{arrays}
+use Rattle.ffi3_cdecl_spec.specs.OnePass.{MOST_COUNTS, GREATEST_COUNT, with_count}
+use Rattle.ffi3_cdecl_spec.proofs.Alike.{AllSame, no_types, one_type, or_else_same, or_else_none, mapped_none, some_none, if_same, if_none, array_fault_is, of_same, none_of, too_deep_some}
+use Rattle.ffi3_cdecl_spec.proofs.Judged.{IsSmall}
+use Rattle.ffi3_cdecl_spec.proofs.Kept.{all_length, SameDeclaration}
 
 module _ (f : Format) where
   -- by the format the same first fault, and the same type where there is none

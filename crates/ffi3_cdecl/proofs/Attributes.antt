@@ -2,7 +2,7 @@
 use Rattle.std.proofs.Common.{◌≡◌, ℕ, zero, suc, ◌+◌, ◌<◌, ◌≤◌, Bool, true, false, cond, ◌&&◌, List, [], ◌∷◌, length, get_or, drop, Option, Some, None, option_map, ap, sym, refl, ◌∙◌, arith, ne_eqb}
 use Rattle.std.specs.Prelude.{◌==◌}
 use Rattle.std.proofs.lemmas.List.{drop_more, drop_all, drop-drop}
-use Rattle.ffi3_cdecl_rules.specs.Tokens.{Quoted, quoted_behind, hides, begins_string, open_behind, bracket_length, is_attribute_at, all_silent, are_silent, is_silent, front, goes_on_word}
+use Rattle.ffi3_cdecl_spec.specs.Tokens.{Quoted, quoted_behind, hides, begins_string, open_behind, bracket_length, is_attribute_at, all_silent, are_silent, is_silent, front, goes_on_word}
 
 -- ---- where a bracket ends
 

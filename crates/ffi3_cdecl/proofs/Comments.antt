@@ -2,7 +2,7 @@
 use Rattle.std.proofs.Common.{◌≡◌, ℕ, suc, ◌+◌, ◌<◌, ◌≤◌, Bool, true, false, cond, List, [], ◌∷◌, length, get_or, drop, ap, sym, refl, ◌∙◌, arith, ne_eqb, Option, Some, None, option_map}
 use Rattle.std.specs.Prelude.{◌==◌}
 use Rattle.std.proofs.lemmas.List.{drop_more, drop_all}
-use Rattle.ffi3_cdecl_rules.specs.Tokens.{Found, skipped, nothing_known, CommentPlace, in_comment, place_behind, closes_comment, is_spliced_behind, ends_line, line_length, comment_length, comment_at, passed_over}
+use Rattle.ffi3_cdecl_spec.specs.Tokens.{Found, skipped, nothing_known, CommentPlace, in_comment, place_behind, closes_comment, is_spliced_behind, ends_line, line_length, comment_length, comment_at, passed_over}
 
 -- a length that is counted from n bytes before
 abbrev pub later : ℕ → Option ℕ → Option ℕ

@@ -1,6 +1,6 @@
 -- What follows a word that attributes, or a name for the assembler, follow.
 use Rattle.std.proofs.Common.{◌≡◌, ℕ, ◌+◌, Bool, true, false, cond, List, length, drop, take, ap, sym, refl, ◌∙◌, Option, Some, None}
-use Rattle.ffi3_cdecl_rules.specs.Tokens.{Found, skipped, nothing_known, found, attribute_word, front, is_blank, begins_with, unquoted, bracket_length, are_silent, begins_string, with_bracket, attribute_at}
+use Rattle.ffi3_cdecl_spec.specs.Tokens.{Found, skipped, nothing_known, found, attribute_word, front, is_blank, begins_with, unquoted, bracket_length, are_silent, begins_string, with_bracket, attribute_at}
 
 abbrev blanks : List ℕ → ℕ
 blanks bs = length (front is_blank bs)

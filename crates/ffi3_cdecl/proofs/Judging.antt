@@ -1,22 +1,22 @@
 -- A declaration is judged by its signature's first fault, and that of its resolutions.
 use Rattle.std.proofs.Common.{◌≡◌, ◌∙◌, ◌⊎◌, inl, inr, ℕ, List, [], ◌∷◌, ◌++◌, length, Option, Some, None, ap, sym, refl, subst}
 use Rattle.std.specs.Prelude.{⊤}
-use Rattle.ffi3_type_rules.specs.Signature.{Signature, SignatureFault, SignatureHasNoFault, SignatureIsPlaced, IsFirstSignatureFault, IsFirstFaultFor, HasNoFaultFor, for_places}
-use Rattle.ffi3_type_rules.specs.FirstFault.{first_fault_for, first_signature_fault, or_else}
-use Rattle.ffi3_type_rules.proofs.FirstSignatureFaults.{SignatureAnswers, signature_answers, signature_none_found, signature_found_by_first, one_first_signature_fault}
-use Rattle.ffi3_format_rules.specs.declared.Format.{Format}
-use Rattle.ffi3_format_rules.specs.declared.Format.TheVariants.{Double, X87, Binary128}
-use Rattle.ffi3_format_rules.specs.Format.{resolved_signature}
-use Rattle.ffi3_cdecl_rules.specs.Tokens.{wide, Sign, Placed, Cut, tokens, bad_at, cut_in}
-use Rattle.ffi3_cdecl_rules.specs.Grammar.{Declaration, IsDeclarationIn}
-use Rattle.ffi3_cdecl_rules.specs.Reading as reading
-use Rattle.ffi3_cdecl_rules.specs.Reading.{Outcome, reads, bad_token, unexpected, bad_number, bad_signature, tokens_of, first_too_great, IsReadingIn}
-use Rattle.ffi3_cdecl_rules.specs.Machine.{with_signature, with_number, with_end, with_cut, judged, finish, after, begun, read_in}
-use Rattle.ffi3_cdecl_rules.proofs.Completes.{accepted}
-use Rattle.ffi3_cdecl_rules.proofs.Sound.{declaration_of}
-use Rattle.ffi3_cdecl_rules.proofs.Readings.{reading_in, one_reading_in}
+use Rattle.ffi3_type_spec.specs.Signature.{Signature, SignatureFault, SignatureHasNoFault, SignatureIsPlaced, IsFirstSignatureFault, IsFirstFaultFor, HasNoFaultFor, for_places}
+use Rattle.ffi3_type_spec.specs.FirstFault.{first_fault_for, first_signature_fault, or_else}
+use Rattle.ffi3_type_spec.proofs.FirstSignatureFaults.{SignatureAnswers, signature_answers, signature_none_found, signature_found_by_first, one_first_signature_fault}
+use Rattle.ffi3_format_spec.specs.declared.Format.{Format}
+use Rattle.ffi3_format_spec.specs.declared.Format.TheVariants.{Double, X87, Binary128}
+use Rattle.ffi3_format_spec.specs.Format.{resolved_signature}
+use Rattle.ffi3_cdecl_spec.specs.Tokens.{wide, Sign, Placed, Cut, tokens, bad_at, cut_in}
+use Rattle.ffi3_cdecl_spec.specs.Grammar.{Declaration, IsDeclarationIn}
+use Rattle.ffi3_cdecl_spec.specs.Reading as reading
+use Rattle.ffi3_cdecl_spec.specs.Reading.{Outcome, reads, bad_token, unexpected, bad_number, bad_signature, tokens_of, first_too_great, IsReadingIn}
+use Rattle.ffi3_cdecl_spec.specs.Machine.{with_signature, with_number, with_end, with_cut, judged, finish, after, begun, read_in}
+use Rattle.ffi3_cdecl_spec.proofs.Completes.{accepted}
+use Rattle.ffi3_cdecl_spec.proofs.Sound.{declaration_of}
+use Rattle.ffi3_cdecl_spec.proofs.Readings.{reading_in, one_reading_in}
 use Rattle.ffi3_cdecl.specs.ReadingFor.{IsReadingBy, has_bad_token, has_unexpected, has_bad_number, is_judged, IsJudgedFor, is_placed, has_bad_signature, IsReadingFor, resolved_declaration, every_format, IsFirstFaultBy, IsJudgedEverywhere, placed_everywhere, faulty_somewhere, IsReadingEverywhere, judged_for, first_fault_by, judged_everywhere, with_number_by, with_end_by, with_cut_by, read_by, read_for, read_everywhere}
-use Rattle.ffi3_cdecl_rules.proofs.Alike.{or_else_none}
+use Rattle.ffi3_cdecl_spec.proofs.Alike.{or_else_none}
 use Rattle.ffi3_cdecl.proofs.AlikeFor.{AlikeDeclarationsFor, fault_same, none_same}
 
 pub right_is_judged : (d : Declaration) → SignatureHasNoFault d.signature → reads d ≡ judged d

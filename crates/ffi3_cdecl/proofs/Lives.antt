@@ -1,6 +1,6 @@
 -- No state of the wide reading alone is dead.
 use Rattle.std.proofs.Common.{◌≡◌, false, refl}
-use Rattle.ffi3_cdecl_rules.specs.Machine.{is_dead}
+use Rattle.ffi3_cdecl_spec.specs.Machine.{is_dead}
 use Rattle.ffi3_cdecl.specs.StateOf.{wide_of}
 use Rattle.ffi3_cdecl.specs.declared.state.Wide.{Wide}
 use Rattle.ffi3_cdecl.specs.declared.state.Wide.TheVariants as w

@@ -1,9 +1,9 @@
 -- What a mark does, and that every other token is the end: by whether it is that mark.
 use Rattle.std.proofs.Common.{◌≡◌, ℕ, suc, Bool, true, false, List, sym, refl, ◌∙◌}
-use Rattle.ffi3_type_rules.specs.Tree.{Tree}
-use Rattle.ffi3_cdecl_rules.specs.Tokens.{Token, close_round, close_square, semicolon}
-use Rattle.ffi3_cdecl_rules.specs.Grammar.{Kind, Declaration}
-use Rattle.ffi3_cdecl_rules.specs.Machine.{Head, Settled, State, parameter_itself, itself_or_bracket, inner_nothing, nothing_or_bracket, ended, function_ends, settled, fewer, bracket_or_end, step_filled, step_list_dots, dead}
+use Rattle.ffi3_type_spec.specs.Tree.{Tree}
+use Rattle.ffi3_cdecl_spec.specs.Tokens.{Token, close_round, close_square, semicolon}
+use Rattle.ffi3_cdecl_spec.specs.Grammar.{Kind, Declaration}
+use Rattle.ffi3_cdecl_spec.specs.Machine.{Head, Settled, State, parameter_itself, itself_or_bracket, inner_nothing, nothing_or_bracket, ended, function_ends, settled, fewer, bracket_or_end, step_filled, step_list_dots, dead}
 use Rattle.ffi3_cdecl.specs.TokenOf.{is_close_round, is_close_square, is_semicolon}
 
 apart : true ≡ false → ⊥

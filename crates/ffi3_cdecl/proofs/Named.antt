@@ -1,11 +1,11 @@
 -- What words of a type name, as they stand.
 use Rattle.std.proofs.Common.{◌≡◌, Bool, true, false, Option, Some, None, ap, sym, subst, refl, ◌∙◌}
-use Rattle.ffi3_type_rules.specs.Tree.{scalar, s32, left_out, float, double, long_double, complex}
+use Rattle.ffi3_type_spec.specs.Tree.{scalar, s32, left_out, float, double, long_double, complex}
 use Rattle.ffi3_types.specs.TreeOf.{tree_of}
 use Rattle.ffi3_types.specs.declared.FfiType.{FfiType}
-use Rattle.ffi3_cdecl_rules.specs.Tokens as cut
-use Rattle.ffi3_cdecl_rules.specs.Grammar.{Kind, whole, named_by, complex_of, char_of, short_of, int_of, long_of, int128_of}
-use Rattle.ffi3_cdecl_rules.specs.Machine.{of_no_size, said_short, said_long, said_long_long, an_integer, a_character, of_128_bits, a_float, a_double, a_complex, words_of}
+use Rattle.ffi3_cdecl_spec.specs.Tokens as cut
+use Rattle.ffi3_cdecl_spec.specs.Grammar.{Kind, whole, named_by, complex_of, char_of, short_of, int_of, long_of, int128_of}
+use Rattle.ffi3_cdecl_spec.specs.Machine.{of_no_size, said_short, said_long, said_long_long, an_integer, a_character, of_128_bits, a_float, a_double, a_complex, words_of}
 use Rattle.ffi3_cdecl.specs.TokenOf.{sign_of}
 use Rattle.ffi3_cdecl.specs.SaidOf.{sign_by, sign_or_not, sign_said, size_of}
 use Rattle.ffi3_cdecl.specs.declared.token.Sign.{Sign}

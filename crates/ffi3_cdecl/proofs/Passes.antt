@@ -1,15 +1,15 @@
 -- A pass over bytes reads what the definition reads, whatever is judged of what it declares.
 use Rattle.std.proofs.Common.{◌≡◌, ℕ, zero, suc, ◌+◌, List, [], ◌∷◌, length, Option, Some, None, ap, sym, refl, ◌∙◌, subst, arith}
 use Rattle.std.specs.Prelude.{⊤}
-use Rattle.ffi3_cdecl_rules.specs.Tokens.{Dialect, wide, Sign, Found, blank, skipped, nothing_known, found, found_in, Placed, Cut, tokens, bad_at, cut_in, cut_from, before, bytes_more}
-use Rattle.ffi3_cdecl_rules.specs.Grammar.{Declaration}
-use Rattle.ffi3_cdecl_rules.specs.Reading.{Outcome, reads, unexpected, tokens_of, first_too_great}
-use Rattle.ffi3_cdecl_rules.specs.Machine.{State, step, finish, begun, after, judged, read_in}
-use Rattle.ffi3_cdecl_rules.specs.OnePass.{Pass, taking, pass_found, pass_from, new_pass, outcome_by, outcome_at}
-use Rattle.ffi3_cdecl_rules.proofs.Judged.{IsSmall}
-use Rattle.ffi3_cdecl_rules.proofs.Kept.{results, SameState, both_want_type, SameEnd, end_same, step_same}
-use Rattle.ffi3_cdecl_rules.proofs.OnePass.{all_taken, Any, AnyTypes, AnyCounts, some_states, AllSmall, all_small, great_is, died_is, one_pass_in}
-use Rattle.ffi3_format_rules.specs.declared.Format.{Format}
+use Rattle.ffi3_cdecl_spec.specs.Tokens.{Dialect, wide, Sign, Found, blank, skipped, nothing_known, found, found_in, Placed, Cut, tokens, bad_at, cut_in, cut_from, before, bytes_more}
+use Rattle.ffi3_cdecl_spec.specs.Grammar.{Declaration}
+use Rattle.ffi3_cdecl_spec.specs.Reading.{Outcome, reads, unexpected, tokens_of, first_too_great}
+use Rattle.ffi3_cdecl_spec.specs.Machine.{State, step, finish, begun, after, judged, read_in}
+use Rattle.ffi3_cdecl_spec.specs.OnePass.{Pass, taking, pass_found, pass_from, new_pass, outcome_by, outcome_at}
+use Rattle.ffi3_cdecl_spec.proofs.Judged.{IsSmall}
+use Rattle.ffi3_cdecl_spec.proofs.Kept.{results, SameState, both_want_type, SameEnd, end_same, step_same}
+use Rattle.ffi3_cdecl_spec.proofs.OnePass.{all_taken, Any, AnyTypes, AnyCounts, some_states, AllSmall, all_small, great_is, died_is, one_pass_in}
+use Rattle.ffi3_format_spec.specs.declared.Format.{Format}
 use Rattle.ffi3_cdecl.specs.PassOf.{outcome_behind, unjudged, unjudged_by, unjudged_behind, judged_by, pass_on, pass_over}
 use Rattle.ffi3_cdecl.specs.ReadingFor.{with_number_by, with_end_by, with_cut_by, read_by}
 use Rattle.ffi3_cdecl.proofs.AlikeFor.{AlikeFor, KeptFor, AlikeDeclarationsFor, alike_itself, struct_alike, none_kept, one_kept, arrays_alike}

@@ -1,8 +1,8 @@
 -- Brackets that are open.
 use Rattle.std.proofs.Common.{◌≡◌, ℕ, zero, suc, ◌+◌, ◌-◌, ◌<◌, ◌≤◌, Bool, true, false, ltb, ap, sym, refl, ◌∙◌, arith, lt-ltb, le-ltb}
 use Rattle.std.proofs.lemmas.Bool.{ltb-true, ltb-false}
-use Rattle.ffi3_cdecl_rules.specs.Machine.{and_more}
-use Rattle.ffi3_cdecl_rules.specs.Grammar.{MOST_OPEN}
+use Rattle.ffi3_cdecl_spec.specs.Machine.{and_more}
+use Rattle.ffi3_cdecl_spec.specs.Grammar.{MOST_OPEN}
 
 pub and_more_is : (n m : ℕ) → and_more n m ≡ n + m
 and_more_is zero m = omega arith

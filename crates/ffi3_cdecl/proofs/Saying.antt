@@ -1,10 +1,10 @@
 -- Words of a type, said one by one: what is said with one more.
 use Rattle.std.proofs.Common.{◌≡◌, Bool, true, false, Option, Some, None, sym, subst, refl, true≢false}
-use Rattle.ffi3_type_rules.specs.Tree.{float, double}
-use Rattle.ffi3_cdecl_rules.specs.Tokens as cut
-use Rattle.ffi3_cdecl_rules.specs.Tokens.{type_word, sign_word, short_word, int_word, long_word, int128_word, char_word, complex_word}
-use Rattle.ffi3_cdecl_rules.specs.Machine as machine
-use Rattle.ffi3_cdecl_rules.specs.Machine.{of_no_size, said_short, said_long, said_long_long, an_integer, a_character, of_128_bits, a_float, a_double, a_complex, integer_and, say}
+use Rattle.ffi3_type_spec.specs.Tree.{float, double}
+use Rattle.ffi3_cdecl_spec.specs.Tokens as cut
+use Rattle.ffi3_cdecl_spec.specs.Tokens.{type_word, sign_word, short_word, int_word, long_word, int128_word, char_word, complex_word}
+use Rattle.ffi3_cdecl_spec.specs.Machine as machine
+use Rattle.ffi3_cdecl_spec.specs.Machine.{of_no_size, said_short, said_long, said_long_long, an_integer, a_character, of_128_bits, a_float, a_double, a_complex, integer_and, say}
 use Rattle.ffi3_cdecl.specs.TokenOf.{sign_of}
 use Rattle.ffi3_cdecl.specs.SaidOf.{sign_or_not, size_of}
 use Rattle.ffi3_cdecl.specs.declared.token.Sign.{Sign}

@@ -1,11 +1,11 @@
 -- What ends a bracket or a declarator, by the number of brackets that are open.
 use Rattle.std.proofs.Common.{◌≡◌, ℕ, zero, suc, ◌+◌, ◌-◌, Bool, true, false, cond, ltb, Option, Some, None, option_map, ap, sym, refl, ◌∙◌, arith, List}
-use Rattle.ffi3_type_rules.specs.Tree.{Tree}
-use Rattle.ffi3_cdecl_rules.specs.Tokens.{Token, close_round}
-use Rattle.ffi3_cdecl_rules.specs.Grammar.{Kind}
-use Rattle.ffi3_cdecl_rules.specs.Machine.{Where, depth, Head, Settled, the_function, State, settled, settled_ends, bracket_or_end, itself_or_bracket, nothing_or_bracket, dead}
-use Rattle.ffi3_cdecl_rules.specs.Machine.{Round, unstarred, starred, brackets, bracket_inside, round_opened, open_bracket, function_named, step_function_named, step_round_closing, closing, finish, plain_member, starred_member, step_member_at}
-use Rattle.ffi3_cdecl_rules.specs.Grammar.{Declaration}
+use Rattle.ffi3_type_spec.specs.Tree.{Tree}
+use Rattle.ffi3_cdecl_spec.specs.Tokens.{Token, close_round}
+use Rattle.ffi3_cdecl_spec.specs.Grammar.{Kind}
+use Rattle.ffi3_cdecl_spec.specs.Machine.{Where, depth, Head, Settled, the_function, State, settled, settled_ends, bracket_or_end, itself_or_bracket, nothing_or_bracket, dead}
+use Rattle.ffi3_cdecl_spec.specs.Machine.{Round, unstarred, starred, brackets, bracket_inside, round_opened, open_bracket, function_named, step_function_named, step_round_closing, closing, finish, plain_member, starred_member, step_member_at}
+use Rattle.ffi3_cdecl_spec.specs.Grammar.{Declaration}
 use Rattle.ffi3_cdecl.specs.declared.round.Round.{Round as CodeRound}
 use Rattle.ffi3_cdecl.specs.RoundOf.{round_of, bracket_closed}
 

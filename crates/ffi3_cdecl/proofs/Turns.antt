@@ -1,12 +1,12 @@
 -- One byte of a pass.
 use Rattle.std.proofs.Common.{◌≡◌, ℕ, zero, suc, ◌+◌, ◌-◌, ◌<◌, List, length, get_or, drop, Option, Some, None, ap, sym, subst, ◌∙◌, arith}
 use Rattle.std.proofs.lemmas.List.{drop_more, drop_all}
-use Rattle.ffi3_cdecl_rules.specs.Tokens.{Dialect, plain, wide, Sign, signed, Token, Found, blank, skipped, nothing_known, found, found_in}
-use Rattle.ffi3_cdecl_rules.specs.Reading.{Outcome, IsReading, IsReadingIn}
-use Rattle.ffi3_cdecl_rules.specs.Machine.{read, read_in}
-use Rattle.ffi3_cdecl_rules.specs.OnePass.{Pass, taking}
+use Rattle.ffi3_cdecl_spec.specs.Tokens.{Dialect, plain, wide, Sign, signed, Token, Found, blank, skipped, nothing_known, found, found_in}
+use Rattle.ffi3_cdecl_spec.specs.Reading.{Outcome, IsReading, IsReadingIn}
+use Rattle.ffi3_cdecl_spec.specs.Machine.{read, read_in}
+use Rattle.ffi3_cdecl_spec.specs.OnePass.{Pass, taking}
 use Rattle.ffi3_cdecl.specs.PassOf.{pass_on, pass_over}
-use Rattle.ffi3_cdecl_rules.proofs.Readings.{reading_in}
+use Rattle.ffi3_cdecl_spec.proofs.Readings.{reading_in}
 
 pub turn_inside : (r : Dialect) (c : Sign) (bs : List ℕ) (at inside : ℕ) (p : Pass) → at < length bs → 0 < inside → pass_over r c at inside p (drop at bs) ≡ pass_over r c (at + 1) (inside - 1) p (drop (at + 1) bs)
 turn_inside r c bs at zero p h some = absurd (omega arith)

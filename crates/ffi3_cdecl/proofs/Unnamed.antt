@@ -1,8 +1,8 @@
 -- Where a name may be left out, and no array stands there.
 use Rattle.std.proofs.Common.{◌≡◌, ℕ, ap, sym, refl, ◌∙◌, List}
-use Rattle.ffi3_type_rules.specs.Tree.{Tree}
-use Rattle.ffi3_cdecl_rules.specs.Grammar.{Kind, whole, bare}
-use Rattle.ffi3_cdecl_rules.specs.Machine.{Round, unstarred, starred, and_more, Head, at_parameter, at_inner, Settled, a_parameter, an_inner, State, bracket_or_end, step_unnamed}
+use Rattle.ffi3_type_spec.specs.Tree.{Tree}
+use Rattle.ffi3_cdecl_spec.specs.Grammar.{Kind, whole, bare}
+use Rattle.ffi3_cdecl_spec.specs.Machine.{Round, unstarred, starred, and_more, Head, at_parameter, at_inner, Settled, a_parameter, an_inner, State, bracket_or_end, step_unnamed}
 use Rattle.ffi3_cdecl.specs.TokenOf.{token_of}
 use Rattle.ffi3_cdecl.specs.declared.token.Token.{Token}
 use Rattle.ffi3_cdecl.specs.declared.token.Token.TheVariants.{OpenSquare}

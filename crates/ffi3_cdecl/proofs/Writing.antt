@@ -1,12 +1,12 @@
 -- Tokens that are written one by one.
 use Rattle.std.proofs.Common.{◌≡◌, ℕ, zero, suc, ◌+◌, ◌<◌, ◌≤◌, Bool, true, false, ◌||◌, List, [], ◌∷◌, ◌++◌, length, drop, ap, sym, refl, ◌∙◌, arith, append_assoc, append-nil, true≢false}
 use Rattle.std.proofs.lemmas.List.{drop_more, drop_all, take_rest}
-use Rattle.ffi3_type_rules.specs.Tree.{Tree, trees_of, tree_at, void}
-use Rattle.ffi3_cdecl_rules.specs.Tokens.{Token, name, open_round, close_round, comma, semicolon, dots}
-use Rattle.ffi3_cdecl_rules.specs.Canonical.{hugs, holds, spaced, spelled, text_of, count_tokens, first_count_tokens, member_name, type_tokens, first_type_tokens, member_tokens, end_tokens, more_parameter_tokens, parameter_tokens, declaration_text}
+use Rattle.ffi3_type_spec.specs.Tree.{Tree, trees_of, tree_at, void}
+use Rattle.ffi3_cdecl_spec.specs.Tokens.{Token, name, open_round, close_round, comma, semicolon, dots}
+use Rattle.ffi3_cdecl_spec.specs.Canonical.{hugs, holds, spaced, spelled, text_of, count_tokens, first_count_tokens, member_name, type_tokens, first_type_tokens, member_tokens, end_tokens, more_parameter_tokens, parameter_tokens, declaration_text}
 use Rattle.std.specs.Prelude.{◌-◌, take, slice_range, Option, Some, is_some}
-use Rattle.ffi3_cdecl_rules.specs.Prototype.{behind_commas, fixed_tokens, prototype_text}
-use Rattle.ffi3_type_rules.specs.Signature.{Signature}
+use Rattle.ffi3_cdecl_spec.specs.Prototype.{behind_commas, fixed_tokens, prototype_text}
+use Rattle.ffi3_type_spec.specs.Signature.{Signature}
 use Rattle.ffi3_cdecl.specs.Going.{going, Wrote, blank_before}
 use Rattle.ffi3_cdecl.specs.declared.text.Writer.{Writer}
 

@@ -1,7 +1,7 @@
 -- A text of tokens that goes on.
 use Rattle.std.specs.Prelude.{◌≡◌, ℕ, Bool, true, false, List, [], ◌∷◌, ◌++◌}
-use Rattle.ffi3_cdecl_rules.specs.Tokens.{Token}
-use Rattle.ffi3_cdecl_rules.specs.Canonical.{text_of}
+use Rattle.ffi3_cdecl_spec.specs.Tokens.{Token}
+use Rattle.ffi3_cdecl_spec.specs.Canonical.{text_of}
 use Rattle.ffi3_cdecl.specs.declared.text.Writer.{Writer}
 
 -- what the text comes to with these tokens

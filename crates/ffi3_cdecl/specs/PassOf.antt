@@ -1,10 +1,10 @@
 -- Which pass and which outcome those of the code are.
 use Rattle.std.specs.Prelude.{ℕ, zero, suc, ◌+◌, List, [], ◌∷◌, Option, Some, None, unwrap_or}
-use Rattle.ffi3_cdecl_rules.specs.Grammar.{Declaration}
-use Rattle.ffi3_cdecl_rules.specs.Machine.{finish}
-use Rattle.ffi3_cdecl_rules.specs.Tokens.{Dialect, Sign, Found, blank, skipped, nothing_known, found, found_in}
-use Rattle.ffi3_cdecl_rules.specs.Reading as reading
-use Rattle.ffi3_cdecl_rules.specs.OnePass as pass
+use Rattle.ffi3_cdecl_spec.specs.Grammar.{Declaration}
+use Rattle.ffi3_cdecl_spec.specs.Machine.{finish}
+use Rattle.ffi3_cdecl_spec.specs.Tokens.{Dialect, Sign, Found, blank, skipped, nothing_known, found, found_in}
+use Rattle.ffi3_cdecl_spec.specs.Reading as reading
+use Rattle.ffi3_cdecl_spec.specs.OnePass as pass
 use Rattle.ffi3_cdecl.specs.StateOf.{state_of}
 use Rattle.ffi3_cdecl.specs.declared.read.Pass.{Pass}
 use Rattle.ffi3_cdecl.specs.declared.read.Outcome.{Outcome}

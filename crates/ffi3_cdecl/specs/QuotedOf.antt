@@ -1,5 +1,5 @@
 -- Where a byte of a bracket and one of a comment stands.
-use Rattle.ffi3_cdecl_rules.specs.Tokens as cut
+use Rattle.ffi3_cdecl_spec.specs.Tokens as cut
 use Rattle.ffi3_cdecl.specs.declared.attribute.Quoted.{Quoted}
 use Rattle.ffi3_cdecl.specs.declared.attribute.Quoted.TheVariants.{Outside, Between, Escaped}
 use Rattle.ffi3_cdecl.specs.declared.bytes.CommentPlace.{CommentPlace}

@@ -1,15 +1,15 @@
 -- What a text is read as where long doubles have a format, or any: as people write it, a declaration of a function whose signature can be placed, or the first fault: of token, of grammar, of number, of signature, in this order over the whole text.
 use Rattle.std.specs.Prelude.{◌≡◌, ◌⊎◌, ℕ, List, [], ◌∷◌, ◌++◌, length, Option, Some, None}
-use Rattle.ffi3_type_rules.specs.Signature.{Signature, SignatureFault, SignatureIsPlaced, IsFirstFaultFor, for_places}
-use Rattle.ffi3_type_rules.specs.FirstFault.{first_fault_for, or_else}
-use Rattle.ffi3_format_rules.specs.declared.Format.{Format}
-use Rattle.ffi3_format_rules.specs.declared.Format.TheVariants.{Double, X87, Binary128}
-use Rattle.ffi3_format_rules.specs.Format.{resolved_signature}
-use Rattle.ffi3_cdecl_rules.specs.Tokens.{wide, Sign, Placed, Cut, tokens, bad_at, cut_in}
-use Rattle.ffi3_cdecl_rules.specs.Grammar.{Declaration, IsDeclarationIn}
-use Rattle.ffi3_cdecl_rules.specs.Reading.{IsUnexpected, tokens_of, begins_at, first_too_great, Outcome, reads}
-use Rattle.ffi3_cdecl_rules.specs.Reading.{bad_token, unexpected, bad_number, bad_signature}
-use Rattle.ffi3_cdecl_rules.specs.Machine.{after, begun, finish, first_dead, with_signature}
+use Rattle.ffi3_type_spec.specs.Signature.{Signature, SignatureFault, SignatureIsPlaced, IsFirstFaultFor, for_places}
+use Rattle.ffi3_type_spec.specs.FirstFault.{first_fault_for, or_else}
+use Rattle.ffi3_format_spec.specs.declared.Format.{Format}
+use Rattle.ffi3_format_spec.specs.declared.Format.TheVariants.{Double, X87, Binary128}
+use Rattle.ffi3_format_spec.specs.Format.{resolved_signature}
+use Rattle.ffi3_cdecl_spec.specs.Tokens.{wide, Sign, Placed, Cut, tokens, bad_at, cut_in}
+use Rattle.ffi3_cdecl_spec.specs.Grammar.{Declaration, IsDeclarationIn}
+use Rattle.ffi3_cdecl_spec.specs.Reading.{IsUnexpected, tokens_of, begins_at, first_too_great, Outcome, reads}
+use Rattle.ffi3_cdecl_spec.specs.Reading.{bad_token, unexpected, bad_number, bad_signature}
+use Rattle.ffi3_cdecl_spec.specs.Machine.{after, begun, finish, first_dead, with_signature}
 
 -- the wide reading, where what is declared is judged so
 pub data IsReadingBy (IsJudged : Declaration → Outcome → Type 0) (c : Sign) (text : List ℕ) : Outcome → Type 0 where

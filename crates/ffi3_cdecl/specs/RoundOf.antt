@@ -1,6 +1,6 @@
 -- Which brackets round a declarator those of the code are.
 use Rattle.std.specs.Prelude.{zero, suc, Option, Some, None}
-use Rattle.ffi3_cdecl_rules.specs.Machine as machine
+use Rattle.ffi3_cdecl_spec.specs.Machine as machine
 use Rattle.ffi3_cdecl.specs.declared.round.Round.{Round}
 use Rattle.ffi3_cdecl.specs.declared.round.Round.TheVariants.{Unstarred, Starred}
 

@@ -1,8 +1,8 @@
 -- Which words of a type, and what they mean, those of the code are.
 use Rattle.std.specs.Prelude.{Option, Some, None, option_map}
-use Rattle.ffi3_cdecl_rules.specs.Tokens as cut
-use Rattle.ffi3_cdecl_rules.specs.Grammar as grammar
-use Rattle.ffi3_cdecl_rules.specs.Machine as machine
+use Rattle.ffi3_cdecl_spec.specs.Tokens as cut
+use Rattle.ffi3_cdecl_spec.specs.Grammar as grammar
+use Rattle.ffi3_cdecl_spec.specs.Machine as machine
 use Rattle.ffi3_types.specs.TreeOf.{tree_of}
 use Rattle.ffi3_cdecl.specs.TokenOf.{sign_of}
 use Rattle.ffi3_cdecl.specs.declared.token.Sign.{Sign}

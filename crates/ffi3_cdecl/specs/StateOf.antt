@@ -1,6 +1,6 @@
 -- Which state of the machine a state of the code is.
 use Rattle.std.specs.Prelude.{box_value}
-use Rattle.ffi3_cdecl_rules.specs.Machine as machine
+use Rattle.ffi3_cdecl_spec.specs.Machine as machine
 use Rattle.ffi3_types.specs.TreeOf.{tree_of}
 use Rattle.ffi3_cdecl.specs.TokenOf.{sign_of}
 use Rattle.ffi3_cdecl.specs.RoundOf.{round_of}

@@ -1,7 +1,7 @@
 -- Which outcome of the reading a fault of the code tells.
 use Rattle.std.specs.Prelude.{⊤}
 use Rattle.ffi3_types.specs.SignatureFaultOf.{signature_fault_of}
-use Rattle.ffi3_cdecl_rules.specs.Reading.{Outcome, bad_token, unexpected, bad_number, bad_signature}
+use Rattle.ffi3_cdecl_spec.specs.Reading.{Outcome, bad_token, unexpected, bad_number, bad_signature}
 use Rattle.ffi3_cdecl.specs.declared.fault.DeclFault.{DeclFault}
 use Rattle.ffi3_cdecl.specs.declared.fault.DeclFault.TheVariants.{BadToken, Unexpected, BadNumber, Sig, NoMemory}
 

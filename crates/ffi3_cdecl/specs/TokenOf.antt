@@ -1,7 +1,7 @@
 -- Which token a token of the code is.
 use Rattle.std.specs.Prelude.{Option, Some, None, Bool, true, false}
-use Rattle.ffi3_cdecl_rules.specs.Tokens as cut
-use Rattle.ffi3_type_rules.specs.Tree as types
+use Rattle.ffi3_cdecl_spec.specs.Tokens as cut
+use Rattle.ffi3_type_spec.specs.Tree as types
 use Rattle.ffi3_cdecl.specs.declared.token.Dialect.{Dialect}
 use Rattle.ffi3_cdecl.specs.declared.token.Dialect.TheVariants.{Plain, Wide}
 use Rattle.ffi3_cdecl.specs.declared.token.TypeWord.{TypeWord}

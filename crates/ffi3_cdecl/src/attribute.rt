@@ -1,6 +1,6 @@
 // The bracket behind a word that adds an attribute, or that names a function for the assembler.
 ghost use Rattle.std.specs.Prelude.{◌≡◌, ◌≤◌, ◌<◌, ◌+◌, ◌∷◌, IfSome, length, drop, get_or, map};
-ghost use Rattle.ffi3_cdecl_rules.specs.Tokens.{front, goes_on_word, unquoted, quoted_behind, hides, begins_with, begins_string, is_blank, is_attribute_at, open_behind, bracket_length, are_silent, is_silent, is_among, silent_attributes, with_lines};
+ghost use Rattle.ffi3_cdecl_spec.specs.Tokens.{front, goes_on_word, unquoted, quoted_behind, hides, begins_with, begins_string, is_blank, is_attribute_at, open_behind, bracket_length, are_silent, is_silent, is_among, silent_attributes, with_lines};
 ghost use Rattle.ffi3_cdecl.specs.QuotedOf.{quoted_of};
 
 use crate::bytes::{blank_length, is_letter, word_length};

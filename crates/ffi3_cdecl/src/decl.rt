@@ -1,11 +1,11 @@
 // A declaration read in one pass over its bytes.
 ghost use Rattle.std.specs.Prelude.{◌≡◌, IfOk, IfErr};
-ghost use Rattle.ffi3_cdecl_rules.specs.Machine.{read, read_in};
-ghost use Rattle.ffi3_cdecl_rules.specs.Tokens.{wide};
-ghost use Rattle.ffi3_cdecl_rules.specs.Reading.{IsReading, IsReadingIn, reads};
-ghost use Rattle.ffi3_cdecl_rules.specs.OnePass.{new_pass};
-ghost use Rattle.ffi3_type_rules.specs.Signature.{SignatureIsPlaced};
-ghost use Rattle.ffi3_format_rules.specs.Format.{resolved_signature};
+ghost use Rattle.ffi3_cdecl_spec.specs.Machine.{read, read_in};
+ghost use Rattle.ffi3_cdecl_spec.specs.Tokens.{wide};
+ghost use Rattle.ffi3_cdecl_spec.specs.Reading.{IsReading, IsReadingIn, reads};
+ghost use Rattle.ffi3_cdecl_spec.specs.OnePass.{new_pass};
+ghost use Rattle.ffi3_type_spec.specs.Signature.{SignatureIsPlaced};
+ghost use Rattle.ffi3_format_spec.specs.Format.{resolved_signature};
 ghost use Rattle.ffi3_cdecl.specs.PassOf.{pass_of, outcome_of, pass_over};
 ghost use Rattle.ffi3_cdecl.specs.ReadingFor.{IsReadingEverywhere, IsReadingFor, read_everywhere, read_for};
 ghost use Rattle.ffi3_cdecl.specs.Tells.{Tells};

@@ -15,7 +15,7 @@ pub struct Declaration {
 }
 
 impl Model for Declaration {
-    ghost use Rattle.ffi3_cdecl_rules.specs.Grammar as grammar;
+    ghost use Rattle.ffi3_cdecl_spec.specs.Grammar as grammar;
 
     ghost Value = { grammar.Declaration };
 

@@ -1,8 +1,8 @@
 // One token of a declarator, in the wide reading.
 ghost use Rattle.std.specs.Prelude.{◌≡◌, ◌+◌, suc, IfOk, ltb, box_value, option_map};
-ghost use Rattle.ffi3_cdecl_rules.specs.Tokens.{close_round};
+ghost use Rattle.ffi3_cdecl_spec.specs.Tokens.{close_round};
 ghost use Rattle.ffi3_types.specs.TreeOf.{tree_of};
-ghost use Rattle.ffi3_cdecl_rules.specs.Machine.{depth, brackets, open_bracket, function_name, member_name, parameter_by, inner_by, declared_name, itself_or_bracket, step_itself, nothing_or_bracket, step_inner_nothing, step_unnamed, step_declarator, name_in_bracket, step_round_opened, step_function_named, step_round_closing, unstarred, starred, settled, at_parameter, at_inner};
+ghost use Rattle.ffi3_cdecl_spec.specs.Machine.{depth, brackets, open_bracket, function_name, member_name, parameter_by, inner_by, declared_name, itself_or_bracket, step_itself, nothing_or_bracket, step_inner_nothing, step_unnamed, step_declarator, name_in_bracket, step_round_opened, step_function_named, step_round_closing, unstarred, starred, settled, at_parameter, at_inner};
 ghost use Rattle.ffi3_cdecl.specs.TokenOf.{token_of};
 ghost use Rattle.ffi3_cdecl.specs.RoundOf.{round_of, bracket_closed};
 ghost use Rattle.ffi3_cdecl.specs.SaidOf.{kind_of};

@@ -1,8 +1,8 @@
 // The integers of C by their sign.
 ghost use Rattle.std.specs.Prelude.{◌≡◌};
-ghost use Rattle.ffi3_type_rules.specs.Tree.{scalar};
+ghost use Rattle.ffi3_type_spec.specs.Tree.{scalar};
 ghost use Rattle.ffi3_types.specs.TreeOf.{tree_of};
-ghost use Rattle.ffi3_cdecl_rules.specs.Grammar.{char_of, short_of, int_of, long_of, int128_of};
+ghost use Rattle.ffi3_cdecl_spec.specs.Grammar.{char_of, short_of, int_of, long_of, int128_of};
 ghost use Rattle.ffi3_cdecl.specs.TokenOf.{sign_of};
 
 use crate::token::Sign;

@@ -1,7 +1,7 @@
 // One token behind the name of a member, in the wide reading.
 ghost use Rattle.std.specs.Prelude.{◌≡◌, suc, IfOk, box_value};
-ghost use Rattle.ffi3_cdecl_rules.specs.Machine.{plain_member, starred_member, step_member_at, step_member_bounded};
-ghost use Rattle.ffi3_cdecl_rules.specs.OnePass.{few_bounds, keep_bound};
+ghost use Rattle.ffi3_cdecl_spec.specs.Machine.{plain_member, starred_member, step_member_at, step_member_bounded};
+ghost use Rattle.ffi3_cdecl_spec.specs.OnePass.{few_bounds, keep_bound};
 ghost use Rattle.ffi3_types.specs.TreeOf.{tree_of};
 ghost use Rattle.ffi3_cdecl.specs.TokenOf.{token_of};
 ghost use Rattle.ffi3_cdecl.specs.SaidOf.{kind_of};

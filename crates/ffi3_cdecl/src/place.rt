@@ -1,9 +1,9 @@
 // Types and counts that come one by one.
 ghost use Rattle.std.specs.Prelude.{◌≡◌, ◌∷◌, [], OnOk, IfOk, reverse, length};
-ghost use Rattle.ffi3_type_rules.specs.Tree.{array_of};
+ghost use Rattle.ffi3_type_spec.specs.Tree.{array_of};
 ghost use Rattle.ffi3_types.specs.TreeOf.{tree_of};
-ghost use Rattle.ffi3_cdecl_rules.specs.Machine.{arrays, onto};
-ghost use Rattle.ffi3_cdecl_rules.specs.OnePass.{with_count};
+ghost use Rattle.ffi3_cdecl_spec.specs.Machine.{arrays, onto};
+ghost use Rattle.ffi3_cdecl_spec.specs.OnePass.{with_count};
 
 use ffi3_types::{FfiType, Fields, NoMemory};
 use std::alloc::{AllocError, Global};
@@ -31,7 +31,7 @@ pub struct Gathered {
 
 impl Model for Gathered {
     ghost use Rattle.std.specs.Prelude.{List, reverse};
-    ghost use Rattle.ffi3_type_rules.specs.Tree.{Tree, tree_list_code};
+    ghost use Rattle.ffi3_type_spec.specs.Tree.{Tree, tree_list_code};
 
     ghost Value = { List Tree };
 

@@ -1,12 +1,12 @@
 // The machine on its way over the tokens, and what it comes to.
 ghost use Rattle.std.specs.Prelude.{◌≡◌, IfOk, option_map};
-ghost use Rattle.ffi3_cdecl_rules.specs.Machine.{finish, is_dead, judged, closing, settled};
-ghost use Rattle.ffi3_cdecl_rules.specs.Reading.{is_too_great};
-ghost use Rattle.ffi3_cdecl_rules.specs.OnePass.{keeping, kept, taking, new_pass};
-ghost use Rattle.ffi3_type_rules.specs.FirstFault.{first_fault_for};
-ghost use Rattle.ffi3_type_rules.specs.Signature.{for_places};
+ghost use Rattle.ffi3_cdecl_spec.specs.Machine.{finish, is_dead, judged, closing, settled};
+ghost use Rattle.ffi3_cdecl_spec.specs.Reading.{is_too_great};
+ghost use Rattle.ffi3_cdecl_spec.specs.OnePass.{keeping, kept, taking, new_pass};
+ghost use Rattle.ffi3_type_spec.specs.FirstFault.{first_fault_for};
+ghost use Rattle.ffi3_type_spec.specs.Signature.{for_places};
 ghost use Rattle.ffi3_types.specs.SignatureFaultOf.{signature_fault_of};
-ghost use Rattle.ffi3_format_rules.specs.Format.{resolved_signature};
+ghost use Rattle.ffi3_format_spec.specs.Format.{resolved_signature};
 ghost use Rattle.ffi3_cdecl.specs.ReadingFor.{judged_for, every_format, first_fault_by, judged_everywhere};
 ghost use Rattle.ffi3_cdecl.specs.TokenOf.{dialect_of, token_of};
 ghost use Rattle.ffi3_cdecl.specs.RoundOf.{round_of};

@@ -1,6 +1,6 @@
 // Brackets that are open round a declarator.
 ghost use Rattle.std.specs.Prelude.{◌≡◌, suc, IfOk};
-ghost use Rattle.ffi3_cdecl_rules.specs.Machine.{and_more, brackets, star_inside, bracket_inside};
+ghost use Rattle.ffi3_cdecl_spec.specs.Machine.{and_more, brackets, star_inside, bracket_inside};
 ghost use Rattle.ffi3_cdecl.specs.RoundOf.{round_of};
 
 use ffi3_types::NoMemory;

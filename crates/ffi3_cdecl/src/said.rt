@@ -1,10 +1,10 @@
 // Words of a type in the wide reading, in any order.
 ghost use Rattle.std.specs.Prelude.{◌≡◌, IfOk, Some};
-ghost use Rattle.ffi3_type_rules.specs.Tree.{float, double};
+ghost use Rattle.ffi3_type_spec.specs.Tree.{float, double};
 ghost use Rattle.ffi3_types.specs.TreeOf.{tree_of};
-ghost use Rattle.ffi3_cdecl_rules.specs.Tokens.{sign_word, short_word, int_word, long_word, int128_word, char_word, complex_word, type_word};
-ghost use Rattle.ffi3_cdecl_rules.specs.Grammar.{named_by, complex_of};
-ghost use Rattle.ffi3_cdecl_rules.specs.Machine.{an_integer, a_character, of_128_bits, a_float, a_double, integer_and, of_no_size, say, words_of};
+ghost use Rattle.ffi3_cdecl_spec.specs.Tokens.{sign_word, short_word, int_word, long_word, int128_word, char_word, complex_word, type_word};
+ghost use Rattle.ffi3_cdecl_spec.specs.Grammar.{named_by, complex_of};
+ghost use Rattle.ffi3_cdecl_spec.specs.Machine.{an_integer, a_character, of_128_bits, a_float, a_double, integer_and, of_no_size, say, words_of};
 ghost use Rattle.ffi3_cdecl.specs.TokenOf.{sign_of};
 ghost use Rattle.ffi3_cdecl.specs.SaidOf.{said_of, said_or_not, kind_or_not, sign_by, sign_or_not, sign_said, size_of};
 

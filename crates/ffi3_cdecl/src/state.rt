@@ -1,10 +1,10 @@
 // Where a declaration stands, token by token.
 ghost use Rattle.std.specs.Prelude.{◌≡◌, drop};
-ghost use Rattle.ffi3_type_rules.specs.Tree.{scalar};
+ghost use Rattle.ffi3_type_spec.specs.Tree.{scalar};
 ghost use Rattle.ffi3_types.specs.TreeOf.{tree_of};
-ghost use Rattle.ffi3_cdecl_rules.specs.Machine.{declarator, unstarred, step_base, step_type, based, word_said};
-ghost use Rattle.ffi3_cdecl_rules.specs.Grammar.{nothing, kind_of_name, kind_of_name_among, header_types};
-ghost use Rattle.ffi3_cdecl_rules.specs.Tokens.{plain, wide};
+ghost use Rattle.ffi3_cdecl_spec.specs.Machine.{declarator, unstarred, step_base, step_type, based, word_said};
+ghost use Rattle.ffi3_cdecl_spec.specs.Grammar.{nothing, kind_of_name, kind_of_name_among, header_types};
+ghost use Rattle.ffi3_cdecl_spec.specs.Tokens.{plain, wide};
 ghost use Rattle.ffi3_cdecl.specs.TokenOf.{dialect_of, token_of, scalar_of};
 ghost use Rattle.ffi3_cdecl.specs.SaidOf.{kind_of};
 ghost use Rattle.ffi3_cdecl.specs.StateOf.{where_of, state_of};

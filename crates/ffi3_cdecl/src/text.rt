@@ -1,12 +1,12 @@
 // The canonical text of a declaration.
 ghost use Rattle.std.specs.Prelude.{◌≡◌, ◌<◌, ◌≤◌, ◌++◌, ◌∷◌, ℕ, length, slice_range, Some, OnOk, IfOk};
-ghost use Rattle.ffi3_type_rules.specs.Tree.{double, trees_of};
-ghost use Rattle.ffi3_type_rules.specs.Signature.{SignatureHasNoFault};
+ghost use Rattle.ffi3_type_spec.specs.Tree.{double, trees_of};
+ghost use Rattle.ffi3_type_spec.specs.Signature.{SignatureHasNoFault};
 ghost use Rattle.ffi3_types.specs.TreeOf.{tree_of};
-ghost use Rattle.ffi3_cdecl_rules.specs.Tokens.{complex_word, long_word, type_word, open_square, number, close_square, comma, semicolon};
-ghost use Rattle.ffi3_cdecl_rules.specs.Canonical.{hugs, holds, spelled, scalar_word, count_tokens, first_count_tokens, member_name, type_tokens, first_type_tokens, member_tokens, end_tokens, parameter_tokens, declaration_text, FixesAll, IsIdentifier};
-ghost use Rattle.ffi3_cdecl_rules.specs.Prototype.{behind_commas, fixed_tokens, prototype_text};
-ghost use Rattle.ffi3_cdecl_rules.specs.Reading.{IsReading, reads};
+ghost use Rattle.ffi3_cdecl_spec.specs.Tokens.{complex_word, long_word, type_word, open_square, number, close_square, comma, semicolon};
+ghost use Rattle.ffi3_cdecl_spec.specs.Canonical.{hugs, holds, spelled, scalar_word, count_tokens, first_count_tokens, member_name, type_tokens, first_type_tokens, member_tokens, end_tokens, parameter_tokens, declaration_text, FixesAll, IsIdentifier};
+ghost use Rattle.ffi3_cdecl_spec.specs.Prototype.{behind_commas, fixed_tokens, prototype_text};
+ghost use Rattle.ffi3_cdecl_spec.specs.Reading.{IsReading, reads};
 ghost use Rattle.ffi3_cdecl.specs.TokenOf.{token_of, scalar_of};
 ghost use Rattle.ffi3_cdecl.specs.Going.{Wrote, blank_before};
 

@@ -1,7 +1,7 @@
 // The token at the front of some bytes.
 ghost use Rattle.std.specs.Prelude.{◌≡◌, ◌<◌, ◌≤◌, ◌+◌, ◌-◌, take, true, length, get_or, drop, ◌∷◌, bytes_eq};
 ghost use Rattle.std.specs.Prelude.{◌++◌};
-ghost use Rattle.ffi3_cdecl_rules.specs.Tokens.{word_among, words, word_of, mark_among, marks, dots_at, found, front, goes_on_word, is_digit, number_at, found_at, blank_words, more_words, wide_words, is_among, wide_word, wide_word_at, comment_at, wide_found_at, found_in};
+ghost use Rattle.ffi3_cdecl_spec.specs.Tokens.{word_among, words, word_of, mark_among, marks, dots_at, found, front, goes_on_word, is_digit, number_at, found_at, blank_words, more_words, wide_words, is_among, wide_word, wide_word_at, comment_at, wide_found_at, found_in};
 ghost use Rattle.ffi3_cdecl.specs.TokenOf.{dialect_of, sign_of, token_of, mark_of, found_of, is_close_round, is_close_square, is_semicolon};
 
 use crate::bytes::{

@@ -1,8 +1,8 @@
 // One token behind words of a type, or a tag, in the wide reading.
 ghost use Rattle.std.specs.Prelude.{◌≡◌, IfOk, Some};
-ghost use Rattle.ffi3_cdecl_rules.specs.Machine.{words_go_on, step_words, step_named_by, step_struct_tag, step_tag, step_wide_dots, fixing, words_of};
-ghost use Rattle.ffi3_cdecl_rules.specs.Grammar.{named_by};
-ghost use Rattle.ffi3_cdecl_rules.specs.Tokens.{type_word};
+ghost use Rattle.ffi3_cdecl_spec.specs.Machine.{words_go_on, step_words, step_named_by, step_struct_tag, step_tag, step_wide_dots, fixing, words_of};
+ghost use Rattle.ffi3_cdecl_spec.specs.Grammar.{named_by};
+ghost use Rattle.ffi3_cdecl_spec.specs.Tokens.{type_word};
 ghost use Rattle.ffi3_cdecl.specs.TokenOf.{token_of, scalar_of};
 ghost use Rattle.ffi3_cdecl.specs.SaidOf.{said_of, said_or_not, kind_or_not};
 ghost use Rattle.ffi3_cdecl.specs.StateOf.{head_of, where_of, state_of};

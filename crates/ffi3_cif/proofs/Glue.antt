@@ -3,7 +3,7 @@ use Rattle.std.proofs.Common.{◌≡◌, ℕ, ◌+◌, ◌<◌, ◌≤◌, ◌�
 use Rattle.std.specs.List.{AllByRecursion}
 use Rattle.std.proofs.lemmas.Bool.{cases_lt, ltb-true, ltb-false}
 use Rattle.std.proofs.lemmas.Bool.Decides.{nat_tests}
-use Rattle.ffi3_place_rules.proofs.Tests.{and_left, and_right}
+use Rattle.ffi3_place_spec.proofs.Tests.{and_left, and_right}
 use Rattle.ffi3_cif.specs.declared.runs.Run.{Run}
 use Rattle.ffi3_cif.specs.Runs.{Copies, OneCopies, Neighbours, Rises, GoesOn, goes_on, longer, glued}
 

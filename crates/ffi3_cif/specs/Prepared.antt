@@ -1,5 +1,5 @@
 -- Why a call interface is not prepared.
-use Rattle.ffi3_type_rules.specs.Signature.{Signature, SignatureHasNoFault, IsFirstSignatureFault}
+use Rattle.ffi3_type_spec.specs.Signature.{Signature, SignatureHasNoFault, IsFirstSignatureFault}
 use Rattle.ffi3_types.specs.SignatureFaultOf.{signature_fault_of}
 use Rattle.ffi3_cif.specs.declared.PrepFault.{PrepFault}
 use Rattle.ffi3_cif.specs.declared.PrepFault.TheVariants.{Sig, NoMemory}

@@ -2,9 +2,9 @@
 #![tactic(auto)]
 
 ghost use Rattle.std.specs.Prelude.{◌≡◌, ◌<◌, length, IfOk, IfErr, IsSomeAnd, None, Some, slice_get};
-ghost use Rattle.ffi3_type_rules.specs.Signature.{SignatureHasNoFault};
+ghost use Rattle.ffi3_type_spec.specs.Signature.{SignatureHasNoFault};
 ghost use Rattle.ffi3_types.specs.TreeOf.{tree_of};
-ghost use Rattle.ffi3_place_rules.specs.Standard.{plan_of};
+ghost use Rattle.ffi3_place_spec.specs.Standard.{plan_of};
 ghost use Rattle.ffi3_cif.specs.Prepared.{IsPrepRefusal};
 ghost use Rattle.ffi3_cif.specs.Runs.{AreRunsOf, pieces_of};
 
@@ -35,7 +35,7 @@ pub struct Cif<A: Abi> {
 }
 
 impl<A: Abi> Model for Cif<A> {
-    ghost use Rattle.ffi3_type_rules.specs.Signature.{Signature, signature_code, SignatureHasNoFault};
+    ghost use Rattle.ffi3_type_spec.specs.Signature.{Signature, signature_code, SignatureHasNoFault};
 
     ghost Value = { Signature };
 

@@ -1,7 +1,7 @@
 // Signatures with their plans: what can be placed, whether it can be called or not.
 ghost use Rattle.std.specs.Prelude.{◌≡◌, ◌<◌, length, IfOk, IsSomeAnd, Some, slice_get};
-ghost use Rattle.ffi3_type_rules.specs.Signature.{SignatureIsPlaced};
-ghost use Rattle.ffi3_place_rules.specs.Standard.{plan_of};
+ghost use Rattle.ffi3_type_spec.specs.Signature.{SignatureIsPlaced};
+ghost use Rattle.ffi3_place_spec.specs.Standard.{plan_of};
 ghost use Rattle.ffi3_cif.specs.Runs.{AreRunsOf, pieces_of};
 
 use crate::runs::{AllRuns, Runs, runs_in_frame};
@@ -21,8 +21,8 @@ pub struct Placed<A: Abi> {
 
 impl<A: Abi> Model for Placed<A> {
     ghost use Rattle.std.specs.Prelude.{◌≡◌};
-    ghost use Rattle.ffi3_type_rules.specs.Signature.{Signature, signature_code, SignatureIsPlaced};
-    ghost use Rattle.ffi3_place_rules.specs.Standard.{plan_of};
+    ghost use Rattle.ffi3_type_spec.specs.Signature.{Signature, signature_code, SignatureIsPlaced};
+    ghost use Rattle.ffi3_place_spec.specs.Standard.{plan_of};
     ghost use Rattle.ffi3_cif.specs.Runs.{PlacesHaveRuns};
 
     ghost Value = { Signature };

@@ -2,12 +2,12 @@
 
 ghost use Rattle.std.specs.Prelude.{◌≡◌, ◌+◌, ◌<◌, ◌≤◌, ◌^◌, ◌++◌, List, [], ◌∷◌, length, replicate, slice_index_or, IfOk, OnOk, OnErr};
 ghost use Rattle.std.specs.List.{AllByRecursion};
-ghost use Rattle.ffi3_type_rules.specs.declared.limits.TheConstants.{LARGEST_TYPE};
-ghost use Rattle.ffi3_place_rules.specs.Sound.{AreRising, PlaceRises};
+ghost use Rattle.ffi3_type_spec.specs.declared.limits.TheConstants.{LARGEST_TYPE};
+ghost use Rattle.ffi3_place_spec.specs.Sound.{AreRising, PlaceRises};
 ghost use Rattle.ffi3_cif.specs.Runs.{AreRunsOf, EndsWithin, PlaceEndsWithin, PlacesHaveRuns, HasNoRuns, pieces_of, run_at, goes_on, some_run, glued};
 
 use ffi3_place::{Loc, Piece, Pieces, Place, Places};
-use ffi3_place_rules::Listed;
+use ffi3_place_spec::Listed;
 use ffi3_types::NoMemory;
 use std::alloc::Global;
 use std::marker::Model;

@@ -5,14 +5,14 @@ use Rattle.std.proofs.lemmas.Bool.{cases_lt}
 use Rattle.std.proofs.lemmas.List.{get_or-set_same, get_or-set_other, get_or-replicate}
 use Rattle.std.proofs.Math.Seq.{take-append_seam, drop-append-add}
 use Rattle.std.specs.Prelude.{slice_index_or}
-use Rattle.ffi3_type_rules.specs.declared.Target.{Target}
-use Rattle.ffi3_type_rules.specs.declared.Isa.{Isa}
-use Rattle.ffi3_type_rules.specs.declared.Isa.TheVariants.{Amd64, Aarch64, Riscv}
-use Rattle.ffi3_type_rules.specs.Isa.{isa_of}
-use Rattle.ffi3_type_rules.specs.declared.limits.TheConstants.{CODE}
+use Rattle.ffi3_type_spec.specs.declared.Target.{Target}
+use Rattle.ffi3_type_spec.specs.declared.Isa.{Isa}
+use Rattle.ffi3_type_spec.specs.declared.Isa.TheVariants.{Amd64, Aarch64, Riscv}
+use Rattle.ffi3_type_spec.specs.TargetIsa.{isa_of}
+use Rattle.ffi3_type_spec.specs.declared.limits.TheConstants.{CODE}
 use Rattle.ffi3_machine.specs.State.{State, free_slot, begun_code, with_code}
-use Rattle.ffi3_run_rules.specs.declared.Closure.{Closure}
-use Rattle.ffi3_run_rules.specs.Closures.{Closures, with_closure, no_closures}
+use Rattle.ffi3_semantics_spec.specs.declared.Closure.{Closure}
+use Rattle.ffi3_semantics_spec.specs.Closures.{Closures, with_closure, no_closures}
 use Rattle.ffi3_machine.proofs.Written.{length-written, range-written, above-written, below-written}
 use Rattle.ffi3_closures.specs.Slots.{trampoline, slot_head, slot_tail, slot_content, live_slot, HoldsMap}
 

@@ -1,7 +1,7 @@
 -- Steps, one after another.
 use Rattle.std.proofs.Common.{◌≡◌, ℕ, zero, suc, ◌+◌, subst, refl, arith}
 use Rattle.ffi3_machine.specs.State.{State}
-use Rattle.ffi3_machine.specs.Step.{Steps, TakesSteps}
+use Rattle.ffi3_machine.specs.MachineStep.{Steps, TakesSteps}
 
 -- one more at the end
 one_more : (n : ℕ) (a b c : State) → TakesSteps n a b → Steps b c → TakesSteps (suc n) a c

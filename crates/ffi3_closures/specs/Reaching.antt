@@ -1,9 +1,9 @@
 -- What a trampoline does to the machine.
 use Rattle.std.specs.Prelude.{ℕ, ◌+◌, ◌%◌, ◌^◌, List, Option, Some, None, slice_set}
-use Rattle.ffi3_type_rules.specs.declared.Isa.{Isa}
-use Rattle.ffi3_type_rules.specs.declared.limits.TheConstants.{ENTRY}
-use Rattle.ffi3_type_rules.specs.Isa.{isa_of}
-use Rattle.ffi3_place_rules.specs.Isa.{closure_register, jump_register}
+use Rattle.ffi3_type_spec.specs.declared.Isa.{Isa}
+use Rattle.ffi3_type_spec.specs.declared.limits.TheConstants.{ENTRY}
+use Rattle.ffi3_type_spec.specs.TargetIsa.{isa_of}
+use Rattle.ffi3_place_spec.specs.MachineRegisters.{closure_register, jump_register}
 use Rattle.ffi3_machine.specs.State.{State}
 
 -- where the trampoline jumps through a register, this has ENTRY

@@ -4,7 +4,7 @@
 ghost use Rattle.std.specs.Prelude.{◌≡◌, ◌<◌, ◌≤◌, ◌+◌, length, Option, Some, None, IfSome, IfOk, OnOk, OnErr, OnSome, IsSome};
 ghost use Rattle.std.specs.List.{replace_range};
 ghost use Rattle.std.specs.Int.{w64, to_le_bytes};
-ghost use Rattle.ffi3_run_rules.specs.Closures.{
+ghost use Rattle.ffi3_semantics_spec.specs.Closures.{
   closure_at,
   first_free,
   freed,
@@ -14,18 +14,18 @@ ghost use Rattle.ffi3_run_rules.specs.Closures.{
   slots,
   with_closure,
 };
-ghost use Rattle.ffi3_type_rules.specs.declared.Target.{Target};
-ghost use Rattle.ffi3_type_rules.specs.Isa.{isa_of};
+ghost use Rattle.ffi3_type_spec.specs.declared.Target.{Target};
+ghost use Rattle.ffi3_type_spec.specs.TargetIsa.{isa_of};
 ghost use Rattle.ffi3_machine.specs.State.{IsSlot, begun_code, free_slot, with_code};
-ghost use Rattle.ffi3_machine.specs.Step.{TakesSteps};
+ghost use Rattle.ffi3_machine.specs.MachineStep.{TakesSteps};
 ghost use Rattle.ffi3_closures.specs.Reaching.{reached};
 ghost use Rattle.ffi3_closures.specs.Slots.{HoldsMap, live_count, live_slot, slot_head};
 
 use arrayvec::ArrayVec;
 use ffi3_machine::{CODE, Machine, free_word};
-pub use ffi3_run_rules::Closure;
-use ffi3_type_rules::Isa;
-use ffi3_type_rules::limits::SLOT_BYTES;
+pub use ffi3_semantics_spec::Closure;
+use ffi3_type_spec::Isa;
+use ffi3_type_spec::limits::SLOT_BYTES;
 use std::marker::Model;
 
 /// 256 closures are live.
@@ -40,7 +40,7 @@ pub struct Table {
 
 impl Model for Table {
     ghost use Rattle.std.specs.Prelude.{◌≡◌, length};
-    ghost use Rattle.ffi3_run_rules.specs.Closures.{Closures};
+    ghost use Rattle.ffi3_semantics_spec.specs.Closures.{Closures};
 
     ghost Value = { Closures };
 

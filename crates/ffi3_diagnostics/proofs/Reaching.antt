@@ -3,17 +3,17 @@ use Rattle.std.proofs.Common.{◌≡◌, ℕ, zero, suc, ◌+◌, ◌-◌, ◌<�
 use Rattle.std.specs.Prelude.{cond, not, leb, ◌||◌, Option, None, is_some}
 use Rattle.std.proofs.lemmas.List.{drop_more, drop_all}
 use Rattle.std.proofs.lemmas.Bool.{leb-true, leb-false}
-use Rattle.ffi3_cdecl_rules.specs.Tokens.{wide, Sign, Token, type_word, sign_word, const_word, short_word, int_word, long_word, int128_word, char_word, void_word, struct_word, union_word, enum_word, complex_word, attribute_word, other_keyword, name, number, open_round, close_round, open_curly, close_curly, open_square, close_square, comma, semicolon, star, dots, Found, blank, skipped, nothing_known, found, found_in}
-use Rattle.ffi3_cdecl_rules.specs.Machine.{State, is_dead, finish}
-use Rattle.ffi3_cdecl_rules.specs.OnePass.{keeping}
-use Rattle.ffi3_cdecl_rules.specs.Expected as rules
-use Rattle.ffi3_cdecl_rules.specs.Expected.{every_kind, a_word, the_end, MOST_TOLD}
-use Rattle.ffi3_cdecl_rules.specs.Grammar.{Declaration}
-use Rattle.ffi3_cdecl_rules.specs.Reading.{unexpected, IsReadingIn}
-use Rattle.ffi3_cdecl_rules.specs.Reasons as reasons
-use Rattle.ffi3_cdecl_rules.specs.Reasons.{Base, IsTold}
-use Rattle.ffi3_cdecl_rules.specs.Telling.{lives, wants_a_type, could, those, expected, one_lives, specifier_words, Track, behind_base, tracked, sized, reason_of_base, reason_by, reason_at, told_at_end, Reached, reaching, reach, reach_found, nothing_reached, told_found, told_behind, tell}
-use Rattle.ffi3_cdecl_rules.proofs.Told.{kept_count, told}
+use Rattle.ffi3_cdecl_spec.specs.Tokens.{wide, Sign, Token, type_word, sign_word, const_word, short_word, int_word, long_word, int128_word, char_word, void_word, struct_word, union_word, enum_word, complex_word, attribute_word, other_keyword, name, number, open_round, close_round, open_curly, close_curly, open_square, close_square, comma, semicolon, star, dots, Found, blank, skipped, nothing_known, found, found_in}
+use Rattle.ffi3_cdecl_spec.specs.Machine.{State, is_dead, finish}
+use Rattle.ffi3_cdecl_spec.specs.OnePass.{keeping}
+use Rattle.ffi3_cdecl_spec.specs.Expected as rules
+use Rattle.ffi3_cdecl_spec.specs.Expected.{every_kind, a_word, the_end, MOST_TOLD}
+use Rattle.ffi3_cdecl_spec.specs.Grammar.{Declaration}
+use Rattle.ffi3_cdecl_spec.specs.Reading.{unexpected, IsReadingIn}
+use Rattle.ffi3_cdecl_spec.specs.Reasons as reasons
+use Rattle.ffi3_cdecl_spec.specs.Reasons.{Base, IsTold}
+use Rattle.ffi3_cdecl_spec.specs.Telling.{lives, wants_a_type, could, those, expected, one_lives, specifier_words, Track, behind_base, tracked, sized, reason_of_base, reason_by, reason_at, told_at_end, Reached, reaching, reach, reach_found, nothing_reached, told_found, told_behind, tell}
+use Rattle.ffi3_cdecl_spec.proofs.Told.{kept_count, told}
 use Rattle.ffi3_diagnostics.specs.declared.expected.Expected.{Expected}
 use Rattle.ffi3_diagnostics.specs.declared.track.Base.{Base as CodeBase}
 use Rattle.ffi3_diagnostics.specs.declared.track.Track.{Track as CodeTrack}

@@ -2,12 +2,12 @@
 use Rattle.std.proofs.Common.{◌≡◌, ℕ, zero, suc, ◌+◌, ◌-◌, ◌<◌, ◌≤◌, Bool, true, false, cond, min, List, [], ◌∷◌, ◌++◌, length, get_or, drop, take, map, ap, sym, refl, ◌∙◌, append_assoc, append-nil, arith, ne_eqb}
 use Rattle.std.specs.Prelude.{◌==◌, ◌&&◌, codes, Some}
 use Rattle.std.proofs.lemmas.List.{drop_more, drop_all, length-drop}
-use Rattle.ffi3_cdecl_rules.specs.Tokens.{is_blank, front}
-use Rattle.ffi3_cdecl_rules.specs.Expected as rules
-use Rattle.ffi3_cdecl_rules.specs.Reasons.{Reason, Told}
-use Rattle.ffi3_type_rules.specs.Signature.{Position}
-use Rattle.ffi3_diagnostics_rules.specs.Positions.{position_name, words_at}
-use Rattle.ffi3_diagnostics_rules.specs.ToldText.{kind_words, between, one_of, expected_words, reason_words, why_words, shown, printable, stood_words, told_words, goes_on_line, last_line, without_end, marked_at, goes_on_character, blanks_below, marked_lines, lines_at}
+use Rattle.ffi3_cdecl_spec.specs.Tokens.{is_blank, front}
+use Rattle.ffi3_cdecl_spec.specs.Expected as rules
+use Rattle.ffi3_cdecl_spec.specs.Reasons.{Reason, Told}
+use Rattle.ffi3_type_spec.specs.Signature.{Position}
+use Rattle.ffi3_diagnostics_spec.specs.Positions.{position_name, words_at}
+use Rattle.ffi3_diagnostics_spec.specs.ToldText.{kind_words, between, one_of, expected_words, reason_words, why_words, shown, printable, stood_words, told_words, goes_on_line, last_line, without_end, marked_at, goes_on_character, blanks_below, marked_lines, lines_at}
 use Rattle.ffi3_diagnostics.specs.declared.expected.Expected.{Expected}
 use Rattle.ffi3_diagnostics.specs.ToldOf.{expected_of, kinds_of}
 use Rattle.ffi3_cdecl.proofs.Fronts.{front_more, front_stops, front_ends, take-front}

@@ -1,8 +1,8 @@
 -- What is told by the code.
 use Rattle.std.specs.Prelude.{List, map, Option, option_map}
-use Rattle.ffi3_cdecl_rules.specs.Expected as rules
-use Rattle.ffi3_cdecl_rules.specs.Reasons as reasons
-use Rattle.ffi3_cdecl_rules.specs.Telling as telling
+use Rattle.ffi3_cdecl_spec.specs.Expected as rules
+use Rattle.ffi3_cdecl_spec.specs.Reasons as reasons
+use Rattle.ffi3_cdecl_spec.specs.Telling as telling
 use Rattle.ffi3_cdecl.specs.StateOf.{state_of}
 use Rattle.ffi3_diagnostics.specs.declared.expected.Expected.{Expected}
 use Rattle.ffi3_diagnostics.specs.declared.expected.Expected.TheVariants as k

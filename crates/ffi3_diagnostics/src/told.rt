@@ -1,10 +1,10 @@
 // What is told of a place where a text is no declaration, in the wide reading.
 ghost use Rattle.std.specs.Prelude.{◌≡◌, IfOk, OnOk, ◌<◌, ◌≤◌, get_or, length, nat_le, cond, ◌++◌, ◌∷◌, []};
-ghost use Rattle.ffi3_cdecl_rules.specs.Tokens.{wide, complex_word};
-ghost use Rattle.ffi3_cdecl_rules.specs.Reading.{IsReadingIn, unexpected};
-ghost use Rattle.ffi3_cdecl_rules.specs.Expected.{every_kind, a_word, the_end, MOST_TOLD};
-ghost use Rattle.ffi3_cdecl_rules.specs.Reasons.{IsTold};
-ghost use Rattle.ffi3_cdecl_rules.specs.Telling.{lives, wants_a_type, could, expected, one_lives, specifier_words, reason_at, reason_by, reaching, reach, nothing_reached, tell};
+ghost use Rattle.ffi3_cdecl_spec.specs.Tokens.{wide, complex_word};
+ghost use Rattle.ffi3_cdecl_spec.specs.Reading.{IsReadingIn, unexpected};
+ghost use Rattle.ffi3_cdecl_spec.specs.Expected.{every_kind, a_word, the_end, MOST_TOLD};
+ghost use Rattle.ffi3_cdecl_spec.specs.Reasons.{IsTold};
+ghost use Rattle.ffi3_cdecl_spec.specs.Telling.{lives, wants_a_type, could, expected, one_lives, specifier_words, reason_at, reason_by, reaching, reach, nothing_reached, tell};
 ghost use Rattle.ffi3_cdecl.specs.TokenOf.{token_of, sign_of};
 ghost use Rattle.ffi3_cdecl.specs.StateOf.{state_of};
 ghost use Rattle.ffi3_diagnostics.specs.ToldOf.{expected_of, kinds_of, reached_of, reason_or_not, told_of};

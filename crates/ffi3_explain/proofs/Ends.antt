@@ -3,17 +3,17 @@ use Rattle.std.specs.Prelude.{◌^◌, max, slice_get, slice_index_or, Some}
 use Rattle.std.proofs.Common.{◌≡◌, ℕ, suc, ◌+◌, ◌<◌, ◌≤◌, List, [], ◌∷◌, ◌++◌, drop, length, refl, ap, sym, ◌∙◌, arith}
 use Rattle.std.specs.List.{flat_map}
 use Rattle.std.proofs.lemmas.Option.{get_or_from_slice_get, slice_get_within}
-use Rattle.ffi3_type_rules.specs.declared.Isa.{Isa}
-use Rattle.ffi3_type_rules.specs.declared.Isa.TheVariants.{Amd64, Aarch64, Riscv}
-use Rattle.ffi3_type_rules.specs.Tree.{Tree}
-use Rattle.ffi3_place_rules.specs.declared.Loc.{Loc}
-use Rattle.ffi3_place_rules.specs.declared.Loc.TheVariants.{G, F, S}
-use Rattle.ffi3_place_rules.specs.declared.Piece.{Piece}
-use Rattle.ffi3_place_rules.specs.declared.Place.{Place}
-use Rattle.ffi3_place_rules.specs.Isa.{pushed_bytes}
-use Rattle.ffi3_place_rules.specs.Sound.{PlacesHaveAll, piece_locs, place_locs}
-use Rattle.ffi3_place_rules.proofs.Elements.{drop_read}
-use Rattle.ffi3_explain_rules.specs.Arguments.{stack_end}
+use Rattle.ffi3_type_spec.specs.declared.Isa.{Isa}
+use Rattle.ffi3_type_spec.specs.declared.Isa.TheVariants.{Amd64, Aarch64, Riscv}
+use Rattle.ffi3_type_spec.specs.Tree.{Tree}
+use Rattle.ffi3_place_spec.specs.declared.Loc.{Loc}
+use Rattle.ffi3_place_spec.specs.declared.Loc.TheVariants.{G, F, S}
+use Rattle.ffi3_place_spec.specs.declared.Piece.{Piece}
+use Rattle.ffi3_place_spec.specs.declared.Place.{Place}
+use Rattle.ffi3_place_spec.specs.MachineRegisters.{pushed_bytes}
+use Rattle.ffi3_place_spec.specs.Sound.{PlacesHaveAll, piece_locs, place_locs}
+use Rattle.ffi3_place_spec.proofs.Elements.{drop_read}
+use Rattle.ffi3_explain_spec.specs.Arguments.{stack_end}
 use Rattle.ffi3_explain.proofs.Loops.{drop_at, drop_all}
 
 -- the greater of three, either way

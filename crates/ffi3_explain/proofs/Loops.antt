@@ -5,15 +5,15 @@ use Rattle.std.specs.List.{AllByRecursion, replace_range}
 use Rattle.std.proofs.lemmas.Bool.{cases_lt}
 use Rattle.std.proofs.lemmas.Bool.Decides.{nat_tests}
 use Rattle.std.proofs.lemmas.List.{ext_get_or, get_or-take, get_or-drop, get_or_append_left, get_or-append_right, length-append, length-take-le, length-drop}
-use Rattle.ffi3_type_rules.specs.Tree.{Tree}
-use Rattle.ffi3_type_rules.specs.Layout.{size_of}
-use Rattle.ffi3_place_rules.specs.declared.Piece.{Piece}
-use Rattle.ffi3_place_rules.specs.Image.{Image, byte_at}
-use Rattle.ffi3_place_rules.specs.Sound.{IsPieceOf, IsWithin}
-use Rattle.ffi3_explain_rules.specs.declared.Check.{Check}
-use Rattle.ffi3_explain_rules.specs.Explain.{carries, place_byte, eight, first_byte, first_bytes, check_of_piece, checks_of_pieces, first_broken}
-use Rattle.ffi3_explain_rules.proofs.Pieces.{carries_is, is_carried, first_bytes-length, first_bytes-index}
-use Rattle.ffi3_explain_rules.proofs.Words.{index_eight, place_byte_is}
+use Rattle.ffi3_type_spec.specs.Tree.{Tree}
+use Rattle.ffi3_type_spec.specs.Layout.{size_of}
+use Rattle.ffi3_place_spec.specs.declared.Piece.{Piece}
+use Rattle.ffi3_place_spec.specs.Image.{Image, byte_at}
+use Rattle.ffi3_place_spec.specs.Sound.{IsPieceOf, IsWithin}
+use Rattle.ffi3_explain_spec.specs.declared.Check.{Check}
+use Rattle.ffi3_explain_spec.specs.Explain.{carries, place_byte, eight, first_byte, first_bytes, check_of_piece, checks_of_pieces, first_broken}
+use Rattle.ffi3_explain_spec.proofs.Pieces.{carries_is, is_carried, first_bytes-length, first_bytes-index}
+use Rattle.ffi3_explain_spec.proofs.Words.{index_eight, place_byte_is}
 use Rattle.ffi3_explain.specs.Places.{IsPieceRead}
 
 -- item i is the first of those from number i on

@@ -5,20 +5,20 @@ use Rattle.std.specs.Int.{w64, from_le_bytes}
 use Rattle.std.specs.List.{AllByRecursion}
 use Rattle.std.proofs.lemmas.Bool.Decides.{nat_tests}
 use Rattle.std.proofs.lemmas.List.Elements.{All-from_recursion}
-use Rattle.ffi3_type_rules.specs.Tree.{Tree}
-use Rattle.ffi3_type_rules.specs.Layout.{Leaf, leaves_of, size_of, scalar_size}
-use Rattle.ffi3_type_rules.specs.Value.{ValueTree, IsWritten}
-use Rattle.ffi3_place_rules.specs.declared.Piece.{Piece}
-use Rattle.ffi3_place_rules.specs.Image.{Image, word_at}
-use Rattle.ffi3_place_rules.specs.Holds.{leaf_bytes}
-use Rattle.ffi3_place_rules.specs.Sound.{IsPieceOf, IsWithin}
-use Rattle.ffi3_place_rules.proofs.Tests.{and_left, and_right}
-use Rattle.ffi3_explain_rules.specs.declared.Part.TheVariants.{Arg}
-use Rattle.ffi3_explain_rules.specs.declared.Check.{Check}
-use Rattle.ffi3_explain_rules.specs.Explain.{check_of_piece, place_byte, eight, extended, first_byte, first_bytes, value_in_pieces, in_leaf, wanted_byte, wanted_word}
-use Rattle.ffi3_place_rules.proofs.Reading.{LeavesRead, leaves_read}
-use Rattle.ffi3_explain_rules.proofs.Pieces.{first_bytes-index, is_le, is_lt, or_cases}
-use Rattle.ffi3_explain_rules.proofs.Words.{index_eight, same_eight}
+use Rattle.ffi3_type_spec.specs.Tree.{Tree}
+use Rattle.ffi3_type_spec.specs.Layout.{Leaf, leaves_of, size_of, scalar_size}
+use Rattle.ffi3_type_spec.specs.Value.{ValueTree, IsWritten}
+use Rattle.ffi3_place_spec.specs.declared.Piece.{Piece}
+use Rattle.ffi3_place_spec.specs.Image.{Image, word_at}
+use Rattle.ffi3_place_spec.specs.Holds.{leaf_bytes}
+use Rattle.ffi3_place_spec.specs.Sound.{IsPieceOf, IsWithin}
+use Rattle.ffi3_place_spec.proofs.Tests.{and_left, and_right}
+use Rattle.ffi3_explain_spec.specs.declared.Part.TheVariants.{Arg}
+use Rattle.ffi3_explain_spec.specs.declared.Check.{Check}
+use Rattle.ffi3_explain_spec.specs.Explain.{check_of_piece, place_byte, eight, extended, first_byte, first_bytes, value_in_pieces, in_leaf, wanted_byte, wanted_word}
+use Rattle.ffi3_place_spec.proofs.Reading.{LeavesRead, leaves_read}
+use Rattle.ffi3_explain_spec.proofs.Pieces.{first_bytes-index, is_le, is_lt, or_cases}
+use Rattle.ffi3_explain_spec.proofs.Words.{index_eight, same_eight}
 use Rattle.ffi3_explain.specs.Places.{AreMarks, marked_byte}
 
 neither : (a b : Bool) → (a || b) ≡ false → (a ≡ false) × (b ≡ false)

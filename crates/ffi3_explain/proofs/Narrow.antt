@@ -1,12 +1,12 @@
 -- A narrow integer is a number of at most eight bytes, and what extends it.
 use Rattle.std.proofs.Common.{◌≡◌, ℕ, ◌≤◌, true, refl, arith}
-use Rattle.ffi3_type_rules.specs.Tree.{Tree, void, scalar, left_out, structure, array, u8, s8, u16, s16, u32, s32, u64, s64, u128, s128, float, double, pointer, x87, binary128}
-use Rattle.ffi3_type_rules.specs.Layout.{size_of}
-use Rattle.ffi3_type_rules.specs.Integer.{is_number_type, scalar_of, widened, widened_from_32}
-use Rattle.ffi3_type_rules.specs.Value.{ValueTree, void_value, leaf_value, struct_value, bytes_of, fits}
-use Rattle.ffi3_place_rules.specs.declared.Ext.TheVariants.{Widen, Riscv}
-use Rattle.ffi3_place_rules.specs.Sound.{is_narrow_integer}
-use Rattle.ffi3_explain_rules.specs.Explain.{extended}
+use Rattle.ffi3_type_spec.specs.Tree.{Tree, void, scalar, left_out, structure, array, u8, s8, u16, s16, u32, s32, u64, s64, u128, s128, float, double, pointer, x87, binary128}
+use Rattle.ffi3_type_spec.specs.Layout.{size_of}
+use Rattle.ffi3_type_spec.specs.Integer.{is_number_type, scalar_of, widened, widened_from_32}
+use Rattle.ffi3_type_spec.specs.Value.{ValueTree, void_value, leaf_value, struct_value, bytes_of, fits}
+use Rattle.ffi3_place_spec.specs.declared.Ext.TheVariants.{Widen, Riscv}
+use Rattle.ffi3_place_spec.specs.Sound.{is_narrow_integer}
+use Rattle.ffi3_explain_spec.specs.Explain.{extended}
 
 pub narrow_number : (t : Tree) → is_narrow_integer t ≡ true → (is_number_type t ≡ true) × (size_of t ≤ 8)
 narrow_number void e = cc

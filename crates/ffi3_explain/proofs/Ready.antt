@@ -2,26 +2,26 @@
 use Rattle.std.specs.Prelude.{◌^◌}
 use Rattle.std.proofs.Common.{◌≡◌, ℕ, suc, ◌+◌, ◌<◌, ◌≤◌, List, [], ◌∷◌, ◌++◌, length, arith}
 use Rattle.std.specs.List.{AllByRecursion, flat_map}
-use Rattle.ffi3_type_rules.specs.declared.Isa.{Isa}
-use Rattle.ffi3_type_rules.specs.declared.Isa.TheVariants.{Amd64, Aarch64, Riscv}
-use Rattle.ffi3_type_rules.specs.Isa.{isa_of}
-use Rattle.ffi3_type_rules.specs.Tree.{Tree, tree_at}
-use Rattle.ffi3_type_rules.specs.Fault.{IsArgumentType}
-use Rattle.ffi3_type_rules.specs.Signature.{Signature, SignatureHasNoFault}
-use Rattle.ffi3_type_rules.proofs.Layouts.{least_multiple-above}
-use Rattle.ffi3_type_rules.proofs.Right.{argument_is_right}
-use Rattle.ffi3_place_rules.specs.declared.Loc.{Loc}
-use Rattle.ffi3_place_rules.specs.declared.Loc.TheVariants.{G, F, S}
-use Rattle.ffi3_place_rules.specs.declared.Piece.{Piece}
-use Rattle.ffi3_place_rules.specs.declared.Place.{Place}
-use Rattle.ffi3_place_rules.specs.declared.Place.TheVariants.{Direct, ByRef}
-use Rattle.ffi3_place_rules.specs.Image.{Image}
-use Rattle.ffi3_place_rules.specs.Standard.{Standard, plan_of, frame_of, ResultSpot, no_result, in_result_pieces, in_buffer, result_at, buffer_end, frame_copies_end}
-use Rattle.ffi3_place_rules.specs.Sound.{LiesIn, IsPieceOf, PlacesHaveAll, place_locs, piece_locs, copy_locs, stack_words_for, argument_locs, hidden_locs, buffer_locs}
-use Rattle.ffi3_place_rules.proofs.OnMachine.{IsSoundOnMachine}
-use Rattle.ffi3_explain_rules.specs.Arguments.{stack_end, least_stack}
-use Rattle.ffi3_explain_rules.proofs.Copies.{bytes_of_right, copy_fits}
-use Rattle.ffi3_explain_rules.proofs.Places.{join, left_part, right_part}
+use Rattle.ffi3_type_spec.specs.declared.Isa.{Isa}
+use Rattle.ffi3_type_spec.specs.declared.Isa.TheVariants.{Amd64, Aarch64, Riscv}
+use Rattle.ffi3_type_spec.specs.TargetIsa.{isa_of}
+use Rattle.ffi3_type_spec.specs.Tree.{Tree, tree_at}
+use Rattle.ffi3_type_spec.specs.Fault.{IsArgumentType}
+use Rattle.ffi3_type_spec.specs.Signature.{Signature, SignatureHasNoFault}
+use Rattle.ffi3_type_spec.proofs.Layouts.{least_multiple-above}
+use Rattle.ffi3_type_spec.proofs.Right.{argument_is_right}
+use Rattle.ffi3_place_spec.specs.declared.Loc.{Loc}
+use Rattle.ffi3_place_spec.specs.declared.Loc.TheVariants.{G, F, S}
+use Rattle.ffi3_place_spec.specs.declared.Piece.{Piece}
+use Rattle.ffi3_place_spec.specs.declared.Place.{Place}
+use Rattle.ffi3_place_spec.specs.declared.Place.TheVariants.{Direct, ByRef}
+use Rattle.ffi3_place_spec.specs.Image.{Image}
+use Rattle.ffi3_place_spec.specs.Standard.{Standard, plan_of, frame_of, ResultSpot, no_result, in_result_pieces, in_buffer, result_at, buffer_end, frame_copies_end}
+use Rattle.ffi3_place_spec.specs.Sound.{LiesIn, IsPieceOf, PlacesHaveAll, place_locs, piece_locs, copy_locs, stack_words_for, argument_locs, hidden_locs, buffer_locs}
+use Rattle.ffi3_place_spec.proofs.OnMachine.{IsSoundOnMachine}
+use Rattle.ffi3_explain_spec.specs.Arguments.{stack_end, least_stack}
+use Rattle.ffi3_explain_spec.proofs.Copies.{bytes_of_right, copy_fits}
+use Rattle.ffi3_explain_spec.proofs.Places.{join, left_part, right_part}
 use Rattle.ffi3_explain.specs.Places.{HasPlace, CanBeRead, PlaceIsThere, PlacesAreReady, ArgumentIsThere, ArgumentsAreReady, HiddenIsThere}
 
 module _ (m : Image) (base : ℕ) where

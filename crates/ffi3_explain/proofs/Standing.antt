@@ -3,18 +3,18 @@ use Rattle.std.specs.Prelude.{slice_get, nat_le, ◌-◌, ◌&&◌, cond, Bool, 
 use Rattle.std.proofs.Common.{◌≡◌, ℕ, suc, ◌+◌, ◌<◌, ◌≤◌, List, [], ◌∷◌, ◌++◌, drop, length, refl, ap, sym, ◌∙◌, subst, arith, append_assoc, append-nil, length-append}
 use Rattle.std.proofs.lemmas.Bool.Decides.{nat_tests}
 use Rattle.std.proofs.lemmas.Option.{get_or_from_slice_get, slice_get_within}
-use Rattle.ffi3_type_rules.specs.Tree.{Tree, tree_at, trees_of}
-use Rattle.ffi3_type_rules.specs.Signature.{Signature, SignatureHasNoFault}
-use Rattle.ffi3_type_rules.specs.Value.{ValueTree, all_fit, values_of}
-use Rattle.ffi3_place_rules.specs.declared.Place.{Place}
-use Rattle.ffi3_place_rules.specs.Image.{Image}
-use Rattle.ffi3_place_rules.specs.Standard.{Standard, plan_of}
-use Rattle.ffi3_place_rules.specs.Sound.{IsSound, PlaceHasAll}
-use Rattle.ffi3_place_rules.specs.Holds.{Own}
-use Rattle.ffi3_place_rules.proofs.Elements.{drop_read, argument_read}
-use Rattle.ffi3_explain_rules.specs.declared.Outside.{Outside}
-use Rattle.ffi3_explain_rules.specs.Arguments.{are_values, points_outside, arguments_by, first_outside, held_by_standard, is_in_image, offset_in, or_later, outside_of, value_by_standard, values_by_standard}
-use Rattle.ffi3_explain_rules.proofs.Arguments.{are_read, bytes_within}
+use Rattle.ffi3_type_spec.specs.Tree.{Tree, tree_at, trees_of}
+use Rattle.ffi3_type_spec.specs.Signature.{Signature, SignatureHasNoFault}
+use Rattle.ffi3_type_spec.specs.Value.{ValueTree, all_fit, values_of}
+use Rattle.ffi3_place_spec.specs.declared.Place.{Place}
+use Rattle.ffi3_place_spec.specs.Image.{Image}
+use Rattle.ffi3_place_spec.specs.Standard.{Standard, plan_of}
+use Rattle.ffi3_place_spec.specs.Sound.{IsSound, PlaceHasAll}
+use Rattle.ffi3_place_spec.specs.Holds.{Own}
+use Rattle.ffi3_place_spec.proofs.Elements.{drop_read, argument_read}
+use Rattle.ffi3_explain_spec.specs.declared.Outside.{Outside}
+use Rattle.ffi3_explain_spec.specs.Arguments.{are_values, points_outside, arguments_by, first_outside, held_by_standard, is_in_image, offset_in, or_later, outside_of, value_by_standard, values_by_standard}
+use Rattle.ffi3_explain_spec.proofs.Arguments.{are_read, bytes_within}
 use Rattle.ffi3_explain.specs.declared.reading.Unread.{Unread}
 use Rattle.ffi3_explain.specs.declared.reading.Unread.TheVariants.{PointsOutside, NoMemory}
 use Rattle.ffi3_explain.specs.Places.{ArgumentIsThere, ArgumentsAreReady}

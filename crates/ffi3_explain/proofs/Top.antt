@@ -1,18 +1,18 @@
 -- The explanation from its parts, and what it says of held values.
 use Rattle.std.specs.Prelude.{Some, None, true}
 use Rattle.std.proofs.Common.{◌≡◌, ℕ, ◌+◌, ◌≤◌, List, ◌++◌, length, refl, ap, sym, ◌∙◌}
-use Rattle.ffi3_type_rules.specs.Signature.{Signature, SignatureHasNoFault}
-use Rattle.ffi3_type_rules.specs.Tree.{trees_of}
-use Rattle.ffi3_type_rules.specs.Value.{ValueTree, all_fit, values_of}
-use Rattle.ffi3_place_rules.specs.Image.{Image}
-use Rattle.ffi3_place_rules.specs.Standard.{Standard, frame_of, plan_of}
-use Rattle.ffi3_place_rules.specs.Sound.{IsSound}
-use Rattle.ffi3_place_rules.specs.Holds.{Holds}
-use Rattle.ffi3_explain_rules.specs.declared.Check.{Check}
-use Rattle.ffi3_explain_rules.specs.Explain.{holds_values, is_broken_at, explained_by, explained, checks_of_arguments, checks_of_hidden, checks_of_count, first_broken, values_at_places}
-use Rattle.ffi3_explain_rules.specs.Laws.{HasWords}
-use Rattle.ffi3_explain_rules.proofs.Arguments.{owned_fit}
-use Rattle.ffi3_explain_rules.proofs.Laws.{is_explained}
+use Rattle.ffi3_type_spec.specs.Signature.{Signature, SignatureHasNoFault}
+use Rattle.ffi3_type_spec.specs.Tree.{trees_of}
+use Rattle.ffi3_type_spec.specs.Value.{ValueTree, all_fit, values_of}
+use Rattle.ffi3_place_spec.specs.Image.{Image}
+use Rattle.ffi3_place_spec.specs.Standard.{Standard, frame_of, plan_of}
+use Rattle.ffi3_place_spec.specs.Sound.{IsSound}
+use Rattle.ffi3_place_spec.specs.Holds.{Holds}
+use Rattle.ffi3_explain_spec.specs.declared.Check.{Check}
+use Rattle.ffi3_explain_spec.specs.Explain.{holds_values, is_broken_at, explained_by, explained, checks_of_arguments, checks_of_hidden, checks_of_count, first_broken, values_at_places}
+use Rattle.ffi3_explain_spec.specs.Laws.{HasWords}
+use Rattle.ffi3_explain_spec.proofs.Arguments.{owned_fit}
+use Rattle.ffi3_explain_spec.proofs.Laws.{is_explained}
 use Rattle.ffi3_explain.specs.declared.Unexplained.{Unexplained}
 use Rattle.ffi3_explain.specs.declared.Unexplained.TheVariants.{NotHeld, NoMemory}
 use Rattle.ffi3_explain.specs.Told.{Tells, TellsFirst}

@@ -1,9 +1,9 @@
 -- What an error says of an explanation, and of arguments.
 use Rattle.std.specs.Prelude.{◌≡◌, ⊤, Option, Some}
-use Rattle.ffi3_explain_rules.specs.declared.Check.{Check}
-use Rattle.ffi3_explain_rules.specs.declared.Outside.{Outside}
-use Rattle.ffi3_explain_rules.specs.Explain.{Explanation, is_broken_at}
-use Rattle.ffi3_explain_rules.specs.Arguments.{Arguments, points_outside}
+use Rattle.ffi3_explain_spec.specs.declared.Check.{Check}
+use Rattle.ffi3_explain_spec.specs.declared.Outside.{Outside}
+use Rattle.ffi3_explain_spec.specs.Explain.{Explanation, is_broken_at}
+use Rattle.ffi3_explain_spec.specs.Arguments.{Arguments, points_outside}
 use Rattle.ffi3_explain.specs.declared.Unexplained.{Unexplained}
 use Rattle.ffi3_explain.specs.declared.Unexplained.TheVariants.{NotHeld, NoMemory}
 use Rattle.ffi3_explain.specs.declared.reading.Unread.{Unread}

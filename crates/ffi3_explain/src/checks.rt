@@ -2,10 +2,10 @@
 ghost use Rattle.std.specs.Prelude.{◌≡◌, ◌+◌, ◌^◌, ◌<◌, ◌≤◌, length, IfErr, IfOk, None, Some};
 ghost use Rattle.std.specs.List.{AllByRecursion};
 ghost use Rattle.ffi3_values.specs.ValueOf.{value_of};
-ghost use Rattle.ffi3_place_rules.specs.Standard.{frame_of, plan_of};
-ghost use Rattle.ffi3_place_rules.specs.Isa.{to_list};
-ghost use Rattle.ffi3_place_rules.specs.Sound.{PlaceHasAll};
-ghost use Rattle.ffi3_explain_rules.specs.Explain.{checks_of_arguments, checks_of_count, checks_of_hidden, checks_of_place, first_broken, value_at_place, values_at_places};
+ghost use Rattle.ffi3_place_spec.specs.Standard.{frame_of, plan_of};
+ghost use Rattle.ffi3_place_spec.specs.MachineRegisters.{to_list};
+ghost use Rattle.ffi3_place_spec.specs.Sound.{PlaceHasAll};
+ghost use Rattle.ffi3_explain_spec.specs.Explain.{checks_of_arguments, checks_of_count, checks_of_hidden, checks_of_place, first_broken, value_at_place, values_at_places};
 ghost use Rattle.ffi3_explain.specs.ImageOf.{image_of};
 ghost use Rattle.ffi3_explain.specs.Places.{HasPlace, HiddenIsThere, PlaceIsThere, listed_check};
 ghost use Rattle.ffi3_explain.specs.Told.{TellsFirst};

@@ -3,11 +3,11 @@
 #![tactic(auto)]
 
 ghost use Rattle.std.specs.Prelude.{◌≡◌, ◌+◌, ◌^◌, ◌<◌, ◌≤◌, ℕ, List, length, get_or, true, IfErr, IfOk};
-ghost use Rattle.ffi3_type_rules.specs.Tree.{trees_of};
-ghost use Rattle.ffi3_type_rules.specs.Value.{ValueTree, all_fit, values_of};
-ghost use Rattle.ffi3_place_rules.specs.Standard.{frame_of};
-ghost use Rattle.ffi3_place_rules.specs.Holds.{Holds};
-ghost use Rattle.ffi3_explain_rules.specs.Explain.{explained, holds_values};
+ghost use Rattle.ffi3_type_spec.specs.Tree.{trees_of};
+ghost use Rattle.ffi3_type_spec.specs.Value.{ValueTree, all_fit, values_of};
+ghost use Rattle.ffi3_place_spec.specs.Standard.{frame_of};
+ghost use Rattle.ffi3_place_spec.specs.Holds.{Holds};
+ghost use Rattle.ffi3_explain_spec.specs.Explain.{explained, holds_values};
 ghost use Rattle.ffi3_explain.specs.ImageOf.{image_of};
 ghost use Rattle.ffi3_explain.specs.Told.{Tells};
 
@@ -19,7 +19,7 @@ mod reading;
 
 use checks::{broken, count_check, explain_arguments, hidden_check};
 use ffi3_cif::Cif;
-pub use ffi3_explain_rules::{Check, Outside, Part};
+pub use ffi3_explain_spec::{Check, Outside, Part};
 use ffi3_place::Abi;
 use ffi3_types::Bytes;
 use ffi3_values::Values;

@@ -1,7 +1,7 @@
 // Bytes and words of places.
 ghost use Rattle.std.specs.Prelude.{◌≡◌};
-ghost use Rattle.ffi3_place_rules.specs.Image.{word_at};
-ghost use Rattle.ffi3_explain_rules.specs.Explain.{eight, place_byte};
+ghost use Rattle.ffi3_place_spec.specs.Image.{word_at};
+ghost use Rattle.ffi3_explain_spec.specs.Explain.{eight, place_byte};
 ghost use Rattle.ffi3_explain.specs.ImageOf.{image_of};
 ghost use Rattle.ffi3_explain.specs.Places.{HasPlace};
 

@@ -1,9 +1,9 @@
 // How much of the stack the arguments need.
 ghost use Rattle.std.specs.Prelude.{◌≡◌, ◌+◌, ◌<◌, ◌^◌, [], ◌∷◌, max};
 ghost use Rattle.std.specs.List.{flat_map};
-ghost use Rattle.ffi3_place_rules.specs.Standard.{plan_of};
-ghost use Rattle.ffi3_place_rules.specs.Sound.{piece_locs, place_locs};
-ghost use Rattle.ffi3_explain_rules.specs.Arguments.{least_stack, stack_end};
+ghost use Rattle.ffi3_place_spec.specs.Standard.{plan_of};
+ghost use Rattle.ffi3_place_spec.specs.Sound.{piece_locs, place_locs};
+ghost use Rattle.ffi3_explain_spec.specs.Arguments.{least_stack, stack_end};
 
 use ffi3_cif::{Cif, Placed};
 use ffi3_place::{Abi, Loc, Pieces, Place};

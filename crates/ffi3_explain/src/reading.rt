@@ -1,12 +1,12 @@
 // The arguments by the standard alone.
 ghost use Rattle.std.specs.Prelude.{◌≡◌, ◌<◌, ◌≤◌, List, length, true, IfErr, IfOk, None};
-ghost use Rattle.ffi3_type_rules.specs.Tree.{trees_of};
-ghost use Rattle.ffi3_type_rules.specs.Value.{ValueTree, all_fit, values_of};
+ghost use Rattle.ffi3_type_spec.specs.Tree.{trees_of};
+ghost use Rattle.ffi3_type_spec.specs.Value.{ValueTree, all_fit, values_of};
 ghost use Rattle.ffi3_values.specs.ValueOf.{value_of};
-ghost use Rattle.ffi3_place_rules.specs.Standard.{plan_of};
-ghost use Rattle.ffi3_place_rules.specs.Sound.{PlaceHasAll};
-ghost use Rattle.ffi3_place_rules.specs.Holds.{Own};
-ghost use Rattle.ffi3_explain_rules.specs.Arguments.{are_values, first_outside, held_by_standard, least_stack, offset_in, outside_of, value_by_standard, values_by_standard};
+ghost use Rattle.ffi3_place_spec.specs.Standard.{plan_of};
+ghost use Rattle.ffi3_place_spec.specs.Sound.{PlaceHasAll};
+ghost use Rattle.ffi3_place_spec.specs.Holds.{Own};
+ghost use Rattle.ffi3_explain_spec.specs.Arguments.{are_values, first_outside, held_by_standard, least_stack, offset_in, outside_of, value_by_standard, values_by_standard};
 ghost use Rattle.ffi3_explain.specs.ImageOf.{image_of};
 ghost use Rattle.ffi3_explain.specs.Places.{ArgumentIsThere, HasPlace};
 ghost use Rattle.ffi3_explain.specs.Told.{TellsFirstOutside, TellsOutside};

@@ -1,8 +1,8 @@
 -- Elements resolved one by one.
 use Rattle.std.proofs.Common.{◌≡◌, List, [], ◌∷◌, map, refl, ap}
-use Rattle.ffi3_type_rules.specs.Tree.{Tree, tree, trees_of}
-use Rattle.ffi3_format_rules.specs.declared.Format.{Format}
-use Rattle.ffi3_format_rules.specs.Format.{resolved, all_resolved}
+use Rattle.ffi3_type_spec.specs.Tree.{Tree, tree, trees_of}
+use Rattle.ffi3_format_spec.specs.declared.Format.{Format}
+use Rattle.ffi3_format_spec.specs.Format.{resolved, all_resolved}
 
 -- those of a list
 pub of_list : (f : Format) (ts : List Tree) → trees_of (map (resolved f) ts) ≡ all_resolved f (trees_of ts)

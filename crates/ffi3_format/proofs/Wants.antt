@@ -2,8 +2,8 @@
 use Rattle.std.proofs.Common.{◌≡◌, ℕ, ◌+◌, ◌<◌, true, false, ◌||◌, List, [], ◌∷◌, length, drop, refl, ap, sym, ◌∙◌}
 use Rattle.std.proofs.lemmas.List.{drop_more}
 use Rattle.std.specs.List.{list_any}
-use Rattle.ffi3_type_rules.specs.Tree.{Tree, void, trees_of, tree_at}
-use Rattle.ffi3_format_rules.specs.Format.{wants_format, want_format}
+use Rattle.ffi3_type_spec.specs.Tree.{Tree, void, trees_of, tree_at}
+use Rattle.ffi3_format_spec.specs.Format.{wants_format, want_format}
 
 module _ (ts : List Tree) where
   -- so far there was none: what is left decides

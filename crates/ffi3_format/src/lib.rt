@@ -2,13 +2,13 @@
 #![tactic(auto)]
 
 ghost use Rattle.std.specs.Prelude.{◌≡◌, IfOk};
-ghost use Rattle.ffi3_format_rules.specs.Format.{format_of, resolved_signature, signature_wants_format};
+ghost use Rattle.ffi3_format_spec.specs.Format.{format_of, resolved_signature, signature_wants_format};
 ghost use Rattle.ffi3_types.specs.TreeOf.{tree_of};
 
 mod resolving;
 mod wanting;
 
-pub use ffi3_format_rules::Format;
+pub use ffi3_format_spec::Format;
 use ffi3_types::{NoMemory, Sig, Target};
 use resolving::{all_resolved, resolved};
 use std::alloc::Global;

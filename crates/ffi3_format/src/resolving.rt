@@ -1,6 +1,6 @@
 // Types in which long doubles have a format.
 ghost use Rattle.std.specs.Prelude.{◌≡◌, IfOk, map};
-ghost use Rattle.ffi3_format_rules.specs.Format.{long_double_by, complex_by, resolved};
+ghost use Rattle.ffi3_format_spec.specs.Format.{long_double_by, complex_by, resolved};
 ghost use Rattle.ffi3_types.specs.TreeOf.{tree_of};
 
 use crate::Format;

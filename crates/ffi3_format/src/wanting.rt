@@ -1,8 +1,8 @@
 // Whether a format is wanted: long doubles and complex ones in types.
 ghost use Rattle.std.specs.Prelude.{◌≡◌};
 ghost use Rattle.std.specs.List.{list_any};
-ghost use Rattle.ffi3_type_rules.specs.Tree.{trees_of};
-ghost use Rattle.ffi3_format_rules.specs.Format.{wants_format, want_format, signature_wants_format};
+ghost use Rattle.ffi3_type_spec.specs.Tree.{trees_of};
+ghost use Rattle.ffi3_format_spec.specs.Format.{wants_format, want_format, signature_wants_format};
 ghost use Rattle.ffi3_types.specs.TreeOf.{tree_of};
 
 use ffi3_types::{FfiType, Fields, Sig};

@@ -9,7 +9,7 @@ use Rattle.ffi3_types.specs.contracts.Fields as fields
 use Rattle.ffi3_types.specs.contracts.FfiType as ffi_type
 use Rattle.ffi3_types.specs.contracts.sig.Sig as sig
 use Rattle.ffi3_types.proofs.Fields.TheLaws.TheKnot as types
-use Rattle.ffi3_place_rules.proofs.Plan.TheSendSync as plan
+use Rattle.ffi3_place_spec.proofs.Plan.TheSendSync as plan
 use Rattle.ffi3_cif.proofs.runs.AllRuns.TheSendSync as runs
 use Rattle.ffi3_cif.specs.contracts.placed.Placed as placed
 use Rattle.ffi3_cif.specs.contracts.placed.Placed.TheInside as in_placed

@@ -5,11 +5,11 @@ use Rattle.ffi3_isa.specs.declared.Instr.{Instr}
 use Rattle.ffi3_isa.specs.declared.Instr.TheVariants.{Ld, Sd, Fld, Fsd, Addi, Br, Blr}
 use Rattle.ffi3_isa.specs.Fields.{first_word}
 use Rattle.ffi3_isa.specs.Aarch64.{IsAarch64, IsAarch64Word, immediate, based, blr, ret, stub}
-use Rattle.ffi3_type_rules.specs.declared.Isa.TheVariants.{Aarch64}
-use Rattle.ffi3_place_rules.specs.declared.Loc.{Loc}
-use Rattle.ffi3_place_rules.specs.declared.Loc.TheVariants.{G, F, S}
+use Rattle.ffi3_type_spec.specs.declared.Isa.TheVariants.{Aarch64}
+use Rattle.ffi3_place_spec.specs.declared.Loc.{Loc}
+use Rattle.ffi3_place_spec.specs.declared.Loc.TheVariants.{G, F, S}
 use Rattle.ffi3_machine.specs.Stubs.{load, store, sum, jump, calls, returns, exchanged_at, row_bytes, aarch64_row, aarch64_immediate, word}
-use Rattle.ffi3_machine.specs.Step.{moved}
+use Rattle.ffi3_machine.specs.MachineStep.{moved}
 use Rattle.ffi3_stubs.proofs.Places.{word_first, unequal}
 use Rattle.ffi3_stubs.proofs.WordSegments.{fits}
 use Rattle.ffi3_host_stubs.specs.Processor.{Processor, half, bytes_at, word_at, set_at, put_word, base, next, IsKept, Steps, HasCode}

@@ -1,9 +1,9 @@
 -- What rows do to a processor, one after another.
 use Rattle.std.proofs.Common.{ℕ, ◌+◌, List, [], ◌∷◌}
-use Rattle.ffi3_type_rules.specs.declared.Isa.{Isa}
-use Rattle.ffi3_place_rules.specs.declared.Loc.{Loc}
-use Rattle.ffi3_place_rules.specs.declared.Loc.TheVariants.{G, F, S}
-use Rattle.ffi3_place_rules.specs.Isa.{stack_pointer}
+use Rattle.ffi3_type_spec.specs.declared.Isa.{Isa}
+use Rattle.ffi3_place_spec.specs.declared.Loc.{Loc}
+use Rattle.ffi3_place_spec.specs.declared.Loc.TheVariants.{G, F, S}
+use Rattle.ffi3_place_spec.specs.MachineRegisters.{stack_pointer}
 use Rattle.ffi3_machine.specs.Stubs.{load, size_of, exchanged_at}
 use Rattle.ffi3_host_stubs.specs.Processor.{Processor, word_at, set_at, put_word}
 use Rattle.ffi3_host_stubs.specs.Calls.{held}

@@ -1,7 +1,7 @@
 -- The stubs and the slot of each instruction set, by any register, gap and distance.
 use Rattle.std.proofs.Common.{◌≡◌, ◌≢◌, ℕ, ◌≤◌, ◌==◌, Bool, true, false, refl, ap}
-use Rattle.ffi3_type_rules.specs.declared.Isa.{Isa}
-use Rattle.ffi3_type_rules.specs.declared.Isa.TheVariants.{Amd64, Aarch64, Riscv}
+use Rattle.ffi3_type_spec.specs.declared.Isa.{Isa}
+use Rattle.ffi3_type_spec.specs.declared.Isa.TheVariants.{Amd64, Aarch64, Riscv}
 use Rattle.ffi3_machine.specs.Stubs.{Call, Entry, Exit, Return, rows}
 use Rattle.ffi3_closures.specs.Slots.{trampoline}
 use Rattle.ffi3_host_stubs.specs.Stubs.{exit_rows, host_bytes}

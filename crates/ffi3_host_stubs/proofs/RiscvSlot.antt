@@ -5,9 +5,9 @@ use Rattle.std.specs.Prelude.{nat_lt}
 use Rattle.ffi3_isa.specs.declared.Instr.TheVariants.{Auipc, Jalr}
 use Rattle.ffi3_isa.specs.Fields.{sign_extend}
 use Rattle.ffi3_isa.specs.Riscv.{auipc, jalr}
-use Rattle.ffi3_type_rules.specs.declared.Isa.TheVariants.{Riscv}
-use Rattle.ffi3_place_rules.specs.declared.Loc.TheVariants.{G}
-use Rattle.ffi3_machine.specs.Step.{moved, even}
+use Rattle.ffi3_type_spec.specs.declared.Isa.TheVariants.{Riscv}
+use Rattle.ffi3_place_spec.specs.declared.Loc.TheVariants.{G}
+use Rattle.ffi3_machine.specs.MachineStep.{moved, even}
 use Rattle.ffi3_machine.specs.Stubs.{word, load, riscv_row, riscv_i}
 use Rattle.ffi3_stubs.specs.Calls.{same_loc, is_in}
 use Rattle.ffi3_host_stubs.specs.Processor.{Processor, half, word_at, set_at, next, Steps, HasCode}

@@ -1,7 +1,7 @@
 -- Instructions that stand at pc, and steps one after another.
 use Rattle.std.proofs.Common.{◌⊎◌, inl, inr, ⊎_elim, ◌≡◌, ℕ, zero, suc, ◌+◌, ◌%◌, ◌^◌, ◌<◌, ◌≤◌, List, [], ◌∷◌, ◌++◌, length, drop, refl, sym, ap, ◌∙◌, subst, arith, lit<, length-append}
 use Rattle.std.proofs.Math.Nat.{mod-eq_of_lt, add-mod_right}
-use Rattle.ffi3_type_rules.specs.declared.Isa.{Isa}
+use Rattle.ffi3_type_spec.specs.declared.Isa.{Isa}
 use Rattle.ffi3_host_stubs.specs.Processor.{Processor, half, bytes_at, next, IsKept, Steps, TakesSteps, HasCode}
 
 -- ---- numbers

@@ -3,16 +3,16 @@ use Rattle.std.specs.Prelude.{◌≡◌, ℕ, zero, suc, ⊤, ◌+◌, ◌-◌, 
 use Rattle.std.specs.Prelude.{pos, negsuc, List, [], ◌∷◌, length}
 use Rattle.std.specs.Int.{byte_at}
 use Rattle.ffi3_memory.specs.Memory.{number_of}
-use Rattle.ffi3_type_rules.specs.declared.Isa.{Isa}
-use Rattle.ffi3_type_rules.specs.declared.Isa.TheVariants.{Amd64, Aarch64, Riscv}
-use Rattle.ffi3_place_rules.specs.Isa.{is_zero_register, stack_pointer}
+use Rattle.ffi3_type_spec.specs.declared.Isa.{Isa}
+use Rattle.ffi3_type_spec.specs.declared.Isa.TheVariants.{Amd64, Aarch64, Riscv}
+use Rattle.ffi3_place_spec.specs.MachineRegisters.{is_zero_register, stack_pointer}
 use Rattle.ffi3_isa.specs.declared.Instr.{Instr}
 use Rattle.ffi3_isa.specs.declared.Instr.TheVariants.{Endbr, Nop, Lea, JmpMem, LdrLit, Adr, Br, Auipc, Ld, Jalr, Addi}
 use Rattle.ffi3_isa.specs.declared.Instr.TheVariants.{Sd, Fld, Fsd, CallMem, Ret, Blr}
 use Rattle.ffi3_isa.specs.Amd64.{IsAmd64, rex, mod_rm}
 use Rattle.ffi3_isa.specs.Aarch64.{IsAarch64}
 use Rattle.ffi3_isa.specs.Riscv.{IsRiscv}
-use Rattle.ffi3_machine.specs.Step.{moved, even, reads_zero, reads_sp, IsAligned}
+use Rattle.ffi3_machine.specs.MachineStep.{moved, even, reads_zero, reads_sp, IsAligned}
 
 -- Register k of each file, of a floating one the low 64 bits, above which loads leave zeros; the stack pointer and pc; the stack's lowest address. At address a stands the byte `code a` where instructions are taken, and `memory a` where they load and store. Code is mapped so that nothing writes it: no store changes what is taken
 pub record Processor : Type 0 where

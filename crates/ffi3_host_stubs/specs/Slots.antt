@@ -1,10 +1,10 @@
 -- The code of a closure's slot whose data stand a distance behind it. (Intel 64 and IA-32 Architectures Software Developer's Manual, volume 2; Arm Architecture Reference Manual for A-profile, C6.2; RISC-V unprivileged ISA, 2)
 use Rattle.std.specs.Prelude.{◌≡◌, ℕ, ◌+◌, ◌-◌, ◌*◌, ◌/◌, ◌%◌, ◌^◌, ◌<◌, ◌≤◌, ◌⊎◌, if◌then◌else◌, nat_le, List, [], ◌∷◌, ◌++◌}
-use Rattle.ffi3_type_rules.specs.declared.Isa.{Isa}
-use Rattle.ffi3_type_rules.specs.declared.Isa.TheVariants.{Amd64, Aarch64, Riscv}
-use Rattle.ffi3_place_rules.specs.Isa.{closure_register, trampoline_registers}
+use Rattle.ffi3_type_spec.specs.declared.Isa.{Isa}
+use Rattle.ffi3_type_spec.specs.declared.Isa.TheVariants.{Amd64, Aarch64, Riscv}
+use Rattle.ffi3_place_spec.specs.MachineRegisters.{closure_register, trampoline_registers}
 use Rattle.ffi3_isa.specs.Amd64.{rex, mod_rm}
-use Rattle.ffi3_machine.specs.Step.{IsAligned}
+use Rattle.ffi3_machine.specs.MachineStep.{IsAligned}
 use Rattle.ffi3_machine.specs.Stubs.{word, riscv_i}
 use Rattle.ffi3_stubs.specs.Calls.{target_of}
 use Rattle.ffi3_host_stubs.specs.Processor.{Processor, half, word_at, TakesSteps, HasCode}

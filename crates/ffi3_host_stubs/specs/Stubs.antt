@@ -1,9 +1,10 @@
 -- The stubs as a processor runs them: their rows are the model's, but the address of the exchange region comes from a register, and Entry also stores sp.
 use Rattle.std.specs.Prelude.{ℕ, ◌+◌, ◌/◌, ◌%◌, pos, List, [], ◌∷◌, ◌++◌}
-use Rattle.ffi3_type_rules.specs.declared.Isa.{Isa}
-use Rattle.ffi3_type_rules.specs.declared.Isa.TheVariants.{Amd64, Aarch64, Riscv}
-use Rattle.ffi3_place_rules.specs.declared.Loc.TheVariants.{G}
-use Rattle.ffi3_place_rules.specs.Isa.{stack_pointer, callee_saved_words, area_bytes, result_loads}
+use Rattle.ffi3_type_spec.specs.declared.Isa.{Isa}
+use Rattle.ffi3_type_spec.specs.declared.Isa.TheVariants.{Amd64, Aarch64, Riscv}
+use Rattle.ffi3_place_spec.specs.declared.Loc.TheVariants.{G}
+use Rattle.ffi3_place_spec.specs.MachineRegisters.{stack_pointer}
+use Rattle.ffi3_place_spec.specs.StubRegisters.{callee_saved_words, area_bytes, result_loads}
 use Rattle.ffi3_isa.specs.Amd64.{rex, mod_rm}
 use Rattle.ffi3_machine.specs.Stubs.{Row, address, load, store, sum, jump, returns, StubName, Entry, Exit, Call, Return}
 use Rattle.ffi3_machine.specs.Stubs.{rows, row_bytes, sp_rows, area_loads, exchange_loads, return_base}

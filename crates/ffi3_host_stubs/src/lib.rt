@@ -10,7 +10,7 @@ ghost use Rattle.ffi3_host_stubs.specs.Slots.{CanReach, Reaches, slot_code};
 ghost use Rattle.ffi3_host_stubs.specs.Stubs.{exit_rows, host_bytes};
 ghost use Rattle.ffi3_machine.specs.Stubs.{Call, Entry, Exit, Return, rows};
 
-use ffi3_type_rules::Isa;
+use ffi3_type_spec::Isa;
 
 /// Call on AMD64: calls by the exchange region whose address is in rdi.
 pub fn amd64_call() -> [u8; 138]

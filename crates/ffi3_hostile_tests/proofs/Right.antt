@@ -1,12 +1,12 @@
 -- No signature of the natives has a fault.
 use Rattle.std.proofs.Common.{◌≡◌, All, ℕ, zero, suc, ◌<◌, false, [], ◌∷◌, length, refl, arith}
-use Rattle.ffi3_type_rules.specs.Tree.{Scalar, scalar, tree_at, void, s64, pointer}
-use Rattle.ffi3_type_rules.specs.Layout.{has_long_double}
-use Rattle.ffi3_type_rules.specs.declared.Role.{Role}
-use Rattle.ffi3_type_rules.specs.declared.Role.TheVariants.{AsArgument, AsResult}
-use Rattle.ffi3_type_rules.specs.Signature.{Signature, SignatureHasNoFault, for_calls}
-use Rattle.ffi3_type_rules.proofs.Faults.{scalar_faults, void_faults}
-use Rattle.ffi3_type_rules.proofs.Signatures.{IsSuited, right_with_no_fixed}
+use Rattle.ffi3_type_spec.specs.Tree.{Scalar, scalar, tree_at, void, s64, pointer}
+use Rattle.ffi3_type_spec.specs.Layout.{has_long_double}
+use Rattle.ffi3_type_spec.specs.declared.Role.{Role}
+use Rattle.ffi3_type_spec.specs.declared.Role.TheVariants.{AsArgument, AsResult}
+use Rattle.ffi3_type_spec.specs.Signature.{Signature, SignatureHasNoFault, for_calls}
+use Rattle.ffi3_type_spec.proofs.Faults.{scalar_faults, void_faults}
+use Rattle.ffi3_type_spec.proofs.Signatures.{IsSuited, right_with_no_fixed}
 use Rattle.ffi3_hostile_tests.specs.Hostile.{again_signature, drop_signature, nothing_signature}
 
 -- a scalar that is no long double stands anywhere

@@ -1,11 +1,11 @@
 -- Natives that nest, loop or take what they can: by which signature each is called, and what it does.
 use Rattle.std.specs.Prelude.{ℕ, ℤ, pos, negsuc, ◌==◌, if◌then◌else◌, List, [], ◌∷◌, None, slice_index_or}
 use Rattle.std.specs.Int.{w64, from_le_bytes}
-use Rattle.ffi3_type_rules.specs.Tree.{scalar, void, pointer, s64, s8}
-use Rattle.ffi3_type_rules.specs.Signature.{Signature}
-use Rattle.ffi3_type_rules.specs.Integer.{bytes_of_number, sum_of, widened}
-use Rattle.ffi3_type_rules.specs.Value.{ValueTree, void_value, leaf_value, bytes_of}
-use Rattle.ffi3_run_rules.specs.Move.{Behaviour, Move, call, make, free, print, return}
+use Rattle.ffi3_type_spec.specs.Tree.{scalar, void, pointer, s64, s8}
+use Rattle.ffi3_type_spec.specs.Signature.{Signature}
+use Rattle.ffi3_type_spec.specs.Integer.{bytes_of_number, sum_of, widened}
+use Rattle.ffi3_type_spec.specs.Value.{ValueTree, void_value, leaf_value, bytes_of}
+use Rattle.ffi3_semantics_spec.specs.Move.{Behaviour, Move, call, make, free, print, return}
 
 -- sint64(pointer,sint64)
 abbrev pub again_signature : Signature

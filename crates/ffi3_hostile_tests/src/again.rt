@@ -1,9 +1,9 @@
 //! A native that calls itself by the closure that it is handed.
 ghost use Rattle.std.specs.Prelude.{◌≡◌, ◌<◌, ◌∷◌, [], IfOk, true};
-ghost use Rattle.ffi3_type_rules.specs.Tree.{scalar, s64};
-ghost use Rattle.ffi3_type_rules.specs.Value.{fits};
+ghost use Rattle.ffi3_type_spec.specs.Tree.{scalar, s64};
+ghost use Rattle.ffi3_type_spec.specs.Value.{fits};
 ghost use Rattle.ffi3_values.specs.ValueOf.{value_of};
-ghost use Rattle.ffi3_run_rules.specs.Move.{MoveFits};
+ghost use Rattle.ffi3_semantics_spec.specs.Move.{MoveFits};
 ghost use Rattle.ffi3_body.specs.MoveOf.{move_of};
 ghost use Rattle.ffi3_body.specs.SeenActivation.{arguments_of};
 ghost use Rattle.ffi3_hostile_tests.specs.Hostile.{again_signature, once_less, plus};
@@ -23,7 +23,7 @@ pub struct Again {
 
 impl Model for Again {
     ghost use Rattle.std.specs.Prelude.{◌≡◌, ◌∷◌, [], List};
-    ghost use Rattle.ffi3_type_rules.specs.Signature.{Signature, signature_list_code};
+    ghost use Rattle.ffi3_type_spec.specs.Signature.{Signature, signature_list_code};
     ghost use Rattle.ffi3_hostile_tests.specs.Hostile.{again_signature};
 
     ghost Value = { List Signature };

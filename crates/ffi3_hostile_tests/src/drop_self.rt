@@ -16,7 +16,7 @@ pub struct DropSelf {
 
 impl Model for DropSelf {
     ghost use Rattle.std.specs.Prelude.{◌≡◌, ◌∷◌, [], List};
-    ghost use Rattle.ffi3_type_rules.specs.Signature.{Signature, signature_list_code};
+    ghost use Rattle.ffi3_type_spec.specs.Signature.{Signature, signature_list_code};
     ghost use Rattle.ffi3_hostile_tests.specs.Hostile.{drop_signature};
 
     ghost Value = { List Signature };

@@ -25,7 +25,7 @@ pub struct Flood {
 
 impl Model for Flood {
     ghost use Rattle.std.specs.Prelude.{◌≡◌, ◌∷◌, [], List};
-    ghost use Rattle.ffi3_type_rules.specs.Signature.{Signature, signature_list_code};
+    ghost use Rattle.ffi3_type_spec.specs.Signature.{Signature, signature_list_code};
     ghost use Rattle.ffi3_hostile_tests.specs.Hostile.{nothing_signature};
 
     ghost Value = { List Signature };
@@ -87,7 +87,7 @@ pub struct Talker {
 
 impl Model for Talker {
     ghost use Rattle.std.specs.Prelude.{◌≡◌, ◌∷◌, [], List};
-    ghost use Rattle.ffi3_type_rules.specs.Signature.{Signature, signature_list_code};
+    ghost use Rattle.ffi3_type_spec.specs.Signature.{Signature, signature_list_code};
     ghost use Rattle.ffi3_hostile_tests.specs.Hostile.{nothing_signature};
 
     ghost Value = { List Signature };

@@ -3,33 +3,33 @@ use Rattle.std.proofs.Common.{◌≡◌, ℕ, List, refl, sym, ap, ◌∙◌, su
 use Rattle.std.specs.Prelude.{Result, IfOk, ⊤}
 use Rattle.std.proofs.lemmas.Result.{IfOk-weaker}
 use Rattle.serde_json.specs.Data.{Data}
-use Rattle.ffi3_type_rules.specs.declared.Isa.{Isa}
-use Rattle.ffi3_type_rules.specs.declared.Target.{Target}
-use Rattle.ffi3_type_rules.specs.Isa.{isa_of}
-use Rattle.ffi3_type_rules.specs.Signature.{Signature}
-use Rattle.ffi3_type_rules.specs.Value.{ValueTree}
-use Rattle.ffi3_place_rules.specs.Image.{Image}
-use Rattle.ffi3_place_rules.specs.Standard.{Standard}
-use Rattle.ffi3_script_rules.specs.Reading.{IsJson}
-use Rattle.ffi3_explain_rules.specs.declared.Check.{Check}
-use Rattle.ffi3_explain_rules.specs.declared.Outside.{Outside}
-use Rattle.ffi3_explain_rules.specs.Explain.{explained, holds_values, is_broken_at}
-use Rattle.ffi3_explain_rules.specs.Arguments.{are_values, points_outside, held_by_standard}
+use Rattle.ffi3_type_spec.specs.declared.Isa.{Isa}
+use Rattle.ffi3_type_spec.specs.declared.Target.{Target}
+use Rattle.ffi3_type_spec.specs.TargetIsa.{isa_of}
+use Rattle.ffi3_type_spec.specs.Signature.{Signature}
+use Rattle.ffi3_type_spec.specs.Value.{ValueTree}
+use Rattle.ffi3_place_spec.specs.Image.{Image}
+use Rattle.ffi3_place_spec.specs.Standard.{Standard}
+use Rattle.ffi3_script_spec.specs.Reading.{IsJson}
+use Rattle.ffi3_explain_spec.specs.declared.Check.{Check}
+use Rattle.ffi3_explain_spec.specs.declared.Outside.{Outside}
+use Rattle.ffi3_explain_spec.specs.Explain.{explained, holds_values, is_broken_at}
+use Rattle.ffi3_explain_spec.specs.Arguments.{are_values, points_outside, held_by_standard}
 use Rattle.ffi3_explain.specs.Told as unexplained
 use Rattle.ffi3_explain.specs.Told.{TellsOutside}
 use Rattle.ffi3_explain.specs.declared.Unexplained.{Unexplained}
 use Rattle.ffi3_explain.specs.declared.Unexplained.TheVariants.{NotHeld}
 use Rattle.ffi3_explain.specs.declared.reading.Unread.{Unread}
 use Rattle.ffi3_explain.specs.declared.reading.Unread.TheVariants.{PointsOutside}
-use Rattle.ffi3_image_rules.specs.declared.Question.{Question}
-use Rattle.ffi3_image_rules.specs.declared.Question.TheVariants.{Explained, ByStandard}
-use Rattle.ffi3_image_rules.specs.Object.{Read, Snapshot, read, fault, and_then, read_map, read_snapshot}
-use Rattle.ffi3_image_rules.specs.Room.{check_room_for}
-use Rattle.ffi3_explain_rules.specs.Standards.{standard_of}
-use Rattle.ffi3_image_rules.specs.Input.{too_long, not_json, faulty, described, read_for, with_room}
-use Rattle.ffi3_image_rules.specs.Lines.{explained_text, arguments_text, broken_line, outside_line}
-use Rattle.ffi3_image_rules.specs.Answer.{Answer, text, refusal, answer_of_explanation, answer_of_arguments, answer_by, IsAnswer, IsTheAnswer}
-use Rattle.ffi3_image_rules.proofs.Inputs.{the_answer}
+use Rattle.ffi3_image_spec.specs.declared.Question.{Question}
+use Rattle.ffi3_image_spec.specs.declared.Question.TheVariants.{Explained, ByStandard}
+use Rattle.ffi3_image_spec.specs.Object.{Read, Snapshot, read, fault, and_then, read_map, read_snapshot}
+use Rattle.ffi3_image_spec.specs.Room.{check_room_for}
+use Rattle.ffi3_explain_spec.specs.Standards.{standard_of}
+use Rattle.ffi3_image_spec.specs.Input.{too_long, not_json, faulty, described, read_for, with_room}
+use Rattle.ffi3_image_spec.specs.Lines.{explained_text, arguments_text, broken_line, outside_line}
+use Rattle.ffi3_image_spec.specs.Answer.{Answer, text, refusal, answer_of_explanation, answer_of_arguments, answer_by, IsAnswer, IsTheAnswer}
+use Rattle.ffi3_image_spec.proofs.Inputs.{the_answer}
 use Rattle.ffi3_image.specs.declared.answers.Answer.{Answer as CodeAnswer}
 use Rattle.ffi3_image.specs.declared.fault.ImageFault.{ImageFault}
 use Rattle.ffi3_image.specs.declared.fault.ImageFault.TheVariants.{TooLong, BadJson, BadImage, NoMemory}

@@ -2,10 +2,10 @@
 use Rattle.std.proofs.Common.{◌≡◌, ℕ, suc, ◌+◌, ◌<◌, ◌≤◌, List, [], ◌++◌, length, drop, sym, ap, ap₂, ◌∙◌, append_assoc, append-nil, arith}
 use Rattle.std.proofs.lemmas.List.{drop_more}
 use Rattle.std.proofs.Math.ListN.{drop_of_length-le}
-use Rattle.ffi3_type_rules.specs.Tree.{Tree, tree_at, void}
-use Rattle.ffi3_type_rules.specs.Value.{ValueTree, void_value}
-use Rattle.ffi3_type_rules.proofs.Values.{value_at}
-use Rattle.ffi3_image_rules.specs.Lines.{argument_line, argument_lines}
+use Rattle.ffi3_type_spec.specs.Tree.{Tree, tree_at, void}
+use Rattle.ffi3_type_spec.specs.Value.{ValueTree, void_value}
+use Rattle.ffi3_type_spec.proofs.Values.{value_at}
+use Rattle.ffi3_image_spec.specs.Lines.{argument_line, argument_lines}
 
 module _ (ts : List Tree) (vs : List ValueTree) (same : length vs ≡ length ts) where
   -- that of argument i, and those after it

@@ -1,11 +1,11 @@
 -- A fault that is told of a part, told of the whole.
 use Rattle.std.proofs.Common.{◌≡◌, ap, sym, ◌∙◌, subst}
-use Rattle.ffi3_script_rules.specs.Language as language
-use Rattle.ffi3_script_rules.specs.Language.{JsonPath}
+use Rattle.ffi3_script_spec.specs.Language as language
+use Rattle.ffi3_script_spec.specs.Language.{JsonPath}
 use Rattle.ffi3_json.specs.Reports.{Reports}
 use Rattle.ffi3_json.specs.declared.fault.ScriptFault.{ScriptFault}
 use Rattle.ffi3_json.specs.declared.fault.ScriptFault.TheVariants as scripts
-use Rattle.ffi3_image_rules.specs.Object.{Reason, Read, read, fault, and_then, of_script}
+use Rattle.ffi3_image_spec.specs.Object.{Reason, Read, read, fault, and_then, of_script}
 use Rattle.ffi3_image.specs.FaultOf.{reason_of, fault_of}
 use Rattle.ffi3_image.specs.Tells.{Tells}
 use Rattle.ffi3_image.specs.declared.fault.ImageFault.{ImageFault}

@@ -6,11 +6,11 @@ use Rattle.std.proofs.lemmas.Option.{get_or_from_slice_get}
 use Rattle.std.proofs.lemmas.Slice.Eq.{bytes_eq-Decides}
 use Rattle.serde_json.specs.Data.{Data, null}
 use Rattle.serde_json.specs.Find.{get}
-use Rattle.ffi3_type_rules.specs.declared.Target.TheVariants.{Amd64, Aapcs64, Riscv, Win64, Apple}
-use Rattle.ffi3_script_rules.specs.Step.{PathStep}
-use Rattle.ffi3_script_rules.specs.Language.{JsonPath, value_under}
-use Rattle.ffi3_script_rules.specs.ReasonText.{text_of_step, text_of_steps}
-use Rattle.ffi3_image_rules.specs.Object.{target_named}
+use Rattle.ffi3_type_spec.specs.declared.Target.TheVariants.{Amd64, Aapcs64, Riscv, Win64, Apple}
+use Rattle.ffi3_script_spec.specs.JsonPath.{PathStep}
+use Rattle.ffi3_script_spec.specs.Language.{JsonPath, value_under}
+use Rattle.ffi3_script_spec.specs.ReasonText.{text_of_step, text_of_steps}
+use Rattle.ffi3_image_spec.specs.Object.{target_named}
 
 -- ---- what stands under a key
 

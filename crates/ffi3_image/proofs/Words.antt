@@ -4,11 +4,11 @@ use Rattle.std.specs.Fmt.{digits, char_count, padded_integral, format_spec}
 use Rattle.serde_json.specs.Data.{Items, no_items, item}
 use Rattle.serde_json.specs.Find.{as_str}
 use Rattle.serde_json.specs.Events.{items_len}
-use Rattle.ffi3_run_rules.specs.Lines.{word_text}
-use Rattle.ffi3_script_rules.specs.Language.{JsonPath, at_item}
+use Rattle.ffi3_semantics_spec.specs.Lines.{word_text}
+use Rattle.ffi3_script_spec.specs.Language.{JsonPath, at_item}
 use Rattle.ffi3_json.specs.Parts.{item_at, items_from}
 use Rattle.ffi3_json.proofs.Items.{item_next, items_none_left}
-use Rattle.ffi3_image_rules.specs.Object.{Reason, Read, read, fault, and_then, read_map, read_word, read_words}
+use Rattle.ffi3_image_spec.specs.Object.{Reason, Read, read, fault, and_then, read_map, read_word, read_words}
 
 joined : (done : List ℕ) (w : ℕ) (r : Read (List ℕ)) → read_map (λ ws. done ++ ws) (read_map (λ ws. w ∷ ws) r) ≡ read_map (λ ws. (done ++ w ∷ []) ++ ws) r
 joined done w (read ws) = ap read (sym (append_assoc done (w ∷ []) ws))

@@ -1,13 +1,13 @@
 -- Which answer an answer of the code is, and what is answered about an image of which it is not known whether it has room.
 use Rattle.std.specs.Prelude.{◌≡◌, ⊤}
-use Rattle.ffi3_type_rules.specs.Signature.{Signature}
-use Rattle.ffi3_place_rules.specs.Image.{Image}
-use Rattle.ffi3_place_rules.specs.Standard.{Standard}
-use Rattle.ffi3_image_rules.specs.declared.Question.{Question}
-use Rattle.ffi3_image_rules.specs.Object.{Read, read, fault}
-use Rattle.ffi3_image_rules.specs.Room.{check_room_for}
-use Rattle.ffi3_image_rules.specs.Lines.{fault_line, too_long_line, not_json_line}
-use Rattle.ffi3_image_rules.specs.Answer.{Answer, text, refusal, answer_by}
+use Rattle.ffi3_type_spec.specs.Signature.{Signature}
+use Rattle.ffi3_place_spec.specs.Image.{Image}
+use Rattle.ffi3_place_spec.specs.Standard.{Standard}
+use Rattle.ffi3_image_spec.specs.declared.Question.{Question}
+use Rattle.ffi3_image_spec.specs.Object.{Read, read, fault}
+use Rattle.ffi3_image_spec.specs.Room.{check_room_for}
+use Rattle.ffi3_image_spec.specs.Lines.{fault_line, too_long_line, not_json_line}
+use Rattle.ffi3_image_spec.specs.Answer.{Answer, text, refusal, answer_by}
 use Rattle.ffi3_image.specs.FaultOf.{reason_of}
 use Rattle.ffi3_image.specs.declared.answers.Answer.{Answer as CodeAnswer}
 use Rattle.ffi3_image.specs.declared.answers.Answer.TheVariants.{Text, Refusal}

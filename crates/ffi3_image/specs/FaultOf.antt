@@ -2,7 +2,7 @@
 use Rattle.ffi3_json.specs.ReasonOf as script
 use Rattle.ffi3_json.specs.declared.fault.ScriptFault.{ScriptFault}
 use Rattle.ffi3_json.specs.declared.fault.ScriptFault.TheVariants as scripts
-use Rattle.ffi3_image_rules.specs.Object as object
+use Rattle.ffi3_image_spec.specs.Object as object
 use Rattle.ffi3_image.specs.declared.fault.ImageReason.{ImageReason}
 use Rattle.ffi3_image.specs.declared.fault.ImageReason.TheVariants.{AsInScripts, UnknownTarget, BadNumber, TooShort}
 use Rattle.ffi3_image.specs.declared.fault.ImageFault.{ImageFault}

@@ -1,9 +1,9 @@
 -- Which snapshot one of the code is, and which bytes describe it.
 use Rattle.std.specs.Prelude.{◌≡◌, ℕ, List}
 use Rattle.serde_json.specs.Data.{Data}
-use Rattle.ffi3_script_rules.specs.Reading.{IsJson}
+use Rattle.ffi3_script_spec.specs.Reading.{IsJson}
 use Rattle.ffi3_explain.specs.ImageOf.{image_of}
-use Rattle.ffi3_image_rules.specs.Object.{Snapshot, read, read_snapshot}
+use Rattle.ffi3_image_spec.specs.Object.{Snapshot, read, read_snapshot}
 use Rattle.ffi3_image.specs.declared.object.Snapshot.{Snapshot as CodeSnapshot}
 
 abbrev pub snapshot_of : CodeSnapshot → Snapshot

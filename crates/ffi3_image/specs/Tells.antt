@@ -1,9 +1,9 @@
 -- What a refusal of the code tells of the bytes.
 use Rattle.std.specs.Prelude.{◌≡◌, ◌<◌, ℕ, List, length}
 use Rattle.serde_json.specs.Data.{Data}
-use Rattle.ffi3_script_rules.specs.Language.{JsonPath}
-use Rattle.ffi3_script_rules.specs.Reading.{max_length, IsJson, IsNotJson}
-use Rattle.ffi3_image_rules.specs.Object.{Reason, fault, read_snapshot}
+use Rattle.ffi3_script_spec.specs.Language.{JsonPath}
+use Rattle.ffi3_script_spec.specs.Reading.{max_length, IsJson, IsNotJson}
+use Rattle.ffi3_image_spec.specs.Object.{Reason, fault, read_snapshot}
 use Rattle.ffi3_image.specs.FaultOf.{reason_of}
 use Rattle.ffi3_image.specs.declared.fault.ImageFault.{ImageFault}
 use Rattle.ffi3_image.specs.declared.fault.ImageFault.TheVariants.{TooLong, BadJson, BadImage, NoMemory}

@@ -1,13 +1,13 @@
 // What is answered to the bytes of an input.
 ghost use Rattle.std.specs.Prelude.{◌≡◌, ◌+◌, ◌^◌, ◌<◌, ◌≤◌, length, true, IfOk};
-ghost use Rattle.ffi3_type_rules.specs.Tree.{trees_of};
-ghost use Rattle.ffi3_type_rules.specs.Value.{all_fit, values_of};
-ghost use Rattle.ffi3_place_rules.specs.Standard.{frame_of};
-ghost use Rattle.ffi3_explain_rules.specs.Arguments.{least_stack};
+ghost use Rattle.ffi3_type_spec.specs.Tree.{trees_of};
+ghost use Rattle.ffi3_type_spec.specs.Value.{all_fit, values_of};
+ghost use Rattle.ffi3_place_spec.specs.Standard.{frame_of};
+ghost use Rattle.ffi3_explain_spec.specs.Arguments.{least_stack};
 ghost use Rattle.ffi3_explain.specs.ImageOf.{image_of};
-ghost use Rattle.ffi3_explain_rules.specs.Standards.{standard_of};
-ghost use Rattle.ffi3_image_rules.specs.Lines.{explained_text};
-ghost use Rattle.ffi3_image_rules.specs.Answer.{IsTheAnswer, answer_by};
+ghost use Rattle.ffi3_explain_spec.specs.Standards.{standard_of};
+ghost use Rattle.ffi3_image_spec.specs.Lines.{explained_text};
+ghost use Rattle.ffi3_image_spec.specs.Answer.{IsTheAnswer, answer_by};
 ghost use Rattle.ffi3_image.specs.AnswerOf.{IsToldAs, answer_about, answer_of};
 
 use crate::lines::{
@@ -21,10 +21,10 @@ use ffi3_amd64::Amd64;
 use ffi3_apple::Apple;
 use ffi3_cif::Cif;
 use ffi3_explain::{Image, Unexplained, Unread, arguments, explain};
-use ffi3_image_rules::Question;
+use ffi3_image_spec::Question;
 use ffi3_place::Abi;
 use ffi3_riscv::Riscv;
-use ffi3_type_rules::Target;
+use ffi3_type_spec::Target;
 use ffi3_types::{Bytes, CheckedSig, NoMemory};
 use ffi3_values::Values;
 use ffi3_win64::Win64;

@@ -10,7 +10,7 @@ mod room;
 
 pub use answers::{Answer, answer_question};
 pub use fault::{ImageFault, ImageReason};
-pub use ffi3_image_rules::Question;
+pub use ffi3_image_spec::Question;
 pub use lines::{argument_line, broken_line, fault_line, hidden_line, outside_line, path_text};
 pub use object::{Snapshot, read_snapshot};
 pub use room::{buffer_address, room_for_arguments, room_for_explain};

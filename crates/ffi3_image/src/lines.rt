@@ -1,21 +1,21 @@
 // Lines that tell what an image holds, and why an input is refused.
 ghost use Rattle.std.specs.Prelude.{◌≡◌, ◌++◌, true, IfOk, OnOk};
-ghost use Rattle.ffi3_type_rules.specs.Tree.{trees_of};
-ghost use Rattle.ffi3_type_rules.specs.Value.{all_fit, fits, values_of};
-ghost use Rattle.ffi3_run_rules.specs.Lines.{address_text, word_text};
-ghost use Rattle.ffi3_script_rules.specs.ReasonText.{text_of_path, text_of_step};
+ghost use Rattle.ffi3_type_spec.specs.Tree.{trees_of};
+ghost use Rattle.ffi3_type_spec.specs.Value.{all_fit, fits, values_of};
+ghost use Rattle.ffi3_semantics_spec.specs.Lines.{address_text, word_text};
+ghost use Rattle.ffi3_script_spec.specs.ReasonText.{text_of_path, text_of_step};
 ghost use Rattle.ffi3_types.specs.TreeOf.{tree_of};
 ghost use Rattle.ffi3_values.specs.ValueOf.{value_of};
 ghost use Rattle.ffi3_json.specs.StepOf.{step_of};
-ghost use Rattle.ffi3_image_rules.specs.Lines.{argument_line, arguments_text, hidden_line, hidden_lines, broken_line, outside_line, fault_line, too_long_line, not_json_line, part_text, text_of_reason};
-ghost use Rattle.ffi3_image_rules.specs.Object as object;
+ghost use Rattle.ffi3_image_spec.specs.Lines.{argument_line, arguments_text, hidden_line, hidden_lines, broken_line, outside_line, fault_line, too_long_line, not_json_line, part_text, text_of_reason};
+ghost use Rattle.ffi3_image_spec.specs.Object as object;
 ghost use Rattle.ffi3_image.specs.FaultOf.{reason_of};
 
 use crate::ImageReason;
 use ffi3_explain::{Check, Outside, Part};
 use ffi3_json::{Step, Where, reason_text};
 use ffi3_text::write_loc;
-use ffi3_type_rules::Isa;
+use ffi3_type_spec::Isa;
 use ffi3_types::{Bytes, FfiType, NoMemory, Sig};
 use ffi3_values::{Value, Values, value_text};
 use std::alloc::Global;

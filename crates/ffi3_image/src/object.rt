@@ -1,12 +1,12 @@
 // The object that describes an image.
 ghost use Rattle.std.specs.Prelude.{◌≡◌, IfOk, IfErr, map, codes};
-ghost use Rattle.ffi3_type_rules.specs.Signature.{SignatureHasNoFault};
-ghost use Rattle.ffi3_script_rules.specs.Language as language;
-ghost use Rattle.ffi3_script_rules.specs.Language.{value_under, under};
+ghost use Rattle.ffi3_type_spec.specs.Signature.{SignatureHasNoFault};
+ghost use Rattle.ffi3_script_spec.specs.Language as language;
+ghost use Rattle.ffi3_script_spec.specs.Language.{value_under, under};
 ghost use Rattle.ffi3_explain.specs.ImageOf.{image_of};
 ghost use Rattle.ffi3_json.specs.KeyOf.{key_of};
-ghost use Rattle.ffi3_image_rules.specs.Object as object;
-ghost use Rattle.ffi3_image_rules.specs.Object.{read, root, snapshot_keys, signature_version};
+ghost use Rattle.ffi3_image_spec.specs.Object as object;
+ghost use Rattle.ffi3_image_spec.specs.Object.{read, root, snapshot_keys, signature_version};
 ghost use Rattle.ffi3_image.specs.SnapshotOf.{snapshot_of, Describe};
 ghost use Rattle.ffi3_image.specs.Tells.{Tells, IsNoSnapshot};
 
@@ -17,7 +17,7 @@ use ffi3_explain::Image;
 use ffi3_json::{
     JsonPath, Key, Node, Reason, Where, check_object_at, parse, read_signature_at, required,
 };
-use ffi3_type_rules::Target;
+use ffi3_type_spec::Target;
 use ffi3_types::Sig;
 use std::alloc::Global;
 

@@ -1,13 +1,13 @@
 // The parts of the object: the target, numbers, registers and bytes.
 ghost use Rattle.std.specs.Prelude.{◌≡◌, IfOk, IfErr, option_map};
-ghost use Rattle.ffi3_image_rules.specs.Object as object;
-ghost use Rattle.ffi3_image_rules.specs.Object.{read};
+ghost use Rattle.ffi3_image_spec.specs.Object as object;
+ghost use Rattle.ffi3_image_spec.specs.Object.{read};
 ghost use Rattle.ffi3_image.specs.Tells.{Tells};
 
 use crate::fault::{bad, bad_as_in_scripts};
 use crate::{ImageFault, ImageReason};
 use ffi3_json::{JsonPath, Node, Nodes, Reason};
-use ffi3_type_rules::Target;
+use ffi3_type_spec::Target;
 use ffi3_types::Bytes;
 use hex::{FromHex, FromHexError};
 use std::alloc::Global;

@@ -1,13 +1,13 @@
 // How much of the stack an image has to have, and where a hidden result stands.
 ghost use Rattle.std.specs.Prelude.{◌≡◌, ◌+◌, ◌^◌, ◌<◌, ◌≤◌, length, IfOk, IfErr};
-ghost use Rattle.ffi3_place_rules.specs.Standard.{frame_of, plan_of};
-ghost use Rattle.ffi3_explain_rules.specs.Arguments.{least_stack};
+ghost use Rattle.ffi3_place_spec.specs.Standard.{frame_of, plan_of};
+ghost use Rattle.ffi3_explain_spec.specs.Arguments.{least_stack};
 ghost use Rattle.ffi3_explain.specs.ImageOf.{image_of};
-ghost use Rattle.ffi3_image_rules.specs.declared.Question.TheVariants.{Explained, ByStandard};
-ghost use Rattle.ffi3_image_rules.specs.Object as object;
-ghost use Rattle.ffi3_image_rules.specs.Object.{read};
-ghost use Rattle.ffi3_image_rules.specs.Room.{check_room, check_room_for, whole_call};
-ghost use Rattle.ffi3_image_rules.specs.Lines.{buffer_of};
+ghost use Rattle.ffi3_image_spec.specs.declared.Question.TheVariants.{Explained, ByStandard};
+ghost use Rattle.ffi3_image_spec.specs.Object as object;
+ghost use Rattle.ffi3_image_spec.specs.Object.{read};
+ghost use Rattle.ffi3_image_spec.specs.Room.{check_room, check_room_for, whole_call};
+ghost use Rattle.ffi3_image_spec.specs.Lines.{buffer_of};
 ghost use Rattle.ffi3_image.specs.Tells.{Tells};
 
 use crate::fault::{bad, bad_as_in_scripts};

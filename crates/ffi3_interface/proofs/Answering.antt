@@ -1,8 +1,8 @@
 -- What C is answered where an interface is prepared, shared or asked for its sizes, from what the calls say.
 use Rattle.std.proofs.Common.{◌≡◌, ℕ, sym, subst, ap, ◌∙◌, Bool, true, false, refl, slice_get}
 use Rattle.std.specs.Prelude.{Option, Some, None}
-use Rattle.ffi3_type_rules.specs.declared.Target.{Target}
-use Rattle.ffi3_type_rules.specs.Signature.{Signature}
+use Rattle.ffi3_type_spec.specs.declared.Target.{Target}
+use Rattle.ffi3_type_spec.specs.Signature.{Signature}
 use Rattle.ffi3_prepared.specs.declared.Prepared.{Prepared}
 use Rattle.ffi3_prepared.specs.Prepared.{signature_in, target_in}
 use Rattle.ffi3_handle.specs.declared.kept.Kept.{Kept}

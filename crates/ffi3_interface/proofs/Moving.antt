@@ -1,7 +1,7 @@
 -- What C is answered where values go by an interface, from what the calls say.
 use Rattle.std.proofs.Common.{◌≡◌, ℕ, List, sym, subst}
 use Rattle.std.specs.Prelude.{Option, Some, None}
-use Rattle.ffi3_place_rules.specs.Image.{Image}
+use Rattle.ffi3_place_spec.specs.Image.{Image}
 use Rattle.ffi3_transfer.specs.declared.Registers.{Registers}
 use Rattle.ffi3_transfer.specs.declared.Unstored.{Unstored}
 use Rattle.ffi3_transfer.specs.declared.Uncollected.{Uncollected}

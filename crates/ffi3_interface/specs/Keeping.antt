@@ -1,8 +1,8 @@
 -- What C is answered where an interface is prepared or shared, and what handles keep then.
 use Rattle.std.specs.Prelude.{◌≡◌, ℕ, Option, Some, None, slice_get}
 use Rattle.std.specs.Arc.{arc_value}
-use Rattle.ffi3_type_rules.specs.declared.Target.{Target}
-use Rattle.ffi3_type_rules.specs.Signature.{Signature}
+use Rattle.ffi3_type_spec.specs.declared.Target.{Target}
+use Rattle.ffi3_type_spec.specs.Signature.{Signature}
 use Rattle.ffi3_prepared.specs.declared.Prepared.{Prepared}
 use Rattle.ffi3_prepared.specs.Prepared.{signature_in, target_in}
 use Rattle.ffi3_handle.specs.declared.kept.Kept.{Kept}

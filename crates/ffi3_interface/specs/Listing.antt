@@ -1,7 +1,7 @@
 -- The moves that C is told of an interface.
 use Rattle.std.specs.Prelude.{◌≡◌, ◌≤◌, ◌^◌, ℕ, List, [], ◌∷◌, length, map, Option, Some, None, slice_get}
-use Rattle.ffi3_type_rules.specs.Signature.{Signature}
-use Rattle.ffi3_place_rules.specs.Standard.{Standard}
+use Rattle.ffi3_type_spec.specs.Signature.{Signature}
+use Rattle.ffi3_place_spec.specs.Standard.{Standard}
 use Rattle.ffi3_moves.specs.declared.Move.{Move}
 use Rattle.ffi3_moves.specs.declared.told.ToldMove.{ToldMove}
 use Rattle.ffi3_moves.specs.Told.{told_move}

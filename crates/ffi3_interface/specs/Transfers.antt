@@ -1,6 +1,6 @@
 -- What C is answered where values go by an interface between memory and the registers and stack of a call, and what is written. Where values are refused, nothing is.
 use Rattle.std.specs.Prelude.{◌≡◌, ℕ, List, Option, Some, None}
-use Rattle.ffi3_place_rules.specs.Image.{Image}
+use Rattle.ffi3_place_spec.specs.Image.{Image}
 use Rattle.ffi3_transfer.specs.declared.Unstored.{Unstored}
 use Rattle.ffi3_transfer.specs.declared.Unstored.TheVariants as not_stored
 use Rattle.ffi3_transfer.specs.declared.Uncollected.{Uncollected}

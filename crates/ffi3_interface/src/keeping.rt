@@ -1,6 +1,6 @@
 // Interfaces that handles keep.
 ghost use Rattle.std.specs.Prelude.{◌≡◌, IfOk, IfErr};
-ghost use Rattle.ffi3_type_rules.specs.Signature.{SignatureIsPlaced};
+ghost use Rattle.ffi3_type_spec.specs.Signature.{SignatureIsPlaced};
 ghost use Rattle.ffi3_capi.specs.DeclaredBy.{IsDeclaredOn, IsFaultOn};
 ghost use Rattle.ffi3_capi.specs.Placed.{IsPlaceRefusal};
 ghost use Rattle.ffi3_interface.specs.Keeping.{IsInterface, KeepsOf, Prepares, Shares};

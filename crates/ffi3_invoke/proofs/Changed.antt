@@ -1,18 +1,18 @@
 -- Where some general registers have other numbers, and no argument stands in them, an image holds what it held.
 use Rattle.std.proofs.Common.{◌≡◌, ℕ, ◌+◌, List, ◌++◌, drop, get_or, length, ap, arith}
 use Rattle.std.specs.List.{AllByRecursion, flat_map}
-use Rattle.ffi3_type_rules.specs.Isa.{isa_of}
-use Rattle.ffi3_type_rules.specs.Signature.{Signature}
-use Rattle.ffi3_type_rules.specs.Value.{ValueTree}
-use Rattle.ffi3_place_rules.specs.declared.Loc.{Loc}
-use Rattle.ffi3_place_rules.specs.declared.Loc.TheVariants.{G}
-use Rattle.ffi3_place_rules.specs.Image.{Image}
-use Rattle.ffi3_place_rules.specs.Standard.{Standard, plan_of}
-use Rattle.ffi3_place_rules.specs.Agrees.{AgreesWithMachine, given_back}
-use Rattle.ffi3_place_rules.specs.Holds.{Holds}
-use Rattle.ffi3_place_rules.specs.Sound.{Apart, IsNoneOf, IsSound, argument_locs, closed_to_arguments, closed_to_results, hidden_locs, place_locs}
-use Rattle.ffi3_place_rules.specs.Isa.{to_list}
-use Rattle.ffi3_pieces.proofs.Alike.{AreAlike, arguments_owned, arguments_filled, address_owned, count_held}
+use Rattle.ffi3_type_spec.specs.TargetIsa.{isa_of}
+use Rattle.ffi3_type_spec.specs.Signature.{Signature}
+use Rattle.ffi3_type_spec.specs.Value.{ValueTree}
+use Rattle.ffi3_place_spec.specs.declared.Loc.{Loc}
+use Rattle.ffi3_place_spec.specs.declared.Loc.TheVariants.{G}
+use Rattle.ffi3_place_spec.specs.Image.{Image}
+use Rattle.ffi3_place_spec.specs.Standard.{Standard, plan_of}
+use Rattle.ffi3_place_spec.specs.Agrees.{AgreesWithMachine, given_back}
+use Rattle.ffi3_place_spec.specs.Holds.{Holds}
+use Rattle.ffi3_place_spec.specs.Sound.{Apart, IsNoneOf, IsSound, argument_locs, closed_to_arguments, closed_to_results, hidden_locs, place_locs}
+use Rattle.ffi3_place_spec.specs.MachineRegisters.{to_list}
+use Rattle.ffi3_machine_transfer.proofs.Alike.{AreAlike, arguments_owned, arguments_filled, address_owned, count_held}
 use Rattle.ffi3_marshal.proofs.Lawful.{each_first, each_rest, each_map, machine_places}
 
 -- `new` has other numbers in these general registers alone

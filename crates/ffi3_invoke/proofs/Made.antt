@@ -1,23 +1,23 @@
 -- A call that has begun, and one that has ended.
 use Rattle.std.proofs.Common.{◌≡◌, ◌⊎◌, Bool, true, false, get_or, ℕ, ◌+◌, ◌-◌, ◌≤◌, List, [], ◌∷◌, ◌++◌, length, refl, ap, sym, ◌∙◌, subst, arith}
 use Rattle.std.specs.List.{AllByRecursion}
-use Rattle.ffi3_type_rules.specs.declared.limits.TheConstants.{STACK, STACK_BYTES, STACK_TOP}
-use Rattle.ffi3_type_rules.specs.Isa.{isa_of}
-use Rattle.ffi3_type_rules.specs.Signature.{Signature}
-use Rattle.ffi3_type_rules.specs.Value.{ValueTree}
-use Rattle.ffi3_type_rules.proofs.Parts.{length_part}
-use Rattle.ffi3_place_rules.specs.declared.Loc.{Loc}
-use Rattle.ffi3_place_rules.specs.declared.Loc.TheVariants.{G, F, S}
-use Rattle.ffi3_place_rules.specs.Image.{register}
-use Rattle.ffi3_place_rules.specs.Standard.{Standard, block_bytes, frame_of, need_of, plan_of}
-use Rattle.ffi3_place_rules.specs.Agrees.{AgreesWithMachine}
-use Rattle.ffi3_run_rules.specs.Journal.{Entered, needs, IsEntry}
-use Rattle.ffi3_run_rules.proofs.Aligned.{entry_is_aligned}
+use Rattle.ffi3_type_spec.specs.declared.limits.TheConstants.{STACK, STACK_BYTES, STACK_TOP}
+use Rattle.ffi3_type_spec.specs.TargetIsa.{isa_of}
+use Rattle.ffi3_type_spec.specs.Signature.{Signature}
+use Rattle.ffi3_type_spec.specs.Value.{ValueTree}
+use Rattle.ffi3_type_spec.proofs.Parts.{length_part}
+use Rattle.ffi3_place_spec.specs.declared.Loc.{Loc}
+use Rattle.ffi3_place_spec.specs.declared.Loc.TheVariants.{G, F, S}
+use Rattle.ffi3_place_spec.specs.Image.{register}
+use Rattle.ffi3_place_spec.specs.Standard.{Standard, block_bytes, frame_of, need_of, plan_of}
+use Rattle.ffi3_place_spec.specs.Agrees.{AgreesWithMachine}
+use Rattle.ffi3_semantics_spec.specs.Journal.{Entered, needs, IsEntry}
+use Rattle.ffi3_semantics_spec.proofs.Aligned.{entry_is_aligned}
 use Rattle.ffi3_machine.specs.State.{State, after_enter, image_of}
 use Rattle.ffi3_machine.specs.Stubs.{Entry, Return}
 use Rattle.ffi3_stubs.specs.Calls.{steps_of}
-use Rattle.ffi3_pieces.specs.Passing.{by_exchange, steps_if}
-use Rattle.ffi3_pieces.specs.Stored.{IsPlace, SameAt, WroteWithin, with_journal_of}
+use Rattle.ffi3_machine_transfer.specs.Passing.{by_exchange, steps_if}
+use Rattle.ffi3_machine_transfer.specs.Stored.{IsPlace, SameAt, WroteWithin, with_journal_of}
 use Rattle.ffi3_caller.specs.Called.{HasComeBack, dropped_if, frame_start, frame_start_if}
 use Rattle.ffi3_callee.specs.Given.{ResultWrites}
 use Rattle.ffi3_callee.proofs.Beside.{wrote_down}

@@ -1,30 +1,31 @@
 -- The machine at ENTRY, once the arguments are stored, the slot is called and its trampoline has run.
 use Rattle.std.proofs.Common.{◌≡◌, ℕ, ◌+◌, ◌-◌, ◌%◌, ◌^◌, ◌≤◌, List, [], ◌∷◌, ◌++◌, length, refl, ap, sym, ◌∙◌, subst, arith}
 use Rattle.std.specs.List.{AllByRecursion}
-use Rattle.ffi3_type_rules.specs.declared.Isa.{Isa}
-use Rattle.ffi3_type_rules.specs.declared.Isa.TheVariants.{Amd64, Aarch64, Riscv}
-use Rattle.ffi3_type_rules.specs.declared.limits.TheConstants.{STACK, STACK_TOP}
-use Rattle.ffi3_type_rules.specs.Isa.{isa_of}
-use Rattle.ffi3_type_rules.specs.Signature.{Signature}
-use Rattle.ffi3_type_rules.specs.Value.{ValueTree}
-use Rattle.ffi3_place_rules.specs.declared.Loc.{Loc}
-use Rattle.ffi3_place_rules.specs.declared.Loc.TheVariants.{G, F, S}
-use Rattle.ffi3_place_rules.specs.Isa.{pushed_bytes, reserved_places, scribble, trampoline_registers, to_list}
-use Rattle.ffi3_place_rules.specs.Image.{Image, register}
-use Rattle.ffi3_place_rules.specs.Standard.{Standard, frame_of}
-use Rattle.ffi3_place_rules.specs.Agrees.{AgreesWithMachine, special}
-use Rattle.ffi3_place_rules.specs.Holds.{Holds, SameIn}
-use Rattle.ffi3_place_rules.specs.Sound.{Apart, IsNoneOf, IsSound}
+use Rattle.ffi3_type_spec.specs.declared.Isa.{Isa}
+use Rattle.ffi3_type_spec.specs.declared.Isa.TheVariants.{Amd64, Aarch64, Riscv}
+use Rattle.ffi3_type_spec.specs.declared.limits.TheConstants.{STACK, STACK_TOP}
+use Rattle.ffi3_type_spec.specs.TargetIsa.{isa_of}
+use Rattle.ffi3_type_spec.specs.Signature.{Signature}
+use Rattle.ffi3_type_spec.specs.Value.{ValueTree}
+use Rattle.ffi3_place_spec.specs.declared.Loc.{Loc}
+use Rattle.ffi3_place_spec.specs.declared.Loc.TheVariants.{G, F, S}
+use Rattle.ffi3_place_spec.specs.MachineRegisters.{pushed_bytes, reserved_places, trampoline_registers, to_list}
+use Rattle.ffi3_place_spec.specs.Scribble.{scribble}
+use Rattle.ffi3_place_spec.specs.Image.{Image, register}
+use Rattle.ffi3_place_spec.specs.Standard.{Standard, frame_of}
+use Rattle.ffi3_place_spec.specs.Agrees.{AgreesWithMachine, special}
+use Rattle.ffi3_place_spec.specs.Holds.{Holds, SameIn}
+use Rattle.ffi3_place_spec.specs.Sound.{Apart, IsNoneOf, IsSound}
 use Rattle.ffi3_machine.specs.State.{State, IsMachine, image_of, scribbled}
-use Rattle.ffi3_machine.specs.Step.{TakesSteps}
+use Rattle.ffi3_machine.specs.MachineStep.{TakesSteps}
 use Rattle.ffi3_machine.specs.Stubs.{Call}
 use Rattle.ffi3_stubs.specs.Calls.{steps_of}
 use Rattle.ffi3_closures.specs.Reaching.{reached}
-use Rattle.ffi3_pieces.specs.Passing.{by_exchange, passing, steps_if}
-use Rattle.ffi3_pieces.specs.Stored.{IsPlace, SameAt, WroteWithin, with_journal_of, word_in}
+use Rattle.ffi3_machine_transfer.specs.Passing.{by_exchange, passing, steps_if}
+use Rattle.ffi3_machine_transfer.specs.Stored.{IsPlace, SameAt, WroteWithin, with_journal_of, word_in}
 use Rattle.ffi3_caller.specs.Called.{SlotIsCalled, called_if}
 use Rattle.ffi3_marshal.proofs.Lawful.{each_first, each_rest, machine_places}
-use Rattle.ffi3_pieces.proofs.Stepping.{same_word_in}
+use Rattle.ffi3_machine_transfer.proofs.Stepping.{same_word_in}
 use Rattle.ffi3_callee.specs.Given.{ReservedStay}
 use Rattle.ffi3_callee.proofs.Laws.{each_both}
 use Rattle.ffi3_callee.proofs.Results.{register_word}

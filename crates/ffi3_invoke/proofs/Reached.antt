@@ -5,21 +5,22 @@ use Rattle.std.specs.List.{AllByRecursion}
 use Rattle.std.specs.Int.{w64, to_le_bytes}
 use Rattle.std.proofs.lemmas.Bool.{ne_eqb}
 use Rattle.std.proofs.lemmas.List.{get_or-set_same, get_or-set_other, length-set}
-use Rattle.ffi3_type_rules.specs.declared.Isa.{Isa}
-use Rattle.ffi3_type_rules.specs.declared.Isa.TheVariants.{Amd64, Aarch64, Riscv}
-use Rattle.ffi3_type_rules.specs.declared.limits.TheConstants.{ENTRY, RETURN, STACK, STACK_TOP}
-use Rattle.ffi3_type_rules.specs.Isa.{isa_of}
-use Rattle.ffi3_place_rules.specs.declared.Loc.{Loc}
-use Rattle.ffi3_place_rules.specs.declared.Loc.TheVariants.{G, F, S}
-use Rattle.ffi3_place_rules.specs.Isa.{closure_register, is_reserved, jump_register, link_register, pushed_bytes, reserved_places, scribble, trampoline_registers}
-use Rattle.ffi3_place_rules.specs.Sound.{IsNoneOf}
-use Rattle.ffi3_place_rules.proofs.Forbidden.{each_none_of, none_of}
+use Rattle.ffi3_type_spec.specs.declared.Isa.{Isa}
+use Rattle.ffi3_type_spec.specs.declared.Isa.TheVariants.{Amd64, Aarch64, Riscv}
+use Rattle.ffi3_type_spec.specs.declared.limits.TheConstants.{ENTRY, RETURN, STACK, STACK_TOP}
+use Rattle.ffi3_type_spec.specs.TargetIsa.{isa_of}
+use Rattle.ffi3_place_spec.specs.declared.Loc.{Loc}
+use Rattle.ffi3_place_spec.specs.declared.Loc.TheVariants.{G, F, S}
+use Rattle.ffi3_place_spec.specs.MachineRegisters.{closure_register, is_reserved, jump_register, link_register, pushed_bytes, reserved_places, trampoline_registers}
+use Rattle.ffi3_place_spec.specs.Scribble.{scribble}
+use Rattle.ffi3_place_spec.specs.Sound.{IsNoneOf}
+use Rattle.ffi3_place_spec.proofs.Forbidden.{each_none_of, none_of}
 use Rattle.ffi3_machine.specs.State.{State, HasReturnAddress, HasReturnAt, linked_stack, scribbled}
 use Rattle.ffi3_machine.specs.Scribbled.{get_or-scribbled_floating, get_or-scribbled_general}
 use Rattle.ffi3_closures.specs.Reaching.{jumped_through, reached}
-use Rattle.ffi3_pieces.specs.Stored.{IsPlace, word_in, WroteWithin, with_journal_of}
+use Rattle.ffi3_machine_transfer.specs.Stored.{IsPlace, word_in, WroteWithin, with_journal_of}
 use Rattle.ffi3_caller.specs.Called.{SlotIsCalled}
-use Rattle.ffi3_pieces.proofs.Putting.{mark_within}
+use Rattle.ffi3_machine_transfer.proofs.Putting.{mark_within}
 use Rattle.ffi3_marshal.proofs.Ranges.{above_range, below_range, range_length}
 
 -- ---- a trampoline

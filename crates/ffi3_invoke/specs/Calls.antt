@@ -2,27 +2,28 @@
 use Rattle.std.specs.Prelude.{◌≡◌, ℕ, ◌+◌, ◌-◌, ◌%◌, ◌^◌, ◌<◌, ◌≤◌, min, ⊤, List, [], ◌∷◌, ◌++◌, length, get_or}
 use Rattle.std.specs.Prelude.{slice_index}
 use Rattle.std.specs.List.{AllByRecursion}
-use Rattle.ffi3_type_rules.specs.declared.Target.{Target}
-use Rattle.ffi3_type_rules.specs.Isa.{isa_of}
-use Rattle.ffi3_type_rules.specs.Signature.{Signature}
-use Rattle.ffi3_type_rules.specs.Value.{ValueTree}
-use Rattle.ffi3_type_rules.specs.declared.limits.TheConstants.{ENTRY, RETURN, STACK, STACK_TOP}
-use Rattle.ffi3_place_rules.specs.declared.Loc.{Loc}
-use Rattle.ffi3_place_rules.specs.declared.SaveWord.{SaveWord}
-use Rattle.ffi3_place_rules.specs.declared.SaveWord.TheVariants.{Register, Hidden as HiddenWord, Spare}
-use Rattle.ffi3_place_rules.specs.Isa.{closure_register, link_register, scribble}
-use Rattle.ffi3_place_rules.specs.Image.{Image, register}
-use Rattle.ffi3_place_rules.specs.Event.{Event, enters, leaves}
-use Rattle.ffi3_place_rules.specs.Standard.{Standard, block_bytes, frame_of, need_of, plan_of}
-use Rattle.ffi3_place_rules.specs.Holds.{FillArguments, Holds, OwnsArguments, OwnsHidden, RegisterHolds, SameIn}
-use Rattle.ffi3_run_rules.specs.Journal.{Entered, needs, IsEntry, IsReturn}
+use Rattle.ffi3_type_spec.specs.declared.Target.{Target}
+use Rattle.ffi3_type_spec.specs.TargetIsa.{isa_of}
+use Rattle.ffi3_type_spec.specs.Signature.{Signature}
+use Rattle.ffi3_type_spec.specs.Value.{ValueTree}
+use Rattle.ffi3_type_spec.specs.declared.limits.TheConstants.{ENTRY, RETURN, STACK, STACK_TOP}
+use Rattle.ffi3_place_spec.specs.declared.Loc.{Loc}
+use Rattle.ffi3_place_spec.specs.declared.SaveWord.{SaveWord}
+use Rattle.ffi3_place_spec.specs.declared.SaveWord.TheVariants.{Register, Hidden as HiddenWord, Spare}
+use Rattle.ffi3_place_spec.specs.MachineRegisters.{closure_register, link_register}
+use Rattle.ffi3_place_spec.specs.Scribble.{scribble}
+use Rattle.ffi3_place_spec.specs.Image.{Image, register}
+use Rattle.ffi3_place_spec.specs.Event.{Event, enters, leaves}
+use Rattle.ffi3_place_spec.specs.Standard.{Standard, block_bytes, frame_of, need_of, plan_of}
+use Rattle.ffi3_place_spec.specs.Holds.{FillArguments, Holds, OwnsArguments, OwnsHidden, RegisterHolds, SameIn}
+use Rattle.ffi3_semantics_spec.specs.Journal.{Entered, needs, IsEntry, IsReturn}
 use Rattle.ffi3_machine.specs.State.{State, HasReturnAddress, HasReturnAt, image_of, scribbled, stack_at}
 use Rattle.ffi3_body.specs.SeenActivation.{arguments_in}
-use Rattle.ffi3_machine.specs.Step.{TakesSteps}
+use Rattle.ffi3_machine.specs.MachineStep.{TakesSteps}
 use Rattle.ffi3_machine.specs.Stubs.{Call, Entry, Exit, Return}
 use Rattle.ffi3_stubs.specs.Calls.{steps_of}
-use Rattle.ffi3_pieces.specs.Passing.{by_exchange, passing, steps_if}
-use Rattle.ffi3_pieces.specs.Stored.{WroteWithin, with_journal_of}
+use Rattle.ffi3_machine_transfer.specs.Passing.{by_exchange, passing, steps_if}
+use Rattle.ffi3_machine_transfer.specs.Stored.{WroteWithin, with_journal_of}
 use Rattle.ffi3_caller.specs.Called.{called_if}
 use Rattle.ffi3_callee.specs.Given.{IsAddressOf, ResultWrites}
 use Rattle.ffi3_callee.specs.Saved.{saved_word}

@@ -3,23 +3,25 @@
 #![tactic(auto)]
 
 ghost use Rattle.std.specs.Prelude.{◌≡◌, ◌+◌, ◌≤◌, IsSome, length, true};
-ghost use Rattle.ffi3_type_rules.specs.declared.limits.TheConstants.{STACK, STACK_TOP};
-ghost use Rattle.ffi3_type_rules.specs.Layout.{size_of};
-ghost use Rattle.ffi3_type_rules.specs.Tree.{trees_of};
-ghost use Rattle.ffi3_type_rules.specs.Value.{all_fit, fits, value_in, values_of};
+ghost use Rattle.ffi3_type_spec.specs.declared.limits.TheConstants.{STACK, STACK_TOP};
+ghost use Rattle.ffi3_type_spec.specs.Layout.{size_of};
+ghost use Rattle.ffi3_type_spec.specs.Tree.{trees_of};
+ghost use Rattle.ffi3_type_spec.specs.Value.{all_fit, fits, value_in, values_of};
 ghost use Rattle.ffi3_values.specs.ValueOf.{value_of};
-ghost use Rattle.ffi3_place_rules.specs.Standard.{frame_of, need_of};
-ghost use Rattle.ffi3_run_rules.specs.Closures.{closure_at};
+ghost use Rattle.ffi3_place_spec.specs.Standard.{frame_of, need_of};
+ghost use Rattle.ffi3_semantics_spec.specs.Closures.{closure_at};
 ghost use Rattle.ffi3_machine.specs.State.{IsSlot};
 ghost use Rattle.ffi3_closures.specs.Slots.{HoldsMap};
 ghost use Rattle.ffi3_callee.specs.Received.{IsIncoming};
 ghost use Rattle.ffi3_invoke.specs.Calls.{HasBegun, HasEnded, IsCalled};
 
-mod entering;
-mod passing;
-mod returning;
+mod callee_return;
+mod callee_side;
+mod caller_side;
 
-pub use entering::{accept, entered_closure};
+pub use callee_return::give_back;
+pub use callee_side::{accept, entered_closure};
+pub use caller_side::pass_arguments;
 use ffi3_callee::Incoming;
 use ffi3_caller::{come_back, drop_frame, load_result};
 use ffi3_cif::Cif;
@@ -27,8 +29,6 @@ use ffi3_closures::Table;
 use ffi3_machine::Machine;
 use ffi3_place::Abi;
 use ffi3_values::{Value, Values};
-pub use passing::pass_arguments;
-pub use returning::give_back;
 
 /// Calls the live closure at `ptr` by its trampoline, up to its callee, which has the arguments in its block. The
 /// journal has room for the entry and the return, as `Machine::journal_room` makes it for the bytes of the return

@@ -18,7 +18,7 @@ use Rattle.serde_json.specs.Events.{items_len}
 use Rattle.serde_json.specs.Find.{get, get_member, as_null, as_bool, as_number, as_str, as_array, as_object}
 use Rattle.serde_json.specs.Read.{number_of, of_json, of_items, of_members, max_depth, read}
 use Rattle.serde_json.proofs.Views.{get_member-put, get_member-put_other}
-use Rattle.ffi3_script_rules.specs.Language.{Key, required, is_key_of, has_only}
+use Rattle.ffi3_script_spec.specs.Language.{Key, required, is_key_of, has_only}
 use Rattle.ffi3_json.specs.Parts.{item_at, member_in, only_member}
 use Rattle.ffi3_json.proofs.Objects.{next, none_left, is_some-map}
 use Rattle.ffi3_json.specs.InText.{data_in, items_in, members_in, HasNumbers, HaveNumbers, each_is_key}

@@ -5,8 +5,8 @@ use Rattle.serde_json.specs.Data.{Data, array, Items, no_items, item, depth, ite
 use Rattle.serde_json.specs.Events.{items_len}
 use Rattle.serde_json.specs.View.{view, items_view}
 use Rattle.serde_json.specs.declared.value.Value.{Value}
-use Rattle.ffi3_type_rules.specs.Tree.{Tree, array_of}
-use Rattle.ffi3_script_rules.specs.Language.{JsonPath, Reason, Read, read, fault, read_map, and_then, under, at_item, read_type, read_array, read_count, read_each, HasShortArrays, HaveShortArrays}
+use Rattle.ffi3_type_spec.specs.Tree.{Tree, array_of}
+use Rattle.ffi3_script_spec.specs.Language.{JsonPath, Reason, Read, read, fault, read_map, and_then, under, at_item, read_type, read_array, read_count, read_each, HasShortArrays, HaveShortArrays}
 use Rattle.ffi3_json.specs.Parts.{item_at, items_from}
 
 -- ---- an item, and those after it

@@ -8,9 +8,9 @@ use Rattle.std.specs.Ordering.{match_ordering}
 use Rattle.serde_json.specs.Data.{Data, null, boolean, number, string, array, object, Items, Members, no_members, member, depth, members_depth}
 use Rattle.serde_json.specs.Find.{get, get_member, as_object, as_array}
 use Rattle.serde_json.specs.Events.{members_len}
-use Rattle.ffi3_type_rules.specs.Tree.{struct_of}
-use Rattle.ffi3_script_rules.specs.Language.{JsonPath, fault, read_map, not_a_type, under, read_type, read_types, read_composite, read_array, has_arrays, HasShortArrays, HaveShortMembers, is_key_of, has_only, first_missing}
-use Rattle.ffi3_script_rules.specs.Language as language
+use Rattle.ffi3_type_spec.specs.Tree.{struct_of}
+use Rattle.ffi3_script_spec.specs.Language.{JsonPath, fault, read_map, not_a_type, under, read_type, read_types, read_composite, read_array, has_arrays, HasShortArrays, HaveShortMembers, is_key_of, has_only, first_missing}
+use Rattle.ffi3_script_spec.specs.Language as language
 use Rattle.serde_json.specs.View.{members_view}
 use Rattle.serde_json.proofs.Views.{Entry}
 use Rattle.ffi3_json.specs.KeyOf.{key_of}

@@ -2,8 +2,8 @@
 use Rattle.std.proofs.Common.{◌≡◌, ℕ, ◌+◌, ◌<◌, ◌≤◌, List, length, drop, sym, ap, ◌∙◌}
 use Rattle.std.specs.Prelude.{slice_index}
 use Rattle.std.proofs.lemmas.List.{drop_more}
-use Rattle.ffi3_type_rules.specs.Tree.{Tree, tree_at, parts_of}
-use Rattle.ffi3_script_rules.specs.Language.{JsonPath, inside_type, key_of_parts, at_item, under}
+use Rattle.ffi3_type_spec.specs.Tree.{Tree, tree_at, parts_of}
+use Rattle.ffi3_script_spec.specs.Language.{JsonPath, inside_type, key_of_parts, at_item, under}
 use Rattle.ffi3_json.proofs.Objects.{none_left}
 
 -- one element number of a way

@@ -10,7 +10,7 @@ use Rattle.json.proofs.Grammar.{after_end_array-shorter, read_key-shorter}
 use Rattle.serde_json.specs.Data.{Data, null, boolean, number, string, array, object, Items, no_items, item, Members, no_members, member, put}
 use Rattle.serde_json.specs.Events.{items_len}
 use Rattle.serde_json.specs.Read.{number_of, of_json, of_items, of_members, max_depth, read}
-use Rattle.ffi3_script_rules.specs.Language.{HasShortArrays, HaveShortArrays, HaveShortMembers}
+use Rattle.ffi3_script_spec.specs.Language.{HasShortArrays, HaveShortArrays, HaveShortMembers}
 use Rattle.ffi3_json.specs.Within.{HasArraysWithin, HaveArraysWithin, HaveMembersWithin}
 
 -- ---- tokens

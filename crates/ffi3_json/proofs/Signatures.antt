@@ -4,15 +4,15 @@ use Rattle.std.proofs.lemmas.Result.{IfOk-weaker, IfErr-weaker}
 use Rattle.std.specs.Prelude.{unwrap_or}
 use Rattle.serde_json.specs.Data.{Data, null}
 use Rattle.serde_json.specs.Find.{get}
-use Rattle.ffi3_type_rules.specs.Tree.{Tree}
-use Rattle.ffi3_type_rules.specs.Signature.{Signature, SignatureFault, IsFirstSignatureFault, SignatureHasNoFault}
-use Rattle.ffi3_type_rules.proofs.FirstSignatureFaults.{signature_found_by_first, signature_none_found}
-use Rattle.ffi3_cdecl_rules.specs.Grammar.{Declaration}
-use Rattle.ffi3_cdecl_rules.specs.Reading.{Outcome, reads}
-use Rattle.ffi3_cdecl_rules.specs.Machine as declaration
-use Rattle.ffi3_script_rules.specs.Language.{JsonPath, Reason, Read, read, fault, and_then, read_map, check_object, signature_keys, read_type, read_types, read_fixed, value_under, under, read_shapes, object_signature, declared_signature, declaration_in, signature_by, read_signature, unless_faulty, place_of_fault, reason_of_fault}
-use Rattle.ffi3_script_rules.specs.SignatureReading.{IsSignature, IsNoSignature}
-use Rattle.ffi3_script_rules.proofs.Signatures.{signature_is_read, signature_is_refused, read_is_right}
+use Rattle.ffi3_type_spec.specs.Tree.{Tree}
+use Rattle.ffi3_type_spec.specs.Signature.{Signature, SignatureFault, IsFirstSignatureFault, SignatureHasNoFault}
+use Rattle.ffi3_type_spec.proofs.FirstSignatureFaults.{signature_found_by_first, signature_none_found}
+use Rattle.ffi3_cdecl_spec.specs.Grammar.{Declaration}
+use Rattle.ffi3_cdecl_spec.specs.Reading.{Outcome, reads}
+use Rattle.ffi3_cdecl_spec.specs.Machine as declaration
+use Rattle.ffi3_script_spec.specs.Language.{JsonPath, Reason, Read, read, fault, and_then, read_map, check_object, signature_keys, read_type, read_types, read_fixed, value_under, under, read_shapes, object_signature, declared_signature, declaration_in, signature_by, read_signature, unless_faulty, place_of_fault, reason_of_fault}
+use Rattle.ffi3_script_spec.specs.SignatureReading.{IsSignature, IsNoSignature}
+use Rattle.ffi3_script_spec.proofs.Signatures.{signature_is_read, signature_is_refused, read_is_right}
 use Rattle.ffi3_json.specs.Reports.{Reports}
 use Rattle.ffi3_json.specs.declared.fault.ScriptFault.{ScriptFault}
 use Rattle.ffi3_json.proofs.Tellings.{tells_more, tells_made, tells_part}

@@ -1,6 +1,6 @@
 -- What a refusal tells, told of another value.
 use Rattle.std.proofs.Common.{◌≡◌, sym, ◌∙◌, subst, Result, Ok, Err, IfErr, IsErrAnd}
-use Rattle.ffi3_script_rules.specs.Language.{JsonPath, Reason, Read, fault}
+use Rattle.ffi3_script_spec.specs.Language.{JsonPath, Reason, Read, fault}
 use Rattle.ffi3_json.specs.ReasonOf.{reason_of}
 use Rattle.ffi3_json.specs.Reports.{Reports}
 use Rattle.ffi3_json.specs.declared.fault.ScriptFault.{ScriptFault}

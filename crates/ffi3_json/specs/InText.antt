@@ -3,7 +3,7 @@ use Rattle.std.specs.Prelude.{◌≡◌, ◌&&◌, List, Bool, true, Some, unwra
 use Rattle.json.specs.Json as json
 use Rattle.serde_json.specs.Data.{Data, null, Items, no_items, Members, no_members}
 use Rattle.serde_json.specs.Read.{of_json, of_items, of_members}
-use Rattle.ffi3_script_rules.specs.Language.{Key, is_key_of}
+use Rattle.ffi3_script_spec.specs.Language.{Key, is_key_of}
 
 -- the data that a value of the grammar is
 abbrev pub data_in : json.Json → Data

@@ -1,5 +1,5 @@
 -- Which key a key of the code is.
-use Rattle.ffi3_script_rules.specs.Language as language
+use Rattle.ffi3_script_spec.specs.Language as language
 use Rattle.ffi3_json.specs.declared.keys.Key.{Key}
 
 abbrev pub key_of : Key → language.Key

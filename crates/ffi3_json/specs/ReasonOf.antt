@@ -1,6 +1,6 @@
 -- Which reason a reason of the code is.
 use Rattle.std.specs.Prelude.{string_bytes}
-use Rattle.ffi3_script_rules.specs.Language as language
+use Rattle.ffi3_script_spec.specs.Language as language
 use Rattle.ffi3_json.specs.declared.reason.Reason.{Reason}
 use Rattle.ffi3_json.specs.declared.reason.Reason.TheVariants.{NotAnObject, NotAnArray, UnknownKey, MissingKey}
 use Rattle.ffi3_json.specs.declared.reason.Reason.TheVariants.{VersionNotKnown, NotAType, UnknownType, NotACount}

@@ -1,7 +1,7 @@
 -- Which fault, place and reason an error of the code reports.
 use Rattle.std.specs.Prelude.{ℕ, ◌<◌, List, length}
-use Rattle.ffi3_script_rules.specs.Language.{JsonPath, Reason}
-use Rattle.ffi3_script_rules.specs.Reading.{max_length, IsNotJson}
+use Rattle.ffi3_script_spec.specs.Language.{JsonPath, Reason}
+use Rattle.ffi3_script_spec.specs.Reading.{max_length, IsNotJson}
 use Rattle.ffi3_json.specs.ReasonOf.{reason_of}
 use Rattle.ffi3_json.specs.declared.fault.ScriptFault.{ScriptFault}
 use Rattle.ffi3_json.specs.declared.fault.ScriptFault.TheVariants.{TooLong, BadJson, BadScript, NoMemory}

@@ -1,6 +1,6 @@
 -- Which step of a place a step of the code is.
 use Rattle.std.specs.Prelude.{string_bytes}
-use Rattle.ffi3_script_rules.specs.Step.{PathStep, key, number}
+use Rattle.ffi3_script_spec.specs.JsonPath.{PathStep, key, number}
 use Rattle.ffi3_json.specs.declared.place.Step.{Step}
 use Rattle.ffi3_json.specs.declared.place.Step.TheVariants.{Key, Number}
 use Rattle.ffi3_json.specs.declared.json_path.BorrowedStep.{BorrowedStep}

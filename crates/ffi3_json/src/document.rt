@@ -4,8 +4,8 @@ ghost use Rattle.json.specs.Value.{value_view, items_view, members_view};
 ghost use Rattle.serde_json.specs.Data.{no_members};
 ghost use Rattle.serde_json.specs.Read.{of_json, of_items, of_members};
 ghost use Rattle.serde_json.specs.View.{view};
-ghost use Rattle.ffi3_script_rules.specs.Language.{HasShortArrays};
-ghost use Rattle.ffi3_script_rules.specs.Reading.{IsJson, max_length};
+ghost use Rattle.ffi3_script_spec.specs.Language.{HasShortArrays};
+ghost use Rattle.ffi3_script_spec.specs.Reading.{IsJson, max_length};
 ghost use Rattle.ffi3_json.specs.Reports.{IsCauseOf};
 ghost use Rattle.ffi3_json.specs.Within.{HasArraysWithin};
 
@@ -50,7 +50,7 @@ pub struct Document<'a> {
 impl<'a> Model for Document<'a> {
     ghost use Rattle.json.specs.Value.{value_view};
     ghost use Rattle.serde_json.specs.Data.{Data};
-    ghost use Rattle.ffi3_script_rules.specs.Language.{HasShortArrays};
+    ghost use Rattle.ffi3_script_spec.specs.Language.{HasShortArrays};
     ghost use Rattle.ffi3_json.specs.DataCode.{data_code};
     ghost use Rattle.ffi3_json.specs.InText.{data_in, HasNumbers};
 

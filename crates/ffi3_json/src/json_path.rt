@@ -1,6 +1,6 @@
 // A place in a script, on the way to a value.
 ghost use Rattle.std.specs.Prelude.{◌≡◌, IfOk};
-ghost use Rattle.ffi3_script_rules.specs.Language.{under, at_item};
+ghost use Rattle.ffi3_script_spec.specs.Language.{under, at_item};
 
 use crate::{NoMemory, Where};
 use std::alloc::Global;
@@ -24,7 +24,7 @@ pub struct JsonPath<'a> {
 
 impl<'a> Model for JsonPath<'a> {
     ghost use Rattle.std.specs.Prelude.{List, ◌∷◌, [], ◌++◌, length, option_map, unwrap_or};
-    ghost use Rattle.ffi3_script_rules.specs.Step.{PathStep};
+    ghost use Rattle.ffi3_script_spec.specs.JsonPath.{PathStep};
     ghost use Rattle.ffi3_json.specs.StepOf.{borrowed_step_of};
 
     ghost Value = { List PathStep };

@@ -4,7 +4,7 @@ ghost use Rattle.serde_json.specs.Events.{items_len};
 ghost use Rattle.serde_json.specs.Find.{get, as_null, as_bool, as_number, as_str, as_array, as_object};
 ghost use Rattle.serde_json.specs.View.{number_view};
 ghost use Rattle.ffi3_json.specs.KeyOf.{key_of};
-ghost use Rattle.ffi3_script_rules.specs.Language.{has_only};
+ghost use Rattle.ffi3_script_spec.specs.Language.{has_only};
 ghost use Rattle.ffi3_json.specs.Parts.{item_at, only_member};
 ghost use Rattle.ffi3_json.specs.RefOf.{data_of, items_of, IsInRange, AreInRange};
 

@@ -1,7 +1,7 @@
 // The keys of an object.
 ghost use Rattle.std.specs.Prelude.{◌≡◌, ◌<◌, ◌++◌, ◌∷◌, [], OnOk, OnErr, length, map, slice_get, Some, option_map};
-ghost use Rattle.ffi3_script_rules.specs.Language as language;
-ghost use Rattle.ffi3_script_rules.specs.Language.{is_key_of, first_missing};
+ghost use Rattle.ffi3_script_spec.specs.Language as language;
+ghost use Rattle.ffi3_script_spec.specs.Language.{is_key_of, first_missing};
 ghost use Rattle.ffi3_json.specs.KeyOf.{key_of};
 ghost use Rattle.ffi3_json.specs.RefOf.{data_of, IsInRange};
 
@@ -45,7 +45,7 @@ pub struct Keys<'a> {
 
 impl<'a> Model for Keys<'a> {
     ghost use Rattle.std.specs.Prelude.{List, map};
-    ghost use Rattle.ffi3_script_rules.specs.Language as language;
+    ghost use Rattle.ffi3_script_spec.specs.Language as language;
     ghost use Rattle.ffi3_json.specs.KeyOf.{key_of};
 
     ghost Value = { List language.Key };

@@ -35,4 +35,4 @@ pub use signature::{bad_type, read_signature, read_signature_at, reason_of_signa
 pub use types::{read_type, read_type_at};
 
 /// The greatest length of a script in bytes.
-pub const MAX_LENGTH: usize = ffi3_type_rules::limits::LONGEST_SCRIPT as usize;
+pub const MAX_LENGTH: usize = ffi3_type_spec::limits::LONGEST_SCRIPT as usize;

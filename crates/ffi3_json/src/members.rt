@@ -2,7 +2,7 @@
 ghost use Rattle.std.specs.Prelude.{◌≡◌, map, option_map};
 ghost use Rattle.json.specs.Value.{members_view as text_members};
 ghost use Rattle.serde_json.specs.View.{view, members_view};
-ghost use Rattle.ffi3_script_rules.specs.Language.{has_only};
+ghost use Rattle.ffi3_script_spec.specs.Language.{has_only};
 ghost use Rattle.ffi3_json.specs.InText.{each_is_key};
 ghost use Rattle.ffi3_json.specs.KeyOf.{key_of};
 ghost use Rattle.ffi3_json.specs.Parts.{member_in};

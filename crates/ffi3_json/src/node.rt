@@ -4,7 +4,7 @@ ghost use Rattle.serde_json.specs.Data.{depth, items_depth};
 ghost use Rattle.serde_json.specs.Events.{items_len};
 ghost use Rattle.serde_json.specs.Find.{get, as_null, as_bool, as_number, as_str, as_array, as_u64};
 ghost use Rattle.serde_json.specs.View.{view, number_view};
-ghost use Rattle.ffi3_script_rules.specs.Language.{HasShortArrays};
+ghost use Rattle.ffi3_script_spec.specs.Language.{HasShortArrays};
 ghost use Rattle.ffi3_json.specs.Parts.{item_at, only_member};
 ghost use Rattle.ffi3_json.specs.RefOf.{data_of, IsInRange};
 
@@ -21,7 +21,7 @@ pub struct Node<'t, 'a> {
 
 impl<'t, 'a> Model for Node<'t, 'a> {
     ghost use Rattle.serde_json.specs.Data.{Data};
-    ghost use Rattle.ffi3_script_rules.specs.Language.{HasShortArrays};
+    ghost use Rattle.ffi3_script_spec.specs.Language.{HasShortArrays};
     ghost use Rattle.ffi3_json.specs.DataCode.{data_code};
     ghost use Rattle.ffi3_json.specs.RefOf.{data_of, IsInRange};
 
@@ -44,7 +44,7 @@ impl<'t, 'a> Model for Nodes<'t, 'a> {
     ghost use Rattle.std.specs.Prelude.{◌<◌, ◌^◌};
     ghost use Rattle.serde_json.specs.Data.{Items};
     ghost use Rattle.serde_json.specs.Events.{items_len};
-    ghost use Rattle.ffi3_script_rules.specs.Language.{HaveShortArrays};
+    ghost use Rattle.ffi3_script_spec.specs.Language.{HaveShortArrays};
     ghost use Rattle.ffi3_json.specs.DataCode.{items_code};
     ghost use Rattle.ffi3_json.specs.RefOf.{items_of, AreInRange};
 

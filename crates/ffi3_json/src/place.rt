@@ -1,6 +1,6 @@
 // A place in a script.
 ghost use Rattle.std.specs.Prelude.{◌≡◌, ◌<◌, ◌++◌, ◌∷◌, [], OnOk, OnErr, IfOk, length, slice_get, Some};
-ghost use Rattle.ffi3_script_rules.specs.Language.{under, at_item};
+ghost use Rattle.ffi3_script_spec.specs.Language.{under, at_item};
 ghost use Rattle.ffi3_json.specs.StepOf.{step_of};
 
 use crate::NoMemory;
@@ -36,7 +36,7 @@ pub struct Where {
 
 impl Model for Where {
     ghost use Rattle.std.specs.Prelude.{List, map};
-    ghost use Rattle.ffi3_script_rules.specs.Step.{PathStep};
+    ghost use Rattle.ffi3_script_spec.specs.JsonPath.{PathStep};
     ghost use Rattle.ffi3_json.specs.StepOf.{step_of};
 
     ghost Value = { List PathStep };

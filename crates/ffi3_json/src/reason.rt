@@ -1,7 +1,7 @@
 // Why a value is no part of a script.
 ghost use Rattle.std.specs.Prelude.{◌≡◌, ◌++◌, IfOk};
 ghost use Rattle.std.specs.Fmt.{decimal};
-ghost use Rattle.ffi3_script_rules.specs.ReasonText.{text_of_reason};
+ghost use Rattle.ffi3_script_spec.specs.ReasonText.{text_of_reason};
 ghost use Rattle.ffi3_json.specs.ReasonOf.{reason_of};
 
 use crate::{Bytes, NoMemory};

@@ -2,12 +2,12 @@
 ghost use Rattle.std.specs.Prelude.{◌≡◌, IfOk, IfErr, codes, get_or, map, option_map};
 ghost use Rattle.serde_json.specs.Find.{get};
 ghost use Rattle.serde_json.specs.View.{view};
-ghost use Rattle.ffi3_script_rules.specs.Language as language;
-ghost use Rattle.ffi3_script_rules.specs.Language.{read, read_shapes, object_signature, declared_signature, declaration_in, read_fixed, HasShortArrays, signature_keys, inside_type, place_of_fault, reason_of_type_fault, reason_of_fault, left_out_reason, key_of_parts, read_type, read_types, value_under, under};
-ghost use Rattle.ffi3_script_rules.specs.SignatureReading.{IsSignature, IsNoSignature};
-ghost use Rattle.ffi3_cdecl_rules.specs.Machine as declaration;
-ghost use Rattle.ffi3_type_rules.specs.Tree.{parts_of};
-ghost use Rattle.ffi3_type_rules.specs.Signature.{SignatureHasNoFault, IsSignatureFault};
+ghost use Rattle.ffi3_script_spec.specs.Language as language;
+ghost use Rattle.ffi3_script_spec.specs.Language.{read, read_shapes, object_signature, declared_signature, declaration_in, read_fixed, HasShortArrays, signature_keys, inside_type, place_of_fault, reason_of_type_fault, reason_of_fault, left_out_reason, key_of_parts, read_type, read_types, value_under, under};
+ghost use Rattle.ffi3_script_spec.specs.SignatureReading.{IsSignature, IsNoSignature};
+ghost use Rattle.ffi3_cdecl_spec.specs.Machine as declaration;
+ghost use Rattle.ffi3_type_spec.specs.Tree.{parts_of};
+ghost use Rattle.ffi3_type_spec.specs.Signature.{SignatureHasNoFault, IsSignatureFault};
 ghost use Rattle.ffi3_types.specs.TreeOf.{tree_of};
 ghost use Rattle.ffi3_types.specs.FaultOf.{fault_of, path_of};
 ghost use Rattle.ffi3_types.specs.SignatureFaultOf.{signature_fault_of};

@@ -1,11 +1,11 @@
 // Integers of 128 bits, as texts in decimal.
 ghost use Rattle.std.specs.Prelude.{◌≡◌, ◌<◌, IfOk, IfErr, length, drop, true, Some, pos, neg_ℤ};
 ghost use Rattle.std.specs.Str.{all_ascii_digits};
-ghost use Rattle.ffi3_type_rules.specs.Integer.{scalar_of, is_signed};
+ghost use Rattle.ffi3_type_spec.specs.Integer.{scalar_of, is_signed};
 ghost use Rattle.ffi3_types.specs.TreeOf.{tree_of};
-ghost use Rattle.ffi3_script_rules.specs.Language.{read, fault};
-ghost use Rattle.ffi3_script_rules.specs.Values.{is_counting, is_plain_number, is_negative_number, number_written};
-ghost use Rattle.ffi3_script_rules.specs.Values.{integer_written, in_range, read_integer, read_written, is_wide_type};
+ghost use Rattle.ffi3_script_spec.specs.Language.{read, fault};
+ghost use Rattle.ffi3_script_spec.specs.Values.{is_counting, is_plain_number, is_negative_number, number_written};
+ghost use Rattle.ffi3_script_spec.specs.Values.{integer_written, in_range, read_integer, read_written, is_wide_type};
 ghost use Rattle.ffi3_json.specs.Reports.{Reports};
 ghost use Rattle.ffi3_script_body.specs.ExprOf.{expression_of};
 

@@ -3,10 +3,10 @@
 
 ghost use Rattle.std.specs.Prelude.{◌≡◌, IfOk, IfErr, true};
 ghost use Rattle.serde_json.specs.View.{number_view};
-ghost use Rattle.ffi3_type_rules.specs.Integer.{is_number_type, scalar_of};
+ghost use Rattle.ffi3_type_spec.specs.Integer.{is_number_type, scalar_of};
 ghost use Rattle.ffi3_types.specs.TreeOf.{tree_of};
-ghost use Rattle.ffi3_script_rules.specs.Language.{read, fault};
-ghost use Rattle.ffi3_script_rules.specs.Values.{in_range, read_number, read_text};
+ghost use Rattle.ffi3_script_spec.specs.Language.{read, fault};
+ghost use Rattle.ffi3_script_spec.specs.Values.{in_range, read_number, read_text};
 ghost use Rattle.ffi3_json.specs.Reports.{Reports};
 ghost use Rattle.ffi3_script_body.specs.ExprOf.{expression_of};
 

@@ -1,10 +1,10 @@
 -- What stands at pc, from the bytes there.
 use Rattle.std.proofs.Common.{◌≡◌, ℕ, List, Option, Some, None, IfSome, subst, sym}
-use Rattle.ffi3_type_rules.specs.declared.Isa.{Isa}
-use Rattle.ffi3_type_rules.specs.Isa.{isa_of}
+use Rattle.ffi3_type_spec.specs.declared.Isa.{Isa}
+use Rattle.ffi3_type_spec.specs.TargetIsa.{isa_of}
 use Rattle.ffi3_isa.specs.declared.Instr.{Instr}
 use Rattle.ffi3_machine.specs.State.{State}
-use Rattle.ffi3_machine.specs.Step.{IsListed, IsAligned, IsInstructionAt, bytes_from}
+use Rattle.ffi3_machine.specs.MachineStep.{IsListed, IsAligned, IsInstructionAt, bytes_from}
 
 -- what stands at pc, the bytes begin with
 pub listed-at : (s : State) (t : Isa) (bytes : List ℕ) (i : Instr) (n : ℕ) → isa_of s.target ≡ t → bytes ≡ bytes_from (isa_of s.target) s.pc s.code → IsInstructionAt (isa_of s.target) s i n → IsListed t bytes i n

@@ -1,6 +1,6 @@
 -- The events of a journal, from its entries and the bytes that they share.
 use Rattle.std.specs.Prelude.{ℕ, ◌≤◌, ◌-◌, List, map, take, drop}
-use Rattle.ffi3_place_rules.specs.Event as events
+use Rattle.ffi3_place_spec.specs.Event as events
 use Rattle.ffi3_machine.specs.declared.journal.EventKind.{EventKind}
 use Rattle.ffi3_machine.specs.declared.journal.EventKind.TheVariants.{Enter, Leave}
 use Rattle.ffi3_machine.specs.declared.journal.Event.{Event}

@@ -1,6 +1,6 @@
 pub mod State
 pub mod Stubs
-pub mod Step
+pub mod MachineStep
 pub mod Scribbled
 pub mod Recorded
 pub mod Entries

@@ -1,6 +1,6 @@
 -- What contracts see of a journal and of one of its events.
 use Rattle.std.specs.Prelude.{ℕ, List, [], slice_index_or}
-use Rattle.ffi3_place_rules.specs.Event.{enters, Event}
+use Rattle.ffi3_place_spec.specs.Event.{enters, Event}
 
 pub record Recorded : Type 0 where
   pub events : List Event

@@ -1,8 +1,8 @@
 -- Facts about scribbled registers.
 use Rattle.std.proofs.Common.{◌≡◌, ℕ, ◌<◌, List, length, get_or, refl, arith}
 use Rattle.std.proofs.lemmas.List.FromFn.{length-map-range_with_len, get_or-map-range_with_len}
-use Rattle.ffi3_type_rules.specs.declared.Isa.{Isa}
-use Rattle.ffi3_type_rules.specs.declared.Isa.TheVariants.{Amd64, Aarch64, Riscv}
+use Rattle.ffi3_type_spec.specs.declared.Isa.{Isa}
+use Rattle.ffi3_type_spec.specs.declared.Isa.TheVariants.{Amd64, Aarch64, Riscv}
 use Rattle.ffi3_machine.specs.State.{scribble_floating, scribbled_register, scribbled_general, scribbled_floating}
 use Rattle.ffi3_machine.specs.State.{begun_general, IsZeroHeld}
 

@@ -3,19 +3,19 @@ use Rattle.std.specs.Prelude.{◌≡◌, ℕ, ◌+◌, ◌-◌, ◌*◌, ◌^◌
 use Rattle.std.specs.Prelude.{List, [], ◌∷◌, ◌++◌, map, length, get_or, take, drop, replicate, slice_index, slice_set}
 use Rattle.std.specs.List.{range_with_len, repeat, replace_range}
 use Rattle.std.specs.Int.{w64, to_le_bytes}
-use Rattle.ffi3_type_rules.specs.declared.Target.{Target}
-use Rattle.ffi3_type_rules.specs.declared.Isa.{Isa}
-use Rattle.ffi3_type_rules.specs.declared.Isa.TheVariants.{Amd64, Aarch64, Riscv}
-use Rattle.ffi3_type_rules.specs.Isa.{isa_of}
-use Rattle.ffi3_type_rules.specs.declared.limits.TheConstants.{STACK, STACK_TOP, STACK_BYTES, CODE, CODE_BYTES, RETURN}
-use Rattle.ffi3_type_rules.specs.declared.limits.TheConstants.{SLOTS, SLOT_BYTES}
+use Rattle.ffi3_type_spec.specs.declared.Target.{Target}
+use Rattle.ffi3_type_spec.specs.declared.Isa.{Isa}
+use Rattle.ffi3_type_spec.specs.declared.Isa.TheVariants.{Amd64, Aarch64, Riscv}
+use Rattle.ffi3_type_spec.specs.TargetIsa.{isa_of}
+use Rattle.ffi3_type_spec.specs.declared.limits.TheConstants.{STACK, STACK_TOP, STACK_BYTES, CODE, CODE_BYTES, RETURN}
+use Rattle.ffi3_type_spec.specs.declared.limits.TheConstants.{SLOTS, SLOT_BYTES}
 use Rattle.ffi3_machine.specs.declared.stub.TheConstants.{EXCHANGE_BYTES}
 use Rattle.ffi3_memory.specs.Memory.{number_of, low_bytes}
-use Rattle.ffi3_place_rules.specs.declared.Loc.TheVariants.{G, F}
-use Rattle.ffi3_place_rules.specs.Image.{Image}
-use Rattle.ffi3_place_rules.specs.Event.{EventKind, enters, leaves, Event}
-use Rattle.ffi3_place_rules.specs.Isa.{pushed_bytes, link_register, is_reserved, is_zero_register, closure_register}
-use Rattle.ffi3_place_rules.specs.Isa.{scribble}
+use Rattle.ffi3_place_spec.specs.declared.Loc.TheVariants.{G, F}
+use Rattle.ffi3_place_spec.specs.Image.{Image}
+use Rattle.ffi3_place_spec.specs.Event.{EventKind, enters, leaves, Event}
+use Rattle.ffi3_place_spec.specs.MachineRegisters.{pushed_bytes, link_register, is_reserved, is_zero_register, closure_register}
+use Rattle.ffi3_place_spec.specs.Scribble.{scribble}
 
 -- Byte i of `stack` stands at STACK + i, byte i of `code` at CODE + i, and byte i of `exchange` at EXCHANGE + i. `steps` counts instructions modulo 2^64. `mark` is the low-water mark: the lowest stack address written since the machine began, STACK_TOP where none was.
 -- There is room in the journal for `spare_events` further events with `spare_bytes` bytes of stack in all.

@@ -3,12 +3,13 @@ use Rattle.std.specs.Prelude.{ℕ, suc, ◌+◌, ◌-◌, ◌*◌, ◌/◌, ◌%
 use Rattle.std.specs.Prelude.{◌++◌, map, length, neg_ℤ}
 use Rattle.std.specs.List.{repeat, replace_range}
 use Rattle.std.specs.Int.{w32, to_le_bytes}
-use Rattle.ffi3_type_rules.specs.declared.Isa.{Isa}
-use Rattle.ffi3_type_rules.specs.declared.Isa.TheVariants.{Amd64, Aarch64, Riscv}
-use Rattle.ffi3_place_rules.specs.declared.Loc.{Loc}
-use Rattle.ffi3_place_rules.specs.declared.Loc.TheVariants.{G, F, S}
-use Rattle.ffi3_place_rules.specs.Isa.{stack_pointer, call_loads, entry_stores, callee_saved_words, stub_area, area_bytes}
-use Rattle.ffi3_place_rules.specs.Isa.{result_loads}
+use Rattle.ffi3_type_spec.specs.declared.Isa.{Isa}
+use Rattle.ffi3_type_spec.specs.declared.Isa.TheVariants.{Amd64, Aarch64, Riscv}
+use Rattle.ffi3_place_spec.specs.declared.Loc.{Loc}
+use Rattle.ffi3_place_spec.specs.declared.Loc.TheVariants.{G, F, S}
+use Rattle.ffi3_place_spec.specs.MachineRegisters.{stack_pointer}
+use Rattle.ffi3_place_spec.specs.StubRegisters.{call_loads, entry_stores, callee_saved_words, stub_area, area_bytes}
+use Rattle.ffi3_place_spec.specs.StubRegisters.{result_loads}
 use Rattle.ffi3_isa.specs.Amd64.{rex, mod_rm}
 use Rattle.ffi3_machine.specs.declared.stub.TheConstants.{STUBS, EXCHANGE}
 use Rattle.ffi3_machine.specs.declared.stub.Stub.{Stub}

@@ -1,7 +1,7 @@
 // Calls and returns: where they lead, and what the journal keeps of an entry and of a return.
 ghost use Rattle.std.specs.Prelude.{◌≡◌, ◌<◌, ◌≤◌, ◌+◌, ◌-◌, drop, length, OnOk, OnErr, take};
-ghost use Rattle.ffi3_type_rules.specs.Isa.{isa_of};
-ghost use Rattle.ffi3_place_rules.specs.Isa.{closure_register, link_register, pushed_bytes};
+ghost use Rattle.ffi3_type_spec.specs.TargetIsa.{isa_of};
+ghost use Rattle.ffi3_place_spec.specs.MachineRegisters.{closure_register, link_register, pushed_bytes};
 ghost use Rattle.ffi3_machine.specs.Stubs.{goes_for};
 ghost use Rattle.ffi3_machine.specs.Entries.{kind_of};
 ghost use Rattle.ffi3_machine.specs.State.{
@@ -19,8 +19,8 @@ ghost use Rattle.ffi3_machine.specs.State.{
 
 use crate::{ENTRY, Event, EventKind, Machine, NoMemory, RETURN, STACK, Stub};
 use ffi3_memory::Region;
-use ffi3_type_rules::Isa;
-use ffi3_type_rules::limits::STACK_BYTES;
+use ffi3_type_spec::Isa;
+use ffi3_type_spec::limits::STACK_BYTES;
 
 impl Machine {
     /// Calls the code at the slot `addr`: RETURN is the return address, and pc is `addr`. What is pushed lies in the

@@ -17,10 +17,10 @@ mod stub;
 pub use calls::closure_register;
 pub use ffi3_memory::NoMemory;
 use ffi3_memory::Region;
-use ffi3_type_rules::Isa;
-pub use ffi3_type_rules::Target;
-use ffi3_type_rules::limits::{CODE_BYTES, STACK_BYTES};
-pub use ffi3_type_rules::limits::{CODE, CODE_END, ENTRY, RETURN, STACK, STACK_TOP};
+use ffi3_type_spec::Isa;
+pub use ffi3_type_spec::Target;
+use ffi3_type_spec::limits::{CODE_BYTES, STACK_BYTES};
+pub use ffi3_type_spec::limits::{CODE, CODE_END, ENTRY, RETURN, STACK, STACK_TOP};
 pub use journal::{Event, EventKind, Journal};
 pub use regions::free_word;
 use regions::{begin_exchange, begin_stack, free_slots, new_region};
@@ -52,8 +52,8 @@ pub struct Machine {
 
 impl Model for Machine {
     ghost use Rattle.std.specs.Prelude.{◌≡◌};
-    ghost use Rattle.ffi3_type_rules.specs.declared.limits.TheConstants.{STACK, CODE};
-    ghost use Rattle.ffi3_type_rules.specs.Isa.{isa_of};
+    ghost use Rattle.ffi3_type_spec.specs.declared.limits.TheConstants.{STACK, CODE};
+    ghost use Rattle.ffi3_type_spec.specs.TargetIsa.{isa_of};
     ghost use Rattle.ffi3_machine.specs.declared.stub.TheConstants.{STUBS, EXCHANGE};
     ghost use Rattle.ffi3_machine.specs.Stubs.{begun_stubs};
     ghost use Rattle.ffi3_machine.specs.State.{State, HasForm};

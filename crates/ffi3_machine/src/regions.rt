@@ -5,8 +5,8 @@ ghost use Rattle.ffi3_machine.specs.State.{begun_code, begun_exchange, begun_sta
 
 use crate::{CODE, EXCHANGE, EXCHANGE_BYTES, NoMemory, STACK};
 use ffi3_memory::Region;
-use ffi3_type_rules::Isa;
-use ffi3_type_rules::limits::{CODE_BYTES, STACK_BYTES};
+use ffi3_type_spec::Isa;
+use ffi3_type_spec::limits::{CODE_BYTES, STACK_BYTES};
 use std::alloc::Global;
 
 /// A region that is filled later: what stands in it is not told, so that no goal has all bytes of a stack.

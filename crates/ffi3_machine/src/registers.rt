@@ -1,11 +1,11 @@
 // The registers of a machine, by their numbers in the target's instructions, with sp and pc.
 ghost use Rattle.std.specs.Prelude.{◌≡◌, ◌<◌, slice_index, true};
-ghost use Rattle.ffi3_type_rules.specs.Isa.{isa_of};
-ghost use Rattle.ffi3_place_rules.specs.Isa.{is_zero_register};
+ghost use Rattle.ffi3_type_spec.specs.TargetIsa.{isa_of};
+ghost use Rattle.ffi3_place_spec.specs.MachineRegisters.{is_zero_register};
 ghost use Rattle.ffi3_machine.specs.State.{IsMachine, with_floating, with_general, with_sp};
 
 use crate::Machine;
-use ffi3_type_rules::Isa;
+use ffi3_type_spec::Isa;
 
 impl Machine {
     /// General register `k`.

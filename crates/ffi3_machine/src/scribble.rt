@@ -1,6 +1,6 @@
 // Scribbles: every register but sp and the reserved ones gets a number of its own.
 ghost use Rattle.std.specs.Prelude.{◌≡◌, ◌+◌, ◌*◌, ◌%◌, ◌^◌};
-ghost use Rattle.ffi3_place_rules.specs.Isa.{is_reserved};
+ghost use Rattle.ffi3_place_spec.specs.MachineRegisters.{is_reserved};
 ghost use Rattle.ffi3_machine.specs.State.{
   scribble_floating,
   scribble_general,
@@ -10,7 +10,7 @@ ghost use Rattle.ffi3_machine.specs.State.{
 };
 
 use crate::Machine;
-use ffi3_type_rules::Isa;
+use ffi3_type_spec::Isa;
 
 impl Machine {
     /// Clobbers the registers: sets each but sp and the reserved ones to a number of its own, which tells `n` too.

@@ -2,10 +2,10 @@
 ghost use Rattle.std.specs.Prelude.{◌≡◌, ℕ, ◌<◌, ◌+◌, ◌-◌, ◌%◌, ◌^◌, IfSome, IfErr, OnOk, OnErr, Ok, Some, None, ◌==◌, unwrap_or};
 ghost use Rattle.ffi3_isa.specs.declared.Instr.{Instr};
 ghost use Rattle.ffi3_isa.specs.Registers.{HasRegistersBelow};
-ghost use Rattle.ffi3_type_rules.specs.Isa.{isa_of};
-ghost use Rattle.ffi3_place_rules.specs.Isa.{stack_pointer};
+ghost use Rattle.ffi3_type_spec.specs.TargetIsa.{isa_of};
+ghost use Rattle.ffi3_place_spec.specs.MachineRegisters.{stack_pointer};
 ghost use Rattle.ffi3_machine.specs.State.{IsMachine, State};
-ghost use Rattle.ffi3_machine.specs.Step.{
+ghost use Rattle.ffi3_machine.specs.MachineStep.{
   IsInRange,
   IsInstructionAt,
   Steps,
@@ -35,7 +35,7 @@ ghost use Rattle.ffi3_machine.specs.Step.{
 use crate::registers::is_zero_register;
 use crate::{CODE, CODE_END, EXCHANGE, EXCHANGE_END, Machine, STACK, STACK_TOP, STUBS, STUBS_END};
 use ffi3_isa::{Instr, decode_aarch64, decode_amd64, decode_riscv};
-use ffi3_type_rules::Isa;
+use ffi3_type_spec::Isa;
 
 /// A step that cannot be done, with its pc.
 #[derive(Clone, Copy, Debug, PartialEq, Eq)]

@@ -15,7 +15,7 @@ ghost use Rattle.ffi3_machine.specs.Stubs.{
 use crate::NoMemory;
 use crate::regions::free_word;
 use ffi3_memory::Region;
-use ffi3_type_rules::Isa;
+use ffi3_type_spec::Isa;
 use std::alloc::Global;
 
 /// The lowest address of the stubs.

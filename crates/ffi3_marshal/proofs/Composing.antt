@@ -1,11 +1,11 @@
 -- Stores one after another.
 use Rattle.std.proofs.Common.{◌≡◌, inl, inr, ⊎_elim, ℕ, ◌<◌, List, [], ◌∷◌, ◌++◌, get_or, sym, ◌∙◌, ap, refl, arith}
 use Rattle.std.specs.Int.{w64, to_le_bytes, from_le_bytes}
-use Rattle.ffi3_place_rules.specs.declared.Loc.{Loc}
-use Rattle.ffi3_place_rules.specs.declared.Loc.TheVariants.{G, F, S}
-use Rattle.ffi3_place_rules.specs.Image.{Image, byte_at, word_at}
-use Rattle.ffi3_place_rules.specs.Sound.{place_size, IsWhole, Apart, IsNoneOf}
-use Rattle.ffi3_place_rules.proofs.Words.{same_bytes}
+use Rattle.ffi3_place_spec.specs.declared.Loc.{Loc}
+use Rattle.ffi3_place_spec.specs.declared.Loc.TheVariants.{G, F, S}
+use Rattle.ffi3_place_spec.specs.Image.{Image, byte_at, word_at}
+use Rattle.ffi3_place_spec.specs.Sound.{place_size, IsWhole, Apart, IsNoneOf}
+use Rattle.ffi3_place_spec.proofs.Words.{same_bytes}
 use Rattle.ffi3_marshal.specs.Stored.{IsPlace, SameAt, Stays}
 
 pub apart_sym : (a b : Loc) → Apart a b → Apart b a

@@ -4,16 +4,16 @@ use Rattle.std.specs.Prelude.{◌/◌}
 use Rattle.std.specs.List.{AllByRecursion}
 use Rattle.std.proofs.lemmas.Bool.{cases_lt}
 use Rattle.std.proofs.lemmas.List.{ext_get_or}
-use Rattle.ffi3_type_rules.specs.Tree.{Tree}
-use Rattle.ffi3_type_rules.specs.Layout.{size_of}
-use Rattle.ffi3_type_rules.specs.Value.{part}
-use Rattle.ffi3_type_rules.proofs.Parts.{index_part, length_part, same_part}
-use Rattle.ffi3_place_rules.specs.declared.Loc.{Loc}
-use Rattle.ffi3_place_rules.specs.declared.Loc.TheVariants.{G, F, S}
-use Rattle.ffi3_place_rules.specs.declared.Place.{Place}
-use Rattle.ffi3_place_rules.specs.declared.Place.TheVariants.{Direct, ByRef}
-use Rattle.ffi3_place_rules.specs.Image.{Image}
-use Rattle.ffi3_place_rules.specs.Sound.{Apart, IsNoneOf, PlaceHasAll, stack_words, stack_words_for}
+use Rattle.ffi3_type_spec.specs.Tree.{Tree}
+use Rattle.ffi3_type_spec.specs.Layout.{size_of}
+use Rattle.ffi3_type_spec.specs.Value.{part}
+use Rattle.ffi3_type_spec.proofs.Parts.{index_part, length_part, same_part}
+use Rattle.ffi3_place_spec.specs.declared.Loc.{Loc}
+use Rattle.ffi3_place_spec.specs.declared.Loc.TheVariants.{G, F, S}
+use Rattle.ffi3_place_spec.specs.declared.Place.{Place}
+use Rattle.ffi3_place_spec.specs.declared.Place.TheVariants.{Direct, ByRef}
+use Rattle.ffi3_place_spec.specs.Image.{Image}
+use Rattle.ffi3_place_spec.specs.Sound.{Apart, IsNoneOf, PlaceHasAll, stack_words, stack_words_for}
 use Rattle.ffi3_marshal.specs.Stored.{SameAt, Stays, IsWordPut, stored}
 use Rattle.ffi3_marshal.specs.Standing.{CopyStands, IsCopied, PlaceKeeps, PlaceStands, place_uses}
 use Rattle.ffi3_marshal.proofs.Puts.{stored_inside, stored_outside, stored_size}

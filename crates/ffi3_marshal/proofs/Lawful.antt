@@ -3,29 +3,29 @@ use Rattle.std.proofs.Common.{◌≡◌, ℕ, zero, suc, ◌+◌, ◌*◌, ◌<�
 use Rattle.std.specs.Prelude.{⊤, ◌/◌, nat_le, nat_lt}
 use Rattle.std.proofs.lemmas.Bool.Decides.{nat_tests}
 use Rattle.std.specs.List.{AllByRecursion, flat_map}
-use Rattle.ffi3_type_rules.specs.declared.Target.{Target}
-use Rattle.ffi3_type_rules.specs.declared.Isa.{Isa}
-use Rattle.ffi3_type_rules.specs.declared.Isa.TheVariants.{Amd64, Aarch64, Riscv}
-use Rattle.ffi3_type_rules.specs.Isa.{isa_of}
-use Rattle.ffi3_type_rules.specs.Tree.{Tree, void, scalar, left_out, structure, array, no_trees, tree, tree_at}
-use Rattle.ffi3_type_rules.specs.Layout.{size_of, layouts, align_before, end_before}
-use Rattle.ffi3_type_rules.specs.Fault.{takes_void, HasNoFault, bad_typedef, left_out_type, out_of_place, left_out_kind, misshapen}
-use Rattle.ffi3_type_rules.specs.Signature.{Signature, SignatureHasNoFault, SignatureIsPlaced, bad_type, at_argument, in_argument, of_type}
-use Rattle.ffi3_type_rules.specs.declared.Role.{Role}
-use Rattle.ffi3_type_rules.specs.declared.Role.TheVariants.{AsArgument, AsElement, PlacedArgument}
-use Rattle.ffi3_type_rules.proofs.Placed.{faultless_is_plain}
-use Rattle.ffi3_type_rules.proofs.Faults.{fault_outside}
-use Rattle.ffi3_type_rules.proofs.Layouts.{least_multiple-above, scalar_room-bounds, size_le-end}
-use Rattle.ffi3_type_rules.proofs.Right.{argument_is_right, right_without_first}
-use Rattle.ffi3_type_rules.proofs.Tests.{and_right}
-use Rattle.ffi3_place_rules.specs.declared.Loc.{Loc}
-use Rattle.ffi3_place_rules.specs.declared.Loc.TheVariants.{G, F, S}
-use Rattle.ffi3_place_rules.specs.declared.Place.{Place}
-use Rattle.ffi3_place_rules.specs.declared.Place.TheVariants.{Direct, ByRef}
-use Rattle.ffi3_place_rules.specs.Standard.{Standard, plan_of, frame_of}
-use Rattle.ffi3_place_rules.specs.Agrees.{AgreesWithMachine}
-use Rattle.ffi3_place_rules.specs.Sound.{Apart, AreApart, IsNoneOf, IsFurther, IsSound, LiesIn, StandsIn, PlacesHaveAll, place_locs, piece_locs, copy_locs, stack_words, stack_words_for, argument_locs, hidden_locs, buffer_locs, call_locs, closed_to_results, closed_to_arguments}
-use Rattle.ffi3_place_rules.specs.Isa.{to_list}
+use Rattle.ffi3_type_spec.specs.declared.Target.{Target}
+use Rattle.ffi3_type_spec.specs.declared.Isa.{Isa}
+use Rattle.ffi3_type_spec.specs.declared.Isa.TheVariants.{Amd64, Aarch64, Riscv}
+use Rattle.ffi3_type_spec.specs.TargetIsa.{isa_of}
+use Rattle.ffi3_type_spec.specs.Tree.{Tree, void, scalar, left_out, structure, array, no_trees, tree, tree_at}
+use Rattle.ffi3_type_spec.specs.Layout.{size_of, layouts, align_before, end_before}
+use Rattle.ffi3_type_spec.specs.Fault.{takes_void, HasNoFault, bad_typedef, left_out_type, out_of_place, left_out_kind, misshapen}
+use Rattle.ffi3_type_spec.specs.Signature.{Signature, SignatureHasNoFault, SignatureIsPlaced, bad_type, at_argument, in_argument, of_type}
+use Rattle.ffi3_type_spec.specs.declared.Role.{Role}
+use Rattle.ffi3_type_spec.specs.declared.Role.TheVariants.{AsArgument, AsElement, PlacedArgument}
+use Rattle.ffi3_type_spec.proofs.Placed.{faultless_is_plain}
+use Rattle.ffi3_type_spec.proofs.Faults.{fault_outside}
+use Rattle.ffi3_type_spec.proofs.Layouts.{least_multiple-above, scalar_room-bounds, size_le-end}
+use Rattle.ffi3_type_spec.proofs.Right.{argument_is_right, right_without_first}
+use Rattle.ffi3_type_spec.proofs.Tests.{and_right}
+use Rattle.ffi3_place_spec.specs.declared.Loc.{Loc}
+use Rattle.ffi3_place_spec.specs.declared.Loc.TheVariants.{G, F, S}
+use Rattle.ffi3_place_spec.specs.declared.Place.{Place}
+use Rattle.ffi3_place_spec.specs.declared.Place.TheVariants.{Direct, ByRef}
+use Rattle.ffi3_place_spec.specs.Standard.{Standard, plan_of, frame_of}
+use Rattle.ffi3_place_spec.specs.Agrees.{AgreesWithMachine}
+use Rattle.ffi3_place_spec.specs.Sound.{Apart, AreApart, IsNoneOf, IsFurther, IsSound, LiesIn, StandsIn, PlacesHaveAll, place_locs, piece_locs, copy_locs, stack_words, stack_words_for, argument_locs, hidden_locs, buffer_locs, call_locs, closed_to_results, closed_to_arguments}
+use Rattle.ffi3_place_spec.specs.MachineRegisters.{to_list}
 use Rattle.ffi3_marshal.specs.Stored.{IsPlace, IsPlaceIn, IsWritable}
 use Rattle.ffi3_marshal.specs.Standing.{all_uses, AreReady, AreReadyIn}
 use Rattle.ffi3_marshal.proofs.Composing.{apart_sym}

@@ -2,15 +2,15 @@
 use Rattle.std.specs.Prelude.{true}
 use Rattle.std.proofs.Common.{◌≡◌, ℕ, ◌+◌, ◌-◌, ◌<◌, List, [], ◌∷◌, get_or, ap, ◌∙◌, arith}
 use Rattle.std.specs.List.{AllByRecursion}
-use Rattle.ffi3_type_rules.specs.Tree.{Tree}
-use Rattle.ffi3_type_rules.specs.Layout.{Leaf, leaves_of, scalar_size}
-use Rattle.ffi3_type_rules.specs.Value.{value_in, fits}
-use Rattle.ffi3_place_rules.specs.declared.Piece.{Piece}
-use Rattle.ffi3_place_rules.specs.declared.Place.{Place}
-use Rattle.ffi3_place_rules.specs.declared.Place.TheVariants.{Direct, ByRef}
-use Rattle.ffi3_place_rules.specs.Image.{Image, byte_at}
-use Rattle.ffi3_place_rules.specs.Holds.{leaf_bytes, Carries, LeavesStand, OwnsArgument, FillPieces, FillsArgument}
-use Rattle.ffi3_place_rules.proofs.Reading.{LeavesRead, ReadsLeaf, leaves_read}
+use Rattle.ffi3_type_spec.specs.Tree.{Tree}
+use Rattle.ffi3_type_spec.specs.Layout.{Leaf, leaves_of, scalar_size}
+use Rattle.ffi3_type_spec.specs.Value.{value_in, fits}
+use Rattle.ffi3_place_spec.specs.declared.Piece.{Piece}
+use Rattle.ffi3_place_spec.specs.declared.Place.{Place}
+use Rattle.ffi3_place_spec.specs.declared.Place.TheVariants.{Direct, ByRef}
+use Rattle.ffi3_place_spec.specs.Image.{Image, byte_at}
+use Rattle.ffi3_place_spec.specs.Holds.{leaf_bytes, Carries, LeavesStand, OwnsArgument, FillPieces, FillsArgument}
+use Rattle.ffi3_place_spec.proofs.Reading.{LeavesRead, ReadsLeaf, leaves_read}
 use Rattle.ffi3_marshal.specs.Stored.{PieceStands}
 use Rattle.ffi3_marshal.specs.Standing.{PlaceStands}
 

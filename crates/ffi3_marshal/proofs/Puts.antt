@@ -6,12 +6,12 @@ use Rattle.std.specs.List.{range_with_len}
 use Rattle.std.proofs.lemmas.List.FromFn.{get_or-map-range_with_len}
 use Rattle.std.proofs.lemmas.List.{ext_get_or, get_or-set_same, get_or-set_other, get_or_append_left, get_or-append_right, get_or-drop, length-append, length-take-le, length-drop}
 use Rattle.std.proofs.lemmas.Nat.{from_le_bytes-to_le_bytes_8}
-use Rattle.ffi3_place_rules.specs.declared.Loc.{Loc}
-use Rattle.ffi3_place_rules.specs.declared.Loc.TheVariants.{G, F, S}
-use Rattle.ffi3_place_rules.specs.declared.Piece.{Piece}
-use Rattle.ffi3_place_rules.specs.Image.{Image, byte_at, word_at}
-use Rattle.ffi3_place_rules.specs.Sound.{IsNoneOf, IsWhole, IsWithin}
-use Rattle.ffi3_type_rules.proofs.Parts.{index_part, length_part, below_part, inside_part, above_part}
+use Rattle.ffi3_place_spec.specs.declared.Loc.{Loc}
+use Rattle.ffi3_place_spec.specs.declared.Loc.TheVariants.{G, F, S}
+use Rattle.ffi3_place_spec.specs.declared.Piece.{Piece}
+use Rattle.ffi3_place_spec.specs.Image.{Image, byte_at, word_at}
+use Rattle.ffi3_place_spec.specs.Sound.{IsNoneOf, IsWhole, IsWithin}
+use Rattle.ffi3_type_spec.proofs.Parts.{index_part, length_part, below_part, inside_part, above_part}
 use Rattle.ffi3_marshal.specs.Stored.{HasLow, SameAt, Stays, HasBytes, IsPut, IsSet, IsWordPut, stored, with_floating, with_general}
 
 -- ---- words

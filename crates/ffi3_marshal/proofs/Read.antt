@@ -5,14 +5,14 @@ use Rattle.std.specs.List.{replace_range, range_with_len}
 use Rattle.std.proofs.lemmas.List.FromFn.{get_or-map-range_with_len, length-map-range_with_len}
 use Rattle.std.proofs.lemmas.Bool.{cases_lt}
 use Rattle.std.proofs.lemmas.List.{get_or-take, get_or-drop, get_or_append_left, get_or-append_right, get_or_past, get_or-replicate, length-take-le}
-use Rattle.ffi3_type_rules.specs.Value.{part}
-use Rattle.ffi3_type_rules.proofs.Parts.{index_part, length_part}
-use Rattle.ffi3_place_rules.specs.declared.Loc.{Loc}
-use Rattle.ffi3_place_rules.specs.declared.Loc.TheVariants.{S}
-use Rattle.ffi3_place_rules.specs.declared.Piece.{Piece}
-use Rattle.ffi3_place_rules.specs.Image.{Image, byte_at, word_at}
-use Rattle.ffi3_place_rules.specs.Sound.{IsWithin, place_size}
-use Rattle.ffi3_place_rules.proofs.Words.{same_number}
+use Rattle.ffi3_type_spec.specs.Value.{part}
+use Rattle.ffi3_type_spec.proofs.Parts.{index_part, length_part}
+use Rattle.ffi3_place_spec.specs.declared.Loc.{Loc}
+use Rattle.ffi3_place_spec.specs.declared.Loc.TheVariants.{S}
+use Rattle.ffi3_place_spec.specs.declared.Piece.{Piece}
+use Rattle.ffi3_place_spec.specs.Image.{Image, byte_at, word_at}
+use Rattle.ffi3_place_spec.specs.Sound.{IsWithin, place_size}
+use Rattle.ffi3_place_spec.proofs.Words.{same_number}
 use Rattle.ffi3_marshal.specs.Read.{AreBytesOf, IsPieceRead}
 use Rattle.ffi3_marshal.proofs.Ranges.{in_range, below_range, above_range, range_length}
 

@@ -2,15 +2,15 @@
 use Rattle.std.proofs.Common.{◌≡◌, ℕ, suc, zero, ◌+◌, ◌<◌, ◌≤◌, List, [], ◌∷◌, get_or, drop, length, subst, sym, ◌∙◌, arith}
 use Rattle.std.specs.List.{AllByRecursion}
 use Rattle.std.proofs.lemmas.List.{drop_all}
-use Rattle.ffi3_type_rules.specs.Tree.{Tree}
-use Rattle.ffi3_type_rules.specs.Value.{value_in}
-use Rattle.ffi3_place_rules.specs.declared.Loc.{Loc}
-use Rattle.ffi3_place_rules.specs.declared.Piece.{Piece}
-use Rattle.ffi3_place_rules.specs.Image.{Image}
-use Rattle.ffi3_place_rules.specs.Holds.{FillsAs}
-use Rattle.ffi3_place_rules.specs.Sound.{Apart, AreApart, IsNoneOf, IsPieceOf, piece_locs, place_size}
-use Rattle.ffi3_place_rules.proofs.Elements.{drop_read}
-use Rattle.ffi3_place_rules.proofs.Tests.{each_at}
+use Rattle.ffi3_type_spec.specs.Tree.{Tree}
+use Rattle.ffi3_type_spec.specs.Value.{value_in}
+use Rattle.ffi3_place_spec.specs.declared.Loc.{Loc}
+use Rattle.ffi3_place_spec.specs.declared.Piece.{Piece}
+use Rattle.ffi3_place_spec.specs.Image.{Image}
+use Rattle.ffi3_place_spec.specs.Holds.{FillsAs}
+use Rattle.ffi3_place_spec.specs.Sound.{Apart, AreApart, IsNoneOf, IsPieceOf, piece_locs, place_size}
+use Rattle.ffi3_place_spec.proofs.Elements.{drop_read}
+use Rattle.ffi3_place_spec.proofs.Tests.{each_at}
 use Rattle.ffi3_marshal.specs.Stored.{KeepsAbove, PieceStands, Stays, IsStored}
 use Rattle.ffi3_marshal.proofs.Composing.{apart_sym, same_byte, same_word_at, stays_none, stays_then}
 

@@ -1,16 +1,16 @@
 -- The places of arguments: which registers and bytes of the stack they use, that the arguments' bytes stand there, as steps towards `Holds`, which says it in the standards' words, and what a store keeps of them: `PlacesKeep`.
 use Rattle.std.specs.Prelude.{◌≡◌, ℕ, ◌+◌, ◌*◌, ◌/◌, ◌<◌, ◌≤◌, ⊤, List, [], ◌∷◌, ◌++◌, get_or, length}
 use Rattle.std.specs.List.{AllByRecursion}
-use Rattle.ffi3_type_rules.specs.declared.Target.{Target}
-use Rattle.ffi3_type_rules.specs.Tree.{Tree}
-use Rattle.ffi3_type_rules.specs.Layout.{size_of}
-use Rattle.ffi3_type_rules.specs.Value.{part}
-use Rattle.ffi3_place_rules.specs.declared.Loc.{Loc}
-use Rattle.ffi3_place_rules.specs.declared.Piece.{Piece}
-use Rattle.ffi3_place_rules.specs.declared.Place.{Place}
-use Rattle.ffi3_place_rules.specs.declared.Place.TheVariants.{Direct, ByRef}
-use Rattle.ffi3_place_rules.specs.Image.{Image, word_at}
-use Rattle.ffi3_place_rules.specs.Sound.{PlaceHasAll, piece_locs, place_locs, stack_words_for}
+use Rattle.ffi3_type_spec.specs.declared.Target.{Target}
+use Rattle.ffi3_type_spec.specs.Tree.{Tree}
+use Rattle.ffi3_type_spec.specs.Layout.{size_of}
+use Rattle.ffi3_type_spec.specs.Value.{part}
+use Rattle.ffi3_place_spec.specs.declared.Loc.{Loc}
+use Rattle.ffi3_place_spec.specs.declared.Piece.{Piece}
+use Rattle.ffi3_place_spec.specs.declared.Place.{Place}
+use Rattle.ffi3_place_spec.specs.declared.Place.TheVariants.{Direct, ByRef}
+use Rattle.ffi3_place_spec.specs.Image.{Image, word_at}
+use Rattle.ffi3_place_spec.specs.Sound.{PlaceHasAll, piece_locs, place_locs, stack_words_for}
 use Rattle.ffi3_marshal.specs.Stored.{IsPlaceIn, IsWritable, KeepsAbove, PieceStands, Stays}
 
 -- the registers and the bytes of the stack that an argument uses

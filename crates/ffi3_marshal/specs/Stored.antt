@@ -1,18 +1,18 @@
 -- Places of an image that a store changes, and those that it leaves. (Where the places are, each standard says: `plan_of`. What none of them asks to be written stays, by this library's promise.)
 use Rattle.std.specs.Prelude.{◌≡◌, ℕ, ◌+◌, ◌^◌, ◌<◌, ◌≤◌, ⊤, List, [], ◌∷◌, ◌++◌, take, drop, get_or, length, slice_set}
 use Rattle.std.specs.Int.{w64, to_le_bytes}
-use Rattle.ffi3_type_rules.specs.Tree.{Tree}
-use Rattle.ffi3_type_rules.specs.Value.{value_in}
-use Rattle.ffi3_type_rules.specs.declared.Target.{Target}
-use Rattle.ffi3_type_rules.specs.Isa.{isa_of}
-use Rattle.ffi3_place_rules.specs.declared.Loc.{Loc}
-use Rattle.ffi3_place_rules.specs.declared.Loc.TheVariants.{G, F, S}
-use Rattle.ffi3_place_rules.specs.declared.Ext.TheVariants.{Free}
-use Rattle.ffi3_place_rules.specs.declared.Piece.{Piece}
-use Rattle.ffi3_place_rules.specs.Image.{Image, byte_at, word_at}
-use Rattle.ffi3_place_rules.specs.Isa.{TakesWrites}
-use Rattle.ffi3_place_rules.specs.Holds.{FillsAs}
-use Rattle.ffi3_place_rules.specs.Sound.{place_size, IsWhole, IsNoneOf}
+use Rattle.ffi3_type_spec.specs.Tree.{Tree}
+use Rattle.ffi3_type_spec.specs.Value.{value_in}
+use Rattle.ffi3_type_spec.specs.declared.Target.{Target}
+use Rattle.ffi3_type_spec.specs.TargetIsa.{isa_of}
+use Rattle.ffi3_place_spec.specs.declared.Loc.{Loc}
+use Rattle.ffi3_place_spec.specs.declared.Loc.TheVariants.{G, F, S}
+use Rattle.ffi3_place_spec.specs.declared.Ext.TheVariants.{Free}
+use Rattle.ffi3_place_spec.specs.declared.Piece.{Piece}
+use Rattle.ffi3_place_spec.specs.Image.{Image, byte_at, word_at}
+use Rattle.ffi3_place_spec.specs.MachineRegisters.{TakesWrites}
+use Rattle.ffi3_place_spec.specs.Holds.{FillsAs}
+use Rattle.ffi3_place_spec.specs.Sound.{place_size, IsWhole, IsNoneOf}
 
 -- ---- what a write makes of an image
 

@@ -2,8 +2,8 @@
 #![tactic(auto)]
 
 ghost use Rattle.std.specs.Prelude.{◌≡◌, ℕ, ◌+◌, ◌<◌, ◌≤◌, length, get_or};
-ghost use Rattle.ffi3_type_rules.specs.Value.{part};
-ghost use Rattle.ffi3_place_rules.specs.Image.{Image};
+ghost use Rattle.ffi3_type_spec.specs.Value.{part};
+ghost use Rattle.ffi3_place_spec.specs.Image.{Image};
 ghost use Rattle.ffi3_marshal.specs.Stored.{stored, with_floating, with_general};
 
 mod putting;

@@ -1,8 +1,8 @@
 // Bytes and words at places of registers and stack.
 ghost use Rattle.std.specs.Prelude.{◌≡◌, ℕ, ◌+◌, ◌-◌, ◌/◌, ◌^◌, ◌<◌, ◌≤◌, length, get_or};
 ghost use Rattle.std.specs.Int.{w64, to_le_bytes};
-ghost use Rattle.ffi3_type_rules.specs.Layout.{size_of};
-ghost use Rattle.ffi3_place_rules.specs.Sound.{IsPieceOf, IsWhole, IsWithin, place_size};
+ghost use Rattle.ffi3_type_spec.specs.Layout.{size_of};
+ghost use Rattle.ffi3_place_spec.specs.Sound.{IsPieceOf, IsWhole, IsWithin, place_size};
 ghost use Rattle.ffi3_marshal.specs.Stored.{HasLow, IsPlaceIn, IsPut, IsSet, IsStored, IsWordPut, TakesAt};
 
 use crate::WriteImage;

@@ -1,7 +1,7 @@
 // Bytes that stand at places, read from registers and stack.
 ghost use Rattle.std.specs.Prelude.{◌≡◌, length};
-ghost use Rattle.ffi3_place_rules.specs.Image.{word_at};
-ghost use Rattle.ffi3_place_rules.specs.Sound.{IsWithin};
+ghost use Rattle.ffi3_place_spec.specs.Image.{word_at};
+ghost use Rattle.ffi3_place_spec.specs.Sound.{IsWithin};
 ghost use Rattle.ffi3_marshal.specs.Read.{AreBytesOf, IsPieceRead, IsThereIn};
 
 use crate::ReadImage;

@@ -1,9 +1,9 @@
 // Values at their places: what a caller stores for its callee.
 ghost use Rattle.std.specs.Prelude.{◌≡◌, ℕ, ◌+◌, ◌-◌, ◌^◌, ◌<◌, ◌≤◌, length};
 ghost use Rattle.std.specs.List.{AllByRecursion};
-ghost use Rattle.ffi3_type_rules.specs.Layout.{size_of};
-ghost use Rattle.ffi3_place_rules.specs.Holds.{OwnsHidden};
-ghost use Rattle.ffi3_place_rules.specs.Sound.{Apart, AreApart, hidden_locs, IsPieceOf, IsWhole, PlaceHasAll, piece_locs, place_locs, stack_words_for};
+ghost use Rattle.ffi3_type_spec.specs.Layout.{size_of};
+ghost use Rattle.ffi3_place_spec.specs.Holds.{OwnsHidden};
+ghost use Rattle.ffi3_place_spec.specs.Sound.{Apart, AreApart, hidden_locs, IsPieceOf, IsWhole, PlaceHasAll, piece_locs, place_locs, stack_words_for};
 ghost use Rattle.ffi3_marshal.specs.Stored.{IsPlaceIn, KeepsAbove, Stays, TakesAt};
 ghost use Rattle.ffi3_marshal.specs.Read.{HiddenLiesIn};
 ghost use Rattle.ffi3_marshal.specs.Standing.{IsCopied, PiecesStand, PlaceKeeps, PlaceLiesIn, PlaceStands, place_uses};

@@ -1,8 +1,8 @@
 // The numbers of narrow integers, from their bytes.
 ghost use Rattle.std.specs.Prelude.{◌≡◌, ◌-◌, ◌^◌, ◌≤◌, ◌<◌, ◌≤ℤ◌, ◌<ℤ◌, length, pos, negsuc, true};
 ghost use Rattle.std.specs.Int.{w16, w32, w64, from_le_bytes};
-ghost use Rattle.ffi3_type_rules.specs.Integer.{is_number_type, number_of, scalar_of, widened, widened_from_32};
-ghost use Rattle.ffi3_type_rules.specs.Layout.{size_of};
+ghost use Rattle.ffi3_type_spec.specs.Integer.{is_number_type, number_of, scalar_of, widened, widened_from_32};
+ghost use Rattle.ffi3_type_spec.specs.Layout.{size_of};
 ghost use Rattle.ffi3_types.specs.TreeOf.{tree_of};
 
 use ffi3_types::FfiType;

@@ -5,8 +5,8 @@ use Rattle.std.specs.Int.{w64, to_le_bytes, from_le_bytes}
 use Rattle.std.proofs.lemmas.Bool.{cases_lt}
 use Rattle.std.proofs.lemmas.Nat.{le_bytes_8}
 use Rattle.std.proofs.lemmas.List.{ext_get_or, get_or_past, length-append, length-take-le}
-use Rattle.ffi3_type_rules.specs.Value.{part}
-use Rattle.ffi3_type_rules.proofs.Parts.{index_part, length_part, same_part, below_part, inside_part, above_part}
+use Rattle.ffi3_type_spec.specs.Value.{part}
+use Rattle.ffi3_type_spec.proofs.Parts.{index_part, length_part, same_part, below_part, inside_part, above_part}
 use Rattle.ffi3_moves.specs.Play.{word_from, written_over}
 use Rattle.ffi3_moves.specs.Exchange.{AreBytes, words_from}
 

@@ -4,20 +4,20 @@ use Rattle.std.proofs.Common.{◌≡◌, ◌⊎◌, inl, inr, ℕ, zero, suc, �
 use Rattle.std.specs.List.{AllByRecursion}
 use Rattle.std.proofs.lemmas.Bool.{cases_lt, le-leb}
 use Rattle.std.proofs.lemmas.List.{ext_get_or, length-append}
-use Rattle.ffi3_type_rules.specs.declared.Target.{Target}
-use Rattle.ffi3_type_rules.specs.Tree.{Tree}
-use Rattle.ffi3_type_rules.specs.Layout.{Leaf, leaves_of, size_of}
-use Rattle.ffi3_type_rules.specs.Value.{ValueTree, value_in, fits, part}
-use Rattle.ffi3_type_rules.proofs.Parts.{index_part, length_part}
-use Rattle.ffi3_place_rules.specs.declared.Piece.{Piece}
-use Rattle.ffi3_place_rules.specs.declared.Place.{Place}
-use Rattle.ffi3_place_rules.specs.declared.Place.TheVariants.{Direct, ByRef}
-use Rattle.ffi3_place_rules.specs.Image.{Image, byte_at}
-use Rattle.ffi3_place_rules.specs.Standard.{round8}
-use Rattle.ffi3_place_rules.specs.Holds.{Carries, LeavesStand, OwnsArgument, OwnsArguments, leaf_bytes}
-use Rattle.ffi3_place_rules.specs.Sound.{place_size, CoversLeaf, HaveAll, IsPieceOf, piece_locs}
-use Rattle.ffi3_place_rules.proofs.Covered.{EndsIn, leaves_end}
-use Rattle.ffi3_place_rules.proofs.Reading.{LeavesRead, reads}
+use Rattle.ffi3_type_spec.specs.declared.Target.{Target}
+use Rattle.ffi3_type_spec.specs.Tree.{Tree}
+use Rattle.ffi3_type_spec.specs.Layout.{Leaf, leaves_of, size_of}
+use Rattle.ffi3_type_spec.specs.Value.{ValueTree, value_in, fits, part}
+use Rattle.ffi3_type_spec.proofs.Parts.{index_part, length_part}
+use Rattle.ffi3_place_spec.specs.declared.Piece.{Piece}
+use Rattle.ffi3_place_spec.specs.declared.Place.{Place}
+use Rattle.ffi3_place_spec.specs.declared.Place.TheVariants.{Direct, ByRef}
+use Rattle.ffi3_place_spec.specs.Image.{Image, byte_at}
+use Rattle.ffi3_place_spec.specs.Standard.{round8}
+use Rattle.ffi3_place_spec.specs.Holds.{Carries, LeavesStand, OwnsArgument, OwnsArguments, leaf_bytes}
+use Rattle.ffi3_place_spec.specs.Sound.{place_size, CoversLeaf, HaveAll, IsPieceOf, piece_locs}
+use Rattle.ffi3_place_spec.proofs.Covered.{EndsIn, leaves_end}
+use Rattle.ffi3_place_spec.proofs.Reading.{LeavesRead, reads}
 use Rattle.ffi3_marshal.specs.Standing.{AreReadyIn, IsReadyIn}
 use Rattle.ffi3_transfer.specs.Places.{IsPlace}
 use Rattle.ffi3_transfer.specs.Packed.{packed_size, values_packed, behind}

@@ -4,12 +4,12 @@ use Rattle.std.proofs.Common.{◌≡◌, ℕ, suc, ◌+◌, ◌*◌, ◌<◌, �
 use Rattle.std.proofs.lemmas.Int.{to_z_pos}
 use Rattle.std.proofs.lemmas.Bool.{cases_lt}
 use Rattle.std.specs.Int.{w8, w16, w32, w64, from_le_bytes, cast_signed, cast_unsigned}
-use Rattle.ffi3_type_rules.specs.Tree.{Scalar, u8, s8, u16, s16, u32, s32, u64, s64, u128, s128, float, double, pointer, x87, binary128, scalar}
-use Rattle.ffi3_type_rules.specs.Layout.{scalar_size, scalar_room}
-use Rattle.ffi3_type_rules.specs.Integer.{modulo, widened, widened_from_32}
-use Rattle.ffi3_type_rules.proofs.Widened.{read_negative}
-use Rattle.ffi3_place_rules.specs.declared.Ext.TheVariants.{Widen, Riscv}
-use Rattle.ffi3_place_rules.specs.Sound.{is_narrow_integer}
+use Rattle.ffi3_type_spec.specs.Tree.{Scalar, u8, s8, u16, s16, u32, s32, u64, s64, u128, s128, float, double, pointer, x87, binary128, scalar}
+use Rattle.ffi3_type_spec.specs.Layout.{scalar_size, scalar_room}
+use Rattle.ffi3_type_spec.specs.Integer.{modulo, widened, widened_from_32}
+use Rattle.ffi3_type_spec.proofs.Widened.{read_negative}
+use Rattle.ffi3_place_spec.specs.declared.Ext.TheVariants.{Widen, Riscv}
+use Rattle.ffi3_place_spec.specs.Sound.{is_narrow_integer}
 use Rattle.ffi3_moves.specs.declared.Kind.{Kind}
 use Rattle.ffi3_moves.specs.declared.Kind.TheVariants.{Zero, Sign}
 use Rattle.ffi3_moves.specs.Play.{to_eight, sign_of}

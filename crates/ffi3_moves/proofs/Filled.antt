@@ -6,7 +6,7 @@ use Rattle.std.specs.Int.{w64, to_le_bytes, from_le_bytes}
 use Rattle.std.proofs.lemmas.Bool.{cases_lt}
 use Rattle.std.proofs.lemmas.Nat.{le_bytes_8}
 use Rattle.std.proofs.lemmas.List.{get_or_append_left, get_or-append_right, get_or-replicate, get_or_past, length-append, length-replicate}
-use Rattle.ffi3_type_rules.specs.Value.{part}
+use Rattle.ffi3_type_spec.specs.Value.{part}
 use Rattle.ffi3_moves.specs.declared.Kind.{Kind}
 use Rattle.ffi3_moves.specs.declared.Kind.TheVariants.{Bytes, Zero, Sign, Ones, Number, Address, Behind}
 use Rattle.ffi3_moves.specs.Play.{moved, sign_of, to_eight}

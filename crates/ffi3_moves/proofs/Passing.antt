@@ -5,18 +5,18 @@ use Rattle.std.specs.Int.{w64, to_le_bytes, from_le_bytes}
 use Rattle.std.specs.List.{AllByRecursion}
 use Rattle.std.proofs.lemmas.Bool.{cases_lt}
 use Rattle.std.proofs.lemmas.List.{ext_get_or, get_or_append_left, length-append}
-use Rattle.ffi3_type_rules.specs.declared.Target.{Target}
-use Rattle.ffi3_type_rules.specs.Tree.{Tree}
-use Rattle.ffi3_type_rules.specs.Layout.{size_of}
-use Rattle.ffi3_type_rules.specs.Value.{part}
-use Rattle.ffi3_type_rules.proofs.Parts.{length_part}
-use Rattle.ffi3_type_rules.proofs.Widened.{to_le_bytes-below}
-use Rattle.ffi3_place_rules.specs.declared.Loc.{Loc}
-use Rattle.ffi3_place_rules.specs.declared.Place.{Place}
-use Rattle.ffi3_place_rules.specs.declared.Place.TheVariants.{Direct, ByRef}
-use Rattle.ffi3_place_rules.specs.Image.{Image}
-use Rattle.ffi3_place_rules.specs.Standard.{round8}
-use Rattle.ffi3_place_rules.specs.Sound.{place_size, IsWhole, AreApart, IsNoneOf}
+use Rattle.ffi3_type_spec.specs.declared.Target.{Target}
+use Rattle.ffi3_type_spec.specs.Tree.{Tree}
+use Rattle.ffi3_type_spec.specs.Layout.{size_of}
+use Rattle.ffi3_type_spec.specs.Value.{part}
+use Rattle.ffi3_type_spec.proofs.Parts.{length_part}
+use Rattle.ffi3_type_spec.proofs.Widened.{to_le_bytes-below}
+use Rattle.ffi3_place_spec.specs.declared.Loc.{Loc}
+use Rattle.ffi3_place_spec.specs.declared.Place.{Place}
+use Rattle.ffi3_place_spec.specs.declared.Place.TheVariants.{Direct, ByRef}
+use Rattle.ffi3_place_spec.specs.Image.{Image}
+use Rattle.ffi3_place_spec.specs.Standard.{round8}
+use Rattle.ffi3_place_spec.specs.Sound.{place_size, IsWhole, AreApart, IsNoneOf}
 use Rattle.ffi3_marshal.specs.Standing.{AreReadyIn, IsReadyIn, PlaceKeeps, PlaceStands, PlacesKeep, all_uses, place_uses}
 use Rattle.ffi3_marshal.specs.Stored.{IsWordPut, Stays, stored}
 use Rattle.ffi3_marshal.proofs.Composing.{stays_none}

@@ -5,11 +5,11 @@ use Rattle.std.specs.Int.{w64, to_le_bytes, from_le_bytes}
 use Rattle.std.proofs.lemmas.Bool.{cases_lt}
 use Rattle.std.proofs.lemmas.Nat.{from_le_bytes-to_le_bytes_8}
 use Rattle.std.proofs.lemmas.List.{get_or-append_right, get_or_append_left, get_or-drop, length-append}
-use Rattle.ffi3_type_rules.specs.Value.{part}
-use Rattle.ffi3_place_rules.specs.declared.Loc.{Loc}
-use Rattle.ffi3_place_rules.specs.declared.Loc.TheVariants.{G, F, S}
-use Rattle.ffi3_place_rules.specs.Image.{byte_at, word_at}
-use Rattle.ffi3_place_rules.specs.Sound.{place_size, IsWhole, Apart, IsNoneOf}
+use Rattle.ffi3_type_spec.specs.Value.{part}
+use Rattle.ffi3_place_spec.specs.declared.Loc.{Loc}
+use Rattle.ffi3_place_spec.specs.declared.Loc.TheVariants.{G, F, S}
+use Rattle.ffi3_place_spec.specs.Image.{byte_at, word_at}
+use Rattle.ffi3_place_spec.specs.Sound.{place_size, IsWhole, Apart, IsNoneOf}
 use Rattle.ffi3_marshal.specs.Stored.{IsPut, SameAt, Stays}
 use Rattle.ffi3_marshal.proofs.Puts.{word_there}
 use Rattle.ffi3_transfer.specs.Places.{IsPlace}

@@ -3,24 +3,24 @@ use Rattle.std.specs.Prelude.{Option, Some, None, option_map, true, ◌^◌}
 use Rattle.std.proofs.Common.{◌≡◌, ℕ, ◌+◌, ◌-◌, ◌<◌, ◌≤◌, List, [], ◌∷◌, length, refl, ap, sym, ◌∙◌, subst, arith, length-drop}
 use Rattle.std.specs.List.{AllByRecursion}
 use Rattle.std.proofs.lemmas.List.{take_all}
-use Rattle.ffi3_type_rules.specs.Isa.{isa_of}
-use Rattle.ffi3_type_rules.specs.Tree.{Tree, void}
-use Rattle.ffi3_type_rules.specs.Layout.{size_of}
-use Rattle.ffi3_type_rules.specs.Signature.{Signature, SignatureIsPlaced, HasNoLongDouble}
-use Rattle.ffi3_type_rules.specs.Value.{ValueTree, void_value, leaf_value, struct_value, value_in, fits, part}
-use Rattle.ffi3_type_rules.proofs.Parts.{length_part}
-use Rattle.ffi3_type_rules.proofs.Placed.{placed_result_is_laid_out}
-use Rattle.ffi3_type_rules.proofs.Fitting.{value_fits}
-use Rattle.ffi3_place_rules.specs.declared.Loc.{Loc}
-use Rattle.ffi3_place_rules.specs.declared.Loc.TheVariants.{G, F, S}
-use Rattle.ffi3_place_rules.specs.declared.Res.{Res}
-use Rattle.ffi3_place_rules.specs.declared.Res.TheVariants.{Nothing, Direct as DirectRes, Hidden}
-use Rattle.ffi3_place_rules.specs.Standard.{Standard, plan_of, frame_of}
-use Rattle.ffi3_place_rules.specs.Agrees.{AgreesWithMachine}
-use Rattle.ffi3_place_rules.specs.Isa.{to_list}
-use Rattle.ffi3_place_rules.specs.Holds.{Own, OwnResult, OwnsResult, FillsResult, RegisterHolds}
-use Rattle.ffi3_place_rules.specs.Sound.{AreApart, IsSound, LiesIn, StandsIn, ResultHasAll, piece_locs, result_locs}
-use Rattle.ffi3_place_rules.proofs.Further.{each_stands}
+use Rattle.ffi3_type_spec.specs.TargetIsa.{isa_of}
+use Rattle.ffi3_type_spec.specs.Tree.{Tree, void}
+use Rattle.ffi3_type_spec.specs.Layout.{size_of}
+use Rattle.ffi3_type_spec.specs.Signature.{Signature, SignatureIsPlaced, HasNoLongDouble}
+use Rattle.ffi3_type_spec.specs.Value.{ValueTree, void_value, leaf_value, struct_value, value_in, fits, part}
+use Rattle.ffi3_type_spec.proofs.Parts.{length_part}
+use Rattle.ffi3_type_spec.proofs.Placed.{placed_result_is_laid_out}
+use Rattle.ffi3_type_spec.proofs.Fitting.{value_fits}
+use Rattle.ffi3_place_spec.specs.declared.Loc.{Loc}
+use Rattle.ffi3_place_spec.specs.declared.Loc.TheVariants.{G, F, S}
+use Rattle.ffi3_place_spec.specs.declared.Res.{Res}
+use Rattle.ffi3_place_spec.specs.declared.Res.TheVariants.{Nothing, Direct as DirectRes, Hidden}
+use Rattle.ffi3_place_spec.specs.Standard.{Standard, plan_of, frame_of}
+use Rattle.ffi3_place_spec.specs.Agrees.{AgreesWithMachine}
+use Rattle.ffi3_place_spec.specs.MachineRegisters.{to_list}
+use Rattle.ffi3_place_spec.specs.Holds.{Own, OwnResult, OwnsResult, FillsResult, RegisterHolds}
+use Rattle.ffi3_place_spec.specs.Sound.{AreApart, IsSound, LiesIn, StandsIn, ResultHasAll, piece_locs, result_locs}
+use Rattle.ffi3_place_spec.proofs.Further.{each_stands}
 use Rattle.ffi3_marshal.specs.Standing.{PiecesStand}
 use Rattle.ffi3_marshal.specs.Stored.{Stays}
 use Rattle.ffi3_marshal.proofs.Arguments.{any_ready_all}

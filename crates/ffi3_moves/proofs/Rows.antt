@@ -1,13 +1,13 @@
 -- Worked rows, computed.
 use Rattle.std.specs.Prelude.{◌≡◌, List, [], ◌∷◌, ◌++◌, refl, replicate, Some, None}
-use Rattle.ffi3_type_rules.specs.Tree.{Tree, void, scalar, struct_of, u8, s8, u16, u32, s32, float, double, pointer, x87, binary128}
-use Rattle.ffi3_type_rules.specs.Layout.{least_multiple}
-use Rattle.ffi3_place_rules.proofs.Worked.{sig_of, variadic_from, triple}
-use Rattle.ffi3_amd64_rules.specs.Amd64.{amd64}
-use Rattle.ffi3_aapcs64_rules.specs.Aapcs64.{aapcs64}
-use Rattle.ffi3_riscv_rules.specs.Riscv.{riscv}
-use Rattle.ffi3_win64_rules.specs.Win64.{win64}
-use Rattle.ffi3_apple_rules.specs.Apple.{apple}
+use Rattle.ffi3_type_spec.specs.Tree.{Tree, void, scalar, struct_of, u8, s8, u16, u32, s32, float, double, pointer, x87, binary128}
+use Rattle.ffi3_type_spec.specs.Layout.{least_multiple}
+use Rattle.ffi3_place_spec.proofs.Worked.{sig_of, variadic_from, triple}
+use Rattle.ffi3_amd64_spec.specs.Amd64.{amd64}
+use Rattle.ffi3_aapcs64_spec.specs.Aapcs64.{aapcs64}
+use Rattle.ffi3_riscv_spec.specs.Riscv.{riscv}
+use Rattle.ffi3_win64_spec.specs.Win64.{win64}
+use Rattle.ffi3_apple_spec.specs.Apple.{apple}
 use Rattle.ffi3_moves.specs.declared.Kind.{Kind}
 use Rattle.ffi3_moves.specs.declared.Kind.TheVariants.{Bytes, Zero, Sign, Ones, Number, Address, Behind}
 use Rattle.ffi3_moves.specs.declared.Move.{Move}

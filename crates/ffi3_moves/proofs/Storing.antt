@@ -3,18 +3,18 @@ use Rattle.std.specs.Prelude.{true, ◌/◌, ◌^◌}
 use Rattle.std.proofs.Common.{◌≡◌, ℕ, ◌+◌, ◌-◌, ◌*◌, ◌<◌, ◌≤◌, List, [], ◌∷◌, ◌++◌, length, get_or, refl, ap, sym, ◌∙◌, subst, arith}
 use Rattle.std.specs.Int.{w64, to_le_bytes, from_le_bytes}
 use Rattle.std.specs.List.{AllByRecursion}
-use Rattle.ffi3_type_rules.specs.Tree.{Tree, Scalar, void, scalar, left_out, structure, array}
-use Rattle.ffi3_type_rules.specs.Layout.{scalar_size, size_of}
-use Rattle.ffi3_type_rules.specs.Integer.{scalar_of, widened, widened_from_32}
-use Rattle.ffi3_type_rules.specs.Value.{part}
-use Rattle.ffi3_type_rules.proofs.Parts.{index_part, length_part}
-use Rattle.ffi3_place_rules.specs.declared.Loc.{Loc}
-use Rattle.ffi3_place_rules.specs.declared.Loc.TheVariants.{G, F, S}
-use Rattle.ffi3_place_rules.specs.declared.Ext.{Ext}
-use Rattle.ffi3_place_rules.specs.declared.Ext.TheVariants.{Free, Widen, Riscv, Boxed}
-use Rattle.ffi3_place_rules.specs.declared.Piece.{Piece}
-use Rattle.ffi3_place_rules.specs.Image.{Image}
-use Rattle.ffi3_place_rules.specs.Sound.{place_size, IsWhole, Apart, AreApart, IsNoneOf, IsExtended, IsPieceOf, is_floating_place, is_narrow_integer, piece_locs}
+use Rattle.ffi3_type_spec.specs.Tree.{Tree, Scalar, void, scalar, left_out, structure, array}
+use Rattle.ffi3_type_spec.specs.Layout.{scalar_size, size_of}
+use Rattle.ffi3_type_spec.specs.Integer.{scalar_of, widened, widened_from_32}
+use Rattle.ffi3_type_spec.specs.Value.{part}
+use Rattle.ffi3_type_spec.proofs.Parts.{index_part, length_part}
+use Rattle.ffi3_place_spec.specs.declared.Loc.{Loc}
+use Rattle.ffi3_place_spec.specs.declared.Loc.TheVariants.{G, F, S}
+use Rattle.ffi3_place_spec.specs.declared.Ext.{Ext}
+use Rattle.ffi3_place_spec.specs.declared.Ext.TheVariants.{Free, Widen, Riscv, Boxed}
+use Rattle.ffi3_place_spec.specs.declared.Piece.{Piece}
+use Rattle.ffi3_place_spec.specs.Image.{Image}
+use Rattle.ffi3_place_spec.specs.Sound.{place_size, IsWhole, Apart, AreApart, IsNoneOf, IsExtended, IsPieceOf, is_floating_place, is_narrow_integer, piece_locs}
 use Rattle.ffi3_marshal.specs.Standing.{PiecesStand}
 use Rattle.ffi3_marshal.specs.Stored.{IsPut, IsStored, KeepsAbove, Stays}
 use Rattle.ffi3_marshal.proofs.Composing.{apart_sym, none_append, same_then, stays_none}

@@ -3,12 +3,12 @@ use Rattle.std.specs.Prelude.{◌/◌, ◌%◌, ⊤}
 use Rattle.std.proofs.Common.{◌≡◌, ℕ, ◌+◌, ◌-◌, ◌*◌, ◌<◌, ◌≤◌, List, [], ◌∷◌, length, get_or, ap, sym, ◌∙◌, subst, arith}
 use Rattle.std.specs.Int.{w64, to_le_bytes}
 use Rattle.std.specs.List.{AllByRecursion}
-use Rattle.ffi3_type_rules.specs.declared.Isa.{Isa}
-use Rattle.ffi3_type_rules.specs.declared.Isa.TheVariants.{Amd64, Aarch64, Riscv}
-use Rattle.ffi3_type_rules.specs.Signature.{Signature, HasNoLongDouble}
-use Rattle.ffi3_place_rules.specs.declared.Loc.{Loc}
-use Rattle.ffi3_place_rules.specs.declared.Loc.TheVariants.{G, F, S}
-use Rattle.ffi3_place_rules.specs.Sound.{Apart, IsNoneOf, LiesIn}
+use Rattle.ffi3_type_spec.specs.declared.Isa.{Isa}
+use Rattle.ffi3_type_spec.specs.declared.Isa.TheVariants.{Amd64, Aarch64, Riscv}
+use Rattle.ffi3_type_spec.specs.Signature.{Signature, HasNoLongDouble}
+use Rattle.ffi3_place_spec.specs.declared.Loc.{Loc}
+use Rattle.ffi3_place_spec.specs.declared.Loc.TheVariants.{G, F, S}
+use Rattle.ffi3_place_spec.specs.Sound.{Apart, IsNoneOf, LiesIn}
 use Rattle.ffi3_marshal.specs.Stored.{Stays}
 use Rattle.ffi3_moves.specs.Play.{frame_at, word_from}
 use Rattle.ffi3_moves.specs.Exchange.{AreBytes, image_at, words_from}

@@ -3,13 +3,13 @@ use Rattle.std.proofs.Common.{◌≡◌, ℕ, suc, ◌+◌, ◌-◌, ◌<◌, �
 use Rattle.std.proofs.lemmas.List.{map-append, length-map, length-append, length-set, take_more, take_all, drop_all}
 use Rattle.std.proofs.lemmas.List.Edits.{sets, sets-eq}
 use Rattle.std.proofs.lemmas.Bool.{le-leb, lt-leb}
-use Rattle.ffi3_type_rules.specs.Tree.{Tree}
-use Rattle.ffi3_type_rules.specs.Layout.{size_of}
-use Rattle.ffi3_place_rules.specs.declared.Piece.{Piece}
-use Rattle.ffi3_place_rules.specs.declared.Place.{Place}
-use Rattle.ffi3_place_rules.specs.declared.Place.TheVariants.{Direct, ByRef}
-use Rattle.ffi3_place_rules.specs.Standard.{round8}
-use Rattle.ffi3_place_rules.proofs.Elements.{drop_read}
+use Rattle.ffi3_type_spec.specs.Tree.{Tree}
+use Rattle.ffi3_type_spec.specs.Layout.{size_of}
+use Rattle.ffi3_place_spec.specs.declared.Piece.{Piece}
+use Rattle.ffi3_place_spec.specs.declared.Place.{Place}
+use Rattle.ffi3_place_spec.specs.declared.Place.TheVariants.{Direct, ByRef}
+use Rattle.ffi3_place_spec.specs.Standard.{round8}
+use Rattle.ffi3_place_spec.proofs.Elements.{drop_read}
 use Rattle.ffi3_moves.specs.declared.Move.{Move}
 use Rattle.ffi3_moves.specs.declared.told.ToldMove.{ToldMove}
 use Rattle.ffi3_moves.specs.Moves.{argument_in, argument_out, arguments_in, arguments_out, piece_in, piece_out, pieces_in, pieces_out}

@@ -3,22 +3,22 @@ use Rattle.std.specs.Prelude.{Option, Some, None, ◌^◌}
 use Rattle.std.proofs.Common.{◌≡◌, ℕ, ◌+◌, ◌-◌, ◌<◌, ◌≤◌, List, [], ◌∷◌, ◌++◌, drop, length, refl, sym, ◌∙◌, subst, arith, length-drop}
 use Rattle.std.proofs.lemmas.List.{length-append}
 use Rattle.std.specs.List.{AllByRecursion, flat_map}
-use Rattle.ffi3_type_rules.specs.declared.Target.{Target}
-use Rattle.ffi3_type_rules.specs.Isa.{isa_of}
-use Rattle.ffi3_type_rules.specs.Tree.{Tree}
-use Rattle.ffi3_type_rules.specs.Signature.{Signature, SignatureIsPlaced, HasNoLongDouble}
-use Rattle.ffi3_type_rules.proofs.Placed.{placed_argument_is_laid_out}
-use Rattle.ffi3_place_rules.specs.declared.Loc.{Loc}
-use Rattle.ffi3_place_rules.specs.declared.Loc.TheVariants.{G, F, S}
-use Rattle.ffi3_place_rules.specs.declared.Place.{Place}
-use Rattle.ffi3_place_rules.specs.declared.Res.{Res}
-use Rattle.ffi3_place_rules.specs.declared.Res.TheVariants.{Nothing, Direct as DirectRes, Hidden}
-use Rattle.ffi3_place_rules.specs.Isa.{to_list}
-use Rattle.ffi3_place_rules.specs.Image.{Image}
-use Rattle.ffi3_place_rules.specs.Agrees.{AgreesWithMachine}
-use Rattle.ffi3_place_rules.specs.Standard.{Standard, plan_of, frame_of}
-use Rattle.ffi3_place_rules.specs.Holds.{OwnsHidden, RegisterHolds}
-use Rattle.ffi3_place_rules.specs.Sound.{IsWhole, Apart, IsNoneOf, IsSound, argument_locs, buffer_locs, call_locs, copy_locs, hidden_locs, place_locs}
+use Rattle.ffi3_type_spec.specs.declared.Target.{Target}
+use Rattle.ffi3_type_spec.specs.TargetIsa.{isa_of}
+use Rattle.ffi3_type_spec.specs.Tree.{Tree}
+use Rattle.ffi3_type_spec.specs.Signature.{Signature, SignatureIsPlaced, HasNoLongDouble}
+use Rattle.ffi3_type_spec.proofs.Placed.{placed_argument_is_laid_out}
+use Rattle.ffi3_place_spec.specs.declared.Loc.{Loc}
+use Rattle.ffi3_place_spec.specs.declared.Loc.TheVariants.{G, F, S}
+use Rattle.ffi3_place_spec.specs.declared.Place.{Place}
+use Rattle.ffi3_place_spec.specs.declared.Res.{Res}
+use Rattle.ffi3_place_spec.specs.declared.Res.TheVariants.{Nothing, Direct as DirectRes, Hidden}
+use Rattle.ffi3_place_spec.specs.MachineRegisters.{to_list}
+use Rattle.ffi3_place_spec.specs.Image.{Image}
+use Rattle.ffi3_place_spec.specs.Agrees.{AgreesWithMachine}
+use Rattle.ffi3_place_spec.specs.Standard.{Standard, plan_of, frame_of}
+use Rattle.ffi3_place_spec.specs.Holds.{OwnsHidden, RegisterHolds}
+use Rattle.ffi3_place_spec.specs.Sound.{IsWhole, Apart, IsNoneOf, IsSound, argument_locs, buffer_locs, call_locs, copy_locs, hidden_locs, place_locs}
 use Rattle.ffi3_marshal.specs.Standing.{AreReadyIn, all_uses}
 use Rattle.ffi3_marshal.specs.Stored.{Stays}
 use Rattle.ffi3_marshal.proofs.Arguments.{any_ready_all, lies_more_in, places_keep}

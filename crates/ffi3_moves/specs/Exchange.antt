@@ -1,6 +1,6 @@
 -- What an exchange says of a machine: the registers are those words, and the stack is the return address and then the frame.
 use Rattle.std.specs.Prelude.{ℕ, zero, suc, ◌+◌, ◌<◌, List, [], ◌∷◌, ◌++◌, drop, get_or}
-use Rattle.ffi3_place_rules.specs.Image.{Image}
+use Rattle.ffi3_place_spec.specs.Image.{Image}
 use Rattle.ffi3_moves.specs.Play.{frame_at, word_from}
 
 -- each is a byte

@@ -1,20 +1,20 @@
 -- What it means that moves are played.
 use Rattle.std.specs.Prelude.{◌≡◌, ℕ, ◌+◌, ◌-◌, ◌/◌, ◌<◌, ◌≤◌, ⊤, List, [], get_or, length, Option, Some, None}
 use Rattle.std.specs.Int.{w64, to_le_bytes}
-use Rattle.ffi3_type_rules.specs.Tree.{Tree}
-use Rattle.ffi3_type_rules.specs.Layout.{size_of}
-use Rattle.ffi3_type_rules.specs.Signature.{Signature, HasNoLongDouble}
-use Rattle.ffi3_type_rules.specs.Value.{part, value_in}
-use Rattle.ffi3_place_rules.specs.declared.Loc.{Loc}
-use Rattle.ffi3_place_rules.specs.declared.Loc.TheVariants.{F}
-use Rattle.ffi3_place_rules.specs.declared.Res.{Res}
-use Rattle.ffi3_place_rules.specs.declared.Res.TheVariants.{Nothing, Direct as DirectRes, Hidden}
-use Rattle.ffi3_place_rules.specs.Image.{Image, word_at}
-use Rattle.ffi3_place_rules.specs.Isa.{to_list}
-use Rattle.ffi3_place_rules.specs.Locs.{piece_locs}
-use Rattle.ffi3_place_rules.specs.Standard.{Standard, plan_of}
-use Rattle.ffi3_place_rules.specs.Sound.{IsNoneOf}
-use Rattle.ffi3_place_rules.specs.Holds.{FillArguments, HoldsResult, OwnsArguments, RegisterHolds}
+use Rattle.ffi3_type_spec.specs.Tree.{Tree}
+use Rattle.ffi3_type_spec.specs.Layout.{size_of}
+use Rattle.ffi3_type_spec.specs.Signature.{Signature, HasNoLongDouble}
+use Rattle.ffi3_type_spec.specs.Value.{part, value_in}
+use Rattle.ffi3_place_spec.specs.declared.Loc.{Loc}
+use Rattle.ffi3_place_spec.specs.declared.Loc.TheVariants.{F}
+use Rattle.ffi3_place_spec.specs.declared.Res.{Res}
+use Rattle.ffi3_place_spec.specs.declared.Res.TheVariants.{Nothing, Direct as DirectRes, Hidden}
+use Rattle.ffi3_place_spec.specs.Image.{Image, word_at}
+use Rattle.ffi3_place_spec.specs.MachineRegisters.{to_list}
+use Rattle.ffi3_place_spec.specs.Locs.{piece_locs}
+use Rattle.ffi3_place_spec.specs.Standard.{Standard, plan_of}
+use Rattle.ffi3_place_spec.specs.Sound.{IsNoneOf}
+use Rattle.ffi3_place_spec.specs.Holds.{FillArguments, HoldsResult, OwnsArguments, RegisterHolds}
 use Rattle.ffi3_transfer.specs.Calls.{IsCallStored, ResultKeeps, stored_locs}
 use Rattle.ffi3_marshal.specs.Standing.{PlacesKeep}
 use Rattle.ffi3_marshal.specs.Stored.{Stays}

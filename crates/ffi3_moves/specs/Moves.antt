@@ -1,19 +1,19 @@
 -- The moves of a call, by the places of its plan: those of its caller and of its callee, for arguments and for the result. Values stand one after another, each from a multiple of 8 on. (No standard has moves: each place and what fills it are the standard's own, and `Laws` says of these lists, when they are played, what the standard asks for.)
 use Rattle.std.specs.Prelude.{ℕ, ◌+◌, ◌*◌, Bool, ◌||◌, ◌==◌, cond, List, [], ◌∷◌, ◌++◌, map, Option, Some, None, option_map}
-use Rattle.ffi3_type_rules.specs.Tree.{Tree, Scalar}
-use Rattle.ffi3_type_rules.specs.Layout.{size_of, scalar_size}
-use Rattle.ffi3_type_rules.specs.Integer.{is_signed, scalar_of}
-use Rattle.ffi3_type_rules.specs.Signature.{Signature}
-use Rattle.ffi3_place_rules.specs.declared.Loc.{Loc}
-use Rattle.ffi3_place_rules.specs.declared.Loc.TheVariants.{G, F, S}
-use Rattle.ffi3_place_rules.specs.declared.Ext.{Ext}
-use Rattle.ffi3_place_rules.specs.declared.Ext.TheVariants.{Free, Widen, Riscv, Boxed}
-use Rattle.ffi3_place_rules.specs.declared.Piece.{Piece}
-use Rattle.ffi3_place_rules.specs.declared.Place.{Place}
-use Rattle.ffi3_place_rules.specs.declared.Place.TheVariants.{Direct, ByRef}
-use Rattle.ffi3_place_rules.specs.declared.Res.{Res}
-use Rattle.ffi3_place_rules.specs.declared.Res.TheVariants.{Nothing, Direct as DirectRes, Hidden}
-use Rattle.ffi3_place_rules.specs.Standard.{Standard, plan_of, round8}
+use Rattle.ffi3_type_spec.specs.Tree.{Tree, Scalar}
+use Rattle.ffi3_type_spec.specs.Layout.{size_of, scalar_size}
+use Rattle.ffi3_type_spec.specs.Integer.{is_signed, scalar_of}
+use Rattle.ffi3_type_spec.specs.Signature.{Signature}
+use Rattle.ffi3_place_spec.specs.declared.Loc.{Loc}
+use Rattle.ffi3_place_spec.specs.declared.Loc.TheVariants.{G, F, S}
+use Rattle.ffi3_place_spec.specs.declared.Ext.{Ext}
+use Rattle.ffi3_place_spec.specs.declared.Ext.TheVariants.{Free, Widen, Riscv, Boxed}
+use Rattle.ffi3_place_spec.specs.declared.Piece.{Piece}
+use Rattle.ffi3_place_spec.specs.declared.Place.{Place}
+use Rattle.ffi3_place_spec.specs.declared.Place.TheVariants.{Direct, ByRef}
+use Rattle.ffi3_place_spec.specs.declared.Res.{Res}
+use Rattle.ffi3_place_spec.specs.declared.Res.TheVariants.{Nothing, Direct as DirectRes, Hidden}
+use Rattle.ffi3_place_spec.specs.Standard.{Standard, plan_of, round8}
 use Rattle.ffi3_moves.specs.declared.Kind.{Kind}
 use Rattle.ffi3_moves.specs.declared.Kind.TheVariants.{Bytes, Zero, Sign, Ones, Number, Address, Behind}
 use Rattle.ffi3_moves.specs.declared.Move.{Move}

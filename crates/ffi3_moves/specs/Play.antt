@@ -1,7 +1,7 @@
 -- What moves do: bytes go from one memory to another, between the values of a call and an exchange, which has a place for each register and the frame's bytes behind them.
 use Rattle.std.specs.Prelude.{ℕ, ◌+◌, ◌-◌, ◌*◌, ◌/◌, ◌&&◌, cond, nat_le, List, [], ◌∷◌, ◌++◌, take, drop, length, replicate, get_or}
 use Rattle.std.specs.Int.{w64, to_le_bytes, from_le_bytes}
-use Rattle.ffi3_type_rules.specs.Value.{part}
+use Rattle.ffi3_type_spec.specs.Value.{part}
 use Rattle.ffi3_moves.specs.declared.Kind.{Kind}
 use Rattle.ffi3_moves.specs.declared.Kind.TheVariants.{Bytes, Zero, Sign, Ones, Number, Address, Behind}
 use Rattle.ffi3_moves.specs.declared.Move.{Move}

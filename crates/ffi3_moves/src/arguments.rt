@@ -1,6 +1,6 @@
 // The moves of the arguments of a call: its caller's, and its callee's.
 ghost use Rattle.std.specs.Prelude.{◌≡◌, ◌<◌, ◌^◌, ◌++◌, IfOk, OnOk};
-ghost use Rattle.ffi3_place_rules.specs.Standard.{plan_of};
+ghost use Rattle.ffi3_place_spec.specs.Standard.{plan_of};
 ghost use Rattle.ffi3_moves.specs.Moves.{argument_in, argument_out, arguments_in, arguments_out, collect_moves, count_in, store_moves};
 
 use crate::kinds::exchange_at;
@@ -8,7 +8,7 @@ use crate::pieces::{push_pieces_in, push_pieces_out};
 use crate::{FRAME_AT, Kind, Move, Moves};
 use ffi3_cif::Placed;
 use ffi3_place::{Abi, Loc, Place};
-use ffi3_type_rules::round_up;
+use ffi3_type_spec::round_up;
 use ffi3_types::{CheckedType, NoMemory};
 use std::alloc::Global;
 

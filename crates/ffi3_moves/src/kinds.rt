@@ -1,7 +1,7 @@
 // What is in a move of one piece.
 ghost use Rattle.std.specs.Prelude.{◌≡◌, ◌<◌, ◌^◌, ◌||◌, ◌==◌};
-ghost use Rattle.ffi3_type_rules.specs.Integer.{is_signed, scalar_of};
-ghost use Rattle.ffi3_type_rules.specs.Layout.{scalar_size};
+ghost use Rattle.ffi3_type_spec.specs.Integer.{is_signed, scalar_of};
+ghost use Rattle.ffi3_type_spec.specs.Layout.{scalar_size};
 ghost use Rattle.ffi3_types.specs.TreeOf.{tree_of};
 ghost use Rattle.ffi3_moves.specs.Moves.{by_sign, exchange_at, filling, piece_in, piece_out};
 

@@ -1,9 +1,9 @@
 // What whoever plays the moves of a call has done.
 ghost use Rattle.std.specs.Prelude.{◌≡◌, ◌+◌, ◌-◌, ◌^◌, ◌<◌, ◌≤◌, ◌++◌, [], List, length};
-ghost use Rattle.ffi3_type_rules.specs.Layout.{size_of};
-ghost use Rattle.ffi3_type_rules.specs.Value.{ValueTree, value_in};
-ghost use Rattle.ffi3_place_rules.specs.Holds.{Own, OwnResult};
-ghost use Rattle.ffi3_place_rules.specs.Standard.{frame_of, plan_of};
+ghost use Rattle.ffi3_type_spec.specs.Layout.{size_of};
+ghost use Rattle.ffi3_type_spec.specs.Value.{ValueTree, value_in};
+ghost use Rattle.ffi3_place_spec.specs.Holds.{Own, OwnResult};
+ghost use Rattle.ffi3_place_spec.specs.Standard.{frame_of, plan_of};
 ghost use Rattle.ffi3_transfer.specs.Packed.{packed_size, values_packed};
 ghost use Rattle.ffi3_moves.specs.Exchange.{image_at};
 ghost use Rattle.ffi3_moves.specs.Laws.{ArePassed, ArePassedWith, IsInBuffer, IsReturned, address_of, with_address, with_returned};

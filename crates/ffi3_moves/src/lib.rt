@@ -25,7 +25,7 @@ mod results;
 mod told;
 
 pub use arguments::{moves_to_collect, moves_to_store};
-use ffi3_place_rules::Listed;
+use ffi3_place_spec::Listed;
 pub use laws::{collect_law, give_law, load_law, store_law};
 pub use results::{hidden_move, moves_to_give, moves_to_load, returned_at};
 pub use told::{

@@ -1,8 +1,8 @@
 // The moves of a call, as C has them, straight into an array of whoever asks for them: no memory is taken.
 ghost use Rattle.std.specs.Prelude.{◌≡◌, ◌+◌, ◌<◌, ◌≤◌, ◌^◌, ℕ, SomeIff, OnSome, None, [], ◌∷◌, length, map};
 ghost use Rattle.std.proofs.lemmas.List.Edits.{sets};
-ghost use Rattle.ffi3_type_rules.specs.Tree.{Tree};
-ghost use Rattle.ffi3_place_rules.specs.Standard.{plan_of};
+ghost use Rattle.ffi3_type_spec.specs.Tree.{Tree};
+ghost use Rattle.ffi3_place_spec.specs.Standard.{plan_of};
 ghost use Rattle.ffi3_moves.specs.Moves.{argument_in, argument_out, arguments_in, arguments_out, collect_moves, count_in, give_moves, hidden_move, load_moves, moves_of, pieces_in, pieces_out, result_in, result_out, store_moves};
 ghost use Rattle.ffi3_moves.specs.Told.{kind_number, told_in, told_move};
 
@@ -10,7 +10,7 @@ use crate::kinds::{exchange_at, piece_in, piece_out};
 use crate::{FRAME_AT, Kind, Move, hidden_move};
 use ffi3_cif::Placed;
 use ffi3_place::{Abi, Loc, Pieces, Place, Res};
-use ffi3_type_rules::round_up;
+use ffi3_type_spec::round_up;
 use ffi3_types::CheckedType;
 
 /// A move: C's `struct ffi3_move`.

@@ -1,12 +1,12 @@
 -- One byte of a pass.
 use Rattle.std.proofs.Common.{◌≡◌, ℕ, zero, suc, ◌+◌, ◌-◌, ◌<◌, ◌≤◌, List, ◌++◌, length, get_or, drop, ap, sym, subst, ◌∙◌, arith}
 use Rattle.std.proofs.lemmas.List.{drop_more, drop_all, append-nil, append_assoc}
-use Rattle.ffi3_cdecl_rules.specs.Tokens.{wide, Sign, Token, Found, blank, skipped, nothing_known, found, found_in}
-use Rattle.ffi3_cdecl_rules.specs.Grammar.{Declaration}
-use Rattle.ffi3_cdecl_rules.specs.Reading.{IsReadingIn, reads}
-use Rattle.ffi3_names_rules.specs.Names.{AreNames}
-use Rattle.ffi3_names_rules.specs.Scan.{Spot, told, next, names_found, names_over, names_in}
-use Rattle.ffi3_names_rules.proofs.Naming.{name_laws}
+use Rattle.ffi3_cdecl_spec.specs.Tokens.{wide, Sign, Token, Found, blank, skipped, nothing_known, found, found_in}
+use Rattle.ffi3_cdecl_spec.specs.Grammar.{Declaration}
+use Rattle.ffi3_cdecl_spec.specs.Reading.{IsReadingIn, reads}
+use Rattle.ffi3_names_spec.specs.Names.{AreNames}
+use Rattle.ffi3_names_spec.specs.Scan.{Spot, told, next, names_found, names_over, names_in}
+use Rattle.ffi3_names_spec.proofs.Naming.{name_laws}
 
 over_inside : (c : Sign) (bs : List ℕ) (at inside : ℕ) (s : Spot) → at < length bs → 0 < inside → names_over c inside s (drop at bs) ≡ names_over c (inside - 1) s (drop (at + 1) bs)
 over_inside c bs at zero s h some = absurd (omega (arith, some))

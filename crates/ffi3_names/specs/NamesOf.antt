@@ -1,6 +1,6 @@
 -- Which spots and names those of the code are.
 use Rattle.std.specs.Prelude.{ℕ, List, [], ◌∷◌, map, Option, Some, None}
-use Rattle.ffi3_names_rules.specs.Scan as scan
+use Rattle.ffi3_names_spec.specs.Scan as scan
 use Rattle.ffi3_names.specs.declared.spot.Bracket.{Bracket}
 use Rattle.ffi3_names.specs.declared.spot.Bracket.TheVariants as b
 use Rattle.ffi3_names.specs.declared.spot.Spot.{Spot}

@@ -1,10 +1,10 @@
 // The names of a prototype's parameters, found in one pass over its bytes.
 ghost use Rattle.std.specs.Prelude.{◌≡◌, ◌++◌, IfOk, OnOk, [], get_or};
-ghost use Rattle.ffi3_cdecl_rules.specs.Tokens.{wide};
-ghost use Rattle.ffi3_cdecl_rules.specs.Grammar.{Declaration};
-ghost use Rattle.ffi3_cdecl_rules.specs.Reading.{IsReadingIn, reads};
-ghost use Rattle.ffi3_names_rules.specs.Names.{AreNames};
-ghost use Rattle.ffi3_names_rules.specs.Scan.{names_in, next, told};
+ghost use Rattle.ffi3_cdecl_spec.specs.Tokens.{wide};
+ghost use Rattle.ffi3_cdecl_spec.specs.Grammar.{Declaration};
+ghost use Rattle.ffi3_cdecl_spec.specs.Reading.{IsReadingIn, reads};
+ghost use Rattle.ffi3_names_spec.specs.Names.{AreNames};
+ghost use Rattle.ffi3_names_spec.specs.Scan.{names_in, next, told};
 ghost use Rattle.ffi3_cdecl.specs.TokenOf.{sign_of, token_of};
 ghost use Rattle.ffi3_names.specs.NamesOf.{names_of, spot_of, told_of};
 

@@ -1,12 +1,12 @@
 -- No signature of the natives has a fault.
 use Rattle.std.proofs.Common.{◌≡◌, All, ℕ, zero, suc, ◌<◌, false, length, refl, arith}
-use Rattle.ffi3_type_rules.specs.Tree.{Scalar, scalar, tree_at, s64, pointer}
-use Rattle.ffi3_type_rules.specs.Layout.{has_long_double}
-use Rattle.ffi3_type_rules.specs.declared.Role.{Role}
-use Rattle.ffi3_type_rules.specs.declared.Role.TheVariants.{AsArgument}
-use Rattle.ffi3_type_rules.specs.Signature.{SignatureHasNoFault, for_calls}
-use Rattle.ffi3_type_rules.proofs.Faults.{scalar_faults}
-use Rattle.ffi3_type_rules.proofs.Signatures.{IsSuited, right_with_no_fixed}
+use Rattle.ffi3_type_spec.specs.Tree.{Scalar, scalar, tree_at, s64, pointer}
+use Rattle.ffi3_type_spec.specs.Layout.{has_long_double}
+use Rattle.ffi3_type_spec.specs.declared.Role.{Role}
+use Rattle.ffi3_type_spec.specs.declared.Role.TheVariants.{AsArgument}
+use Rattle.ffi3_type_spec.specs.Signature.{SignatureHasNoFault, for_calls}
+use Rattle.ffi3_type_spec.proofs.Faults.{scalar_faults}
+use Rattle.ffi3_type_spec.proofs.Signatures.{IsSuited, right_with_no_fixed}
 use Rattle.ffi3_natives.specs.Natives.{number_signature, closure_signature, numbers_signature, calling_signatures, sum3_signatures}
 
 -- a scalar that is no long double stands anywhere

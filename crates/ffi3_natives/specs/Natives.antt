@@ -1,11 +1,11 @@
 -- The natives: by which signature each is called, and what it does.
 use Rattle.std.specs.Prelude.{ℕ, List, [], ◌∷◌, None, slice_index_or}
 use Rattle.std.specs.Int.{w64, from_le_bytes}
-use Rattle.ffi3_type_rules.specs.Tree.{scalar, s64, pointer}
-use Rattle.ffi3_type_rules.specs.Signature.{Signature}
-use Rattle.ffi3_type_rules.specs.Integer.{sum_of}
-use Rattle.ffi3_type_rules.specs.Value.{ValueTree, void_value, leaf_value, bytes_of}
-use Rattle.ffi3_run_rules.specs.Move.{Behaviour, Move, call, return}
+use Rattle.ffi3_type_spec.specs.Tree.{scalar, s64, pointer}
+use Rattle.ffi3_type_spec.specs.Signature.{Signature}
+use Rattle.ffi3_type_spec.specs.Integer.{sum_of}
+use Rattle.ffi3_type_spec.specs.Value.{ValueTree, void_value, leaf_value, bytes_of}
+use Rattle.ffi3_semantics_spec.specs.Move.{Behaviour, Move, call, return}
 
 -- sint64(sint64)
 abbrev pub number_signature : Signature

@@ -1,9 +1,9 @@
 // What the natives that call a closure share: their signatures, calls of the closure, and their end.
 ghost use Rattle.std.specs.Prelude.{◌≡◌, ◌<◌, IfOk, length, slice_index_or, true};
-ghost use Rattle.ffi3_type_rules.specs.Tree.{scalar, s64};
-ghost use Rattle.ffi3_type_rules.specs.Value.{fits, void_value};
+ghost use Rattle.ffi3_type_spec.specs.Tree.{scalar, s64};
+ghost use Rattle.ffi3_type_spec.specs.Value.{fits, void_value};
 ghost use Rattle.ffi3_values.specs.ValueOf.{value_of};
-ghost use Rattle.ffi3_run_rules.specs.Move.{MoveFits, return};
+ghost use Rattle.ffi3_semantics_spec.specs.Move.{MoveFits, return};
 ghost use Rattle.ffi3_body.specs.MoveOf.{move_of};
 ghost use Rattle.ffi3_body.specs.SeenActivation.{arguments_of};
 ghost use Rattle.ffi3_natives.specs.Natives.{call_on, calling_signatures, closure_signature, number_signature};

@@ -16,7 +16,7 @@ pub struct Sum3 {
 
 impl Model for Sum3 {
     ghost use Rattle.std.specs.Prelude.{◌≡◌, List};
-    ghost use Rattle.ffi3_type_rules.specs.Signature.{Signature, signature_list_code};
+    ghost use Rattle.ffi3_type_spec.specs.Signature.{Signature, signature_list_code};
     ghost use Rattle.ffi3_natives.specs.Natives.{sum3_signatures};
 
     ghost Value = { List Signature };

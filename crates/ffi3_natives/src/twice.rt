@@ -17,7 +17,7 @@ pub struct Twice {
 
 impl Model for Twice {
     ghost use Rattle.std.specs.Prelude.{◌≡◌, List};
-    ghost use Rattle.ffi3_type_rules.specs.Signature.{Signature, signature_list_code};
+    ghost use Rattle.ffi3_type_spec.specs.Signature.{Signature, signature_list_code};
     ghost use Rattle.ffi3_natives.specs.Natives.{calling_signatures};
 
     ghost Value = { List Signature };

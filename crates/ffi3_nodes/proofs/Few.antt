@@ -3,19 +3,19 @@ use Rattle.std.specs.List.{AllByRecursion}
 use Rattle.std.specs.Prelude.{Option}
 use Rattle.std.proofs.Common.{◌≡◌, inl, inr, map, ◌++◌, ℕ, zero, suc, ◌+◌, ◌*◌, ◌^◌, ◌<◌, ◌≤◌, true, List, [], ◌∷◌, length, ap, sym, ◌∙◌, refl, arith, subst, length-append, suc-mul, le_trans}
 use Rattle.std.proofs.lemmas.Bool.{cases_lt}
-use Rattle.ffi3_type_rules.specs.declared.limits.TheConstants.{DEEPEST_NESTING, LARGEST_TYPE, MOST_ARGUMENTS}
-use Rattle.ffi3_type_rules.specs.declared.Role.{Role}
-use Rattle.ffi3_type_rules.specs.declared.Role.TheVariants.{AsElement, AsResult, Anywhere}
-use Rattle.ffi3_type_rules.specs.Tree.{Tree, Trees, no_trees, tree, void, scalar, left_out, structure, array, struct_of, array_of, trees_of, list_of, trees_of-list_of, tree_at}
-use Rattle.ffi3_type_rules.specs.Layout.{size_of, layouts, end_before, align_before, element}
-use Rattle.ffi3_type_rules.specs.Fault.{HasNoFault, IsLaidOut, has_parts, out_of_place, left_out_kind, misshapen, nested_deep, bad_typedef, left_out_type, too_deep}
-use Rattle.ffi3_type_rules.specs.Signature.{Signature, SignatureHasNoFault, SignatureIsPlaced}
-use Rattle.ffi3_type_rules.proofs.Placed.{few_placed, placed_result_is_laid_out, placed_argument_is_laid_out}
-use Rattle.ffi3_format_rules.specs.declared.Format.{Format}
-use Rattle.ffi3_format_rules.specs.Format.{resolved, all_resolved, resolved_signature}
-use Rattle.ffi3_type_rules.proofs.Faults.{fault_by_element, fault_outside, right_is_small}
-use Rattle.ffi3_type_rules.proofs.Layouts.{element-layouts, length-layouts, least_multiple-above, scalar_room-bounds, size_le-struct}
-use Rattle.ffi3_type_rules.proofs.Right.{few_arguments, result_is_laid_out, argument_is_laid_out}
+use Rattle.ffi3_type_spec.specs.declared.limits.TheConstants.{DEEPEST_NESTING, LARGEST_TYPE, MOST_ARGUMENTS}
+use Rattle.ffi3_type_spec.specs.declared.Role.{Role}
+use Rattle.ffi3_type_spec.specs.declared.Role.TheVariants.{AsElement, AsResult, Anywhere}
+use Rattle.ffi3_type_spec.specs.Tree.{Tree, Trees, no_trees, tree, void, scalar, left_out, structure, array, struct_of, array_of, trees_of, list_of, trees_of-list_of, tree_at}
+use Rattle.ffi3_type_spec.specs.Layout.{size_of, layouts, end_before, align_before, element}
+use Rattle.ffi3_type_spec.specs.Fault.{HasNoFault, IsLaidOut, has_parts, out_of_place, left_out_kind, misshapen, nested_deep, bad_typedef, left_out_type, too_deep}
+use Rattle.ffi3_type_spec.specs.Signature.{Signature, SignatureHasNoFault, SignatureIsPlaced}
+use Rattle.ffi3_type_spec.proofs.Placed.{few_placed, placed_result_is_laid_out, placed_argument_is_laid_out}
+use Rattle.ffi3_format_spec.specs.declared.Format.{Format}
+use Rattle.ffi3_format_spec.specs.Format.{resolved, all_resolved, resolved_signature}
+use Rattle.ffi3_type_spec.proofs.Faults.{fault_by_element, fault_outside, right_is_small}
+use Rattle.ffi3_type_spec.proofs.Layouts.{element-layouts, length-layouts, least_multiple-above, scalar_room-bounds, size_le-struct}
+use Rattle.ffi3_type_spec.proofs.Right.{few_arguments, result_is_laid_out, argument_is_laid_out}
 use Rattle.ffi3_nodes.specs.declared.Node.{Node}
 use Rattle.ffi3_nodes.specs.declared.TheConstants.{STRUCT, ARRAY}
 use Rattle.ffi3_nodes.specs.declared.signature.Refused.TheVariants.{TooLong}

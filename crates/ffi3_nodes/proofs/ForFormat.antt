@@ -2,15 +2,15 @@
 use Rattle.std.specs.List.{AllByRecursion}
 use Rattle.std.specs.Prelude.{Option, Some, false, slice_get}
 use Rattle.std.proofs.Common.{◌≡◌, ℕ, zero, suc, ◌<◌, List, [], ◌∷◌, length, refl, ap, sym, ◌∙◌, subst, arith}
-use Rattle.ffi3_type_rules.specs.Tree.{Tree, tree_at, trees_of}
-use Rattle.ffi3_type_rules.specs.Layout.{has_long_double, have_long_double}
-use Rattle.ffi3_type_rules.specs.Signature.{Signature, SignatureHasNoFault, SignatureIsPlaced, HasNoLongDouble, IsFirstSignatureFault, IsFirstFaultFor, for_places}
-use Rattle.ffi3_type_rules.proofs.Placed.{placed_is_faultless}
+use Rattle.ffi3_type_spec.specs.Tree.{Tree, tree_at, trees_of}
+use Rattle.ffi3_type_spec.specs.Layout.{has_long_double, have_long_double}
+use Rattle.ffi3_type_spec.specs.Signature.{Signature, SignatureHasNoFault, SignatureIsPlaced, HasNoLongDouble, IsFirstSignatureFault, IsFirstFaultFor, for_places}
+use Rattle.ffi3_type_spec.proofs.Placed.{placed_is_faultless}
 use Rattle.ffi3_types.specs.SignatureFaultOf.{signature_fault_of}
-use Rattle.ffi3_format_rules.specs.declared.Format.{Format}
-use Rattle.ffi3_format_rules.specs.Format.{resolved_signature}
-use Rattle.ffi3_format_rules.proofs.Resolving.{callable_is_own, own_signature}
-use Rattle.ffi3_format_rules.proofs.SameFaults.{same_first}
+use Rattle.ffi3_format_spec.specs.declared.Format.{Format}
+use Rattle.ffi3_format_spec.specs.Format.{resolved_signature}
+use Rattle.ffi3_format_spec.proofs.Resolving.{callable_is_own, own_signature}
+use Rattle.ffi3_format_spec.proofs.SameFaults.{same_first}
 use Rattle.ffi3_nodes.specs.declared.Node.{Node}
 use Rattle.ffi3_nodes.specs.declared.signature.Refused.{Refused}
 use Rattle.ffi3_nodes.specs.declared.signature.Refused.TheVariants.{TooLong, Nodes, Sig, NoMemory}

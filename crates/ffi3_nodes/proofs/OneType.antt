@@ -1,8 +1,8 @@
 -- The nodes of one type.
 use Rattle.std.proofs.Common.{◌≡◌, ℕ, List, [], ◌∷◌, ◌++◌, length, ap, sym, ◌∙◌, refl, subst, arith, append-nil}
-use Rattle.ffi3_type_rules.specs.declared.Role.TheVariants.{AsResult}
-use Rattle.ffi3_type_rules.specs.Tree.{Tree}
-use Rattle.ffi3_type_rules.specs.Fault.{IsFault, IsFirstFault}
+use Rattle.ffi3_type_spec.specs.declared.Role.TheVariants.{AsResult}
+use Rattle.ffi3_type_spec.specs.Tree.{Tree}
+use Rattle.ffi3_type_spec.specs.Fault.{IsFault, IsFirstFault}
 use Rattle.ffi3_types.specs.declared.fault.TypeFault.{TypeFault}
 use Rattle.ffi3_types.specs.FaultOf.{path_of, fault_of}
 use Rattle.ffi3_nodes.specs.declared.Node.{Node}

@@ -2,7 +2,7 @@
 use Rattle.std.proofs.Common.{◌≡◌, ◌⊎◌, inl, inr, ℕ, zero, suc, ◌+◌, ◌-◌, ◌<◌, ◌≤◌, ◌&&◌, Bool, true, false, not, cond, List, [], ◌∷◌, ◌++◌, length, ap, ◌∙◌, refl, arith, subst, append_assoc}
 use Rattle.std.proofs.lemmas.Bool.{ne_eqb, le-leb, lt-leb}
 use Rattle.std.specs.Prelude.{Option, Some, None, slice_get, nat_le, ◌==◌}
-use Rattle.ffi3_type_rules.specs.Tree.{Tree}
+use Rattle.ffi3_type_spec.specs.Tree.{Tree}
 use Rattle.ffi3_nodes.specs.declared.Node.{Node}
 use Rattle.ffi3_nodes.specs.declared.TheConstants.{STRUCT, ARRAY, DEEPEST}
 use Rattle.ffi3_nodes.specs.Nodes.{node, leaves, IsWritten, leaf, structure, array, AreWritten, none, one_more}

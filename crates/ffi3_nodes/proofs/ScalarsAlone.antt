@@ -3,13 +3,13 @@ use Rattle.std.specs.List.{AllByRecursion}
 use Rattle.std.specs.Prelude.{IfSome, false, Option, Some, None, slice_get}
 use Rattle.std.proofs.Common.{◌≡◌, ℕ, zero, suc, ◌+◌, ◌<◌, ◌≤◌, List, [], ◌∷◌, ◌++◌, take, get_or, length, length-append, ap, sym, ◌∙◌, subst, arith, append_assoc}
 use Rattle.std.proofs.lemmas.List.{take_more}
-use Rattle.ffi3_type_rules.specs.declared.Role.{Role}
-use Rattle.ffi3_type_rules.specs.Tree.{Tree, void, scalar, left_out, structure, array, tree_at}
-use Rattle.ffi3_type_rules.specs.Layout.{has_long_double}
-use Rattle.ffi3_type_rules.specs.Fault.{HasNoFault, IsArgumentType, IsResultType}
-use Rattle.ffi3_type_rules.specs.Signature.{Signature, SignatureFault, SignatureHasNoFault, IsSignatureFault, over_most, in_result, in_argument, fixed_outside, promoted}
-use Rattle.ffi3_type_rules.proofs.Faults.{scalar_faults, void_faults}
-use Rattle.ffi3_type_rules.proofs.Signatures.{suited_has_none}
+use Rattle.ffi3_type_spec.specs.declared.Role.{Role}
+use Rattle.ffi3_type_spec.specs.Tree.{Tree, void, scalar, left_out, structure, array, tree_at}
+use Rattle.ffi3_type_spec.specs.Layout.{has_long_double}
+use Rattle.ffi3_type_spec.specs.Fault.{HasNoFault, IsArgumentType, IsResultType}
+use Rattle.ffi3_type_spec.specs.Signature.{Signature, SignatureFault, SignatureHasNoFault, IsSignatureFault, over_most, in_result, in_argument, fixed_outside, promoted}
+use Rattle.ffi3_type_spec.proofs.Faults.{scalar_faults, void_faults}
+use Rattle.ffi3_type_spec.proofs.Signatures.{suited_has_none}
 use Rattle.ffi3_types.specs.ScalarSize.{scalar_size_of}
 use Rattle.ffi3_types.specs.TreeOf.{tree_of}
 use Rattle.ffi3_types.specs.declared.FfiType.{FfiType}

@@ -3,18 +3,18 @@ use Rattle.std.specs.List.{AllByRecursion}
 use Rattle.std.specs.Prelude.{Option, Some, None, cond}
 use Rattle.std.proofs.Common.{◌≡◌, ℕ, suc, ◌+◌, ◌<◌, inl, inr, true, List, [], ◌∷◌, ◌++◌, length, ap, sym, ◌∙◌, refl, arith, subst, append_assoc, append-nil}
 use Rattle.std.proofs.lemmas.Bool.{cases_lt, lt-leb}
-use Rattle.ffi3_type_rules.specs.declared.limits.TheConstants.{DEEPEST_NESTING}
-use Rattle.ffi3_type_rules.specs.declared.Role.TheVariants.{AsResult}
-use Rattle.ffi3_type_rules.specs.Tree.{Tree, struct_of, array_of, list_of, trees_of, list_of-trees_of, tree_at, parts_of}
-use Rattle.ffi3_type_rules.specs.Fault.{IsLaidOut, IsResultType, has_parts, nested_deep, node_at, too_deep}
-use Rattle.ffi3_type_rules.specs.Signature.{Signature, SignatureHasNoFault, SignatureIsPlaced, IsFirstSignatureFault}
-use Rattle.ffi3_type_rules.proofs.Placed.{placed_result_is_laid_out, placed_argument_is_laid_out}
-use Rattle.ffi3_format_rules.specs.declared.Format.{Format}
-use Rattle.ffi3_format_rules.specs.Format.{resolved, resolved_signature}
-use Rattle.ffi3_format_rules.proofs.Resolving.{resolved_at, resolved_count}
-use Rattle.ffi3_format_rules.proofs.Nodes.{node_resolved, parts_resolved}
-use Rattle.ffi3_type_rules.proofs.Faults.{node_outside, right_anywhere}
-use Rattle.ffi3_type_rules.proofs.Right.{argument_is_laid_out, result_is_laid_out}
+use Rattle.ffi3_type_spec.specs.declared.limits.TheConstants.{DEEPEST_NESTING}
+use Rattle.ffi3_type_spec.specs.declared.Role.TheVariants.{AsResult}
+use Rattle.ffi3_type_spec.specs.Tree.{Tree, struct_of, array_of, list_of, trees_of, list_of-trees_of, tree_at, parts_of}
+use Rattle.ffi3_type_spec.specs.Fault.{IsLaidOut, IsResultType, has_parts, nested_deep, node_at, too_deep}
+use Rattle.ffi3_type_spec.specs.Signature.{Signature, SignatureHasNoFault, SignatureIsPlaced, IsFirstSignatureFault}
+use Rattle.ffi3_type_spec.proofs.Placed.{placed_result_is_laid_out, placed_argument_is_laid_out}
+use Rattle.ffi3_format_spec.specs.declared.Format.{Format}
+use Rattle.ffi3_format_spec.specs.Format.{resolved, resolved_signature}
+use Rattle.ffi3_format_spec.proofs.Resolving.{resolved_at, resolved_count}
+use Rattle.ffi3_format_spec.proofs.Nodes.{node_resolved, parts_resolved}
+use Rattle.ffi3_type_spec.proofs.Faults.{node_outside, right_anywhere}
+use Rattle.ffi3_type_spec.proofs.Right.{argument_is_laid_out, result_is_laid_out}
 use Rattle.ffi3_nodes.specs.declared.Node.{Node}
 use Rattle.ffi3_nodes.specs.declared.TheConstants.{STRUCT, ARRAY, DEEPEST}
 use Rattle.ffi3_nodes.specs.Nodes.{node, IsWritten, leaf, structure, array, AreWritten, none, one_more, IsSignatureOf}

@@ -1,6 +1,6 @@
 -- The first types of a list, whose last item is the first of them, taken one after another.
 use Rattle.std.proofs.Common.{◌≡◌, ℕ, zero, suc, ◌+◌, List, [], ◌∷◌, ◌++◌, take, drop, length, reverse, ap, sym, ◌∙◌, refl, arith, append_assoc}
-use Rattle.ffi3_type_rules.specs.Tree.{Tree}
+use Rattle.ffi3_type_spec.specs.Tree.{Tree}
 use Rattle.ffi3_nodes.proofs.Opening.{last_first}
 
 -- so many are taken of those at the start, and these are left

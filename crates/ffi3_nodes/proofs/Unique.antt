@@ -1,7 +1,7 @@
 -- Nodes are those of one list of types at most.
 use Rattle.std.proofs.Common.{◌≡◌, ℕ, List, [], ◌∷◌, ◌++◌, length, ap, sym, ◌∙◌, refl, arith, append_assoc}
 use Rattle.std.specs.Prelude.{Option, Some, slice_get}
-use Rattle.ffi3_type_rules.specs.Tree.{Tree, struct_of, array_of}
+use Rattle.ffi3_type_spec.specs.Tree.{Tree, struct_of, array_of}
 use Rattle.ffi3_nodes.specs.declared.Node.{Node}
 use Rattle.ffi3_nodes.specs.declared.TheConstants.{STRUCT, ARRAY}
 use Rattle.ffi3_nodes.specs.Nodes.{node, leaves, IsWritten, leaf, structure, array, AreWritten, none, one_more}

@@ -1,8 +1,8 @@
 -- Types and signatures as data: nodes in preorder. A node is a kind and a count; a struct's count is how many elements follow it, an array's how many it has of the one type that follows, and another's is 0. (libffi manual, "Types": `ffi_type`. The kinds' numbers are this library's.)
 use Rattle.std.specs.Prelude.{◌≡◌, ℕ, List, [], ◌∷◌, ◌++◌, length, Option, Some, slice_get}
-use Rattle.ffi3_type_rules.specs.Tree.{Tree, void, scalar, left_out, struct_of, array_of, u8, s8, u16, s16, u32, s32, u64}
-use Rattle.ffi3_type_rules.specs.Tree.{s64, u128, s128, float, double, pointer, long_double, complex, vector}
-use Rattle.ffi3_type_rules.specs.Signature.{Signature}
+use Rattle.ffi3_type_spec.specs.Tree.{Tree, void, scalar, left_out, struct_of, array_of, u8, s8, u16, s16, u32, s32, u64}
+use Rattle.ffi3_type_spec.specs.Tree.{s64, u128, s128, float, double, pointer, long_double, complex, vector}
+use Rattle.ffi3_type_spec.specs.Signature.{Signature}
 use Rattle.ffi3_nodes.specs.declared.Node.{Node}
 use Rattle.ffi3_nodes.specs.declared.TheConstants.{STRUCT, ARRAY}
 

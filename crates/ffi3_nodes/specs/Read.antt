@@ -1,14 +1,14 @@
 -- What the reader answers, in the words of the definitions.
 use Rattle.std.specs.Prelude.{◌≡◌, ℕ, ◌^◌, ◌<◌, ◌≤◌, ⊤, false, List, Option, Some, None, length}
-use Rattle.ffi3_type_rules.specs.Signature.{Signature, SignatureHasNoFault, IsFirstSignatureFault, SignatureIsPlaced}
-use Rattle.ffi3_type_rules.specs.Signature.{IsFirstFaultFor, for_places}
-use Rattle.ffi3_format_rules.specs.declared.Format.{Format}
-use Rattle.ffi3_format_rules.specs.Format.{resolved_signature, signature_wants_format}
-use Rattle.ffi3_type_rules.specs.declared.Role.TheVariants.{AsResult}
-use Rattle.ffi3_type_rules.specs.Fault.{IsFirstFault, IsResultType}
+use Rattle.ffi3_type_spec.specs.Signature.{Signature, SignatureHasNoFault, IsFirstSignatureFault, SignatureIsPlaced}
+use Rattle.ffi3_type_spec.specs.Signature.{IsFirstFaultFor, for_places}
+use Rattle.ffi3_format_spec.specs.declared.Format.{Format}
+use Rattle.ffi3_format_spec.specs.Format.{resolved_signature, signature_wants_format}
+use Rattle.ffi3_type_spec.specs.declared.Role.TheVariants.{AsResult}
+use Rattle.ffi3_type_spec.specs.Fault.{IsFirstFault, IsResultType}
 use Rattle.ffi3_types.specs.FaultOf.{path_of, fault_of}
 use Rattle.ffi3_types.specs.SignatureFaultOf.{signature_fault_of}
-use Rattle.ffi3_type_rules.specs.Tree.{Tree}
+use Rattle.ffi3_type_spec.specs.Tree.{Tree}
 use Rattle.ffi3_nodes.specs.declared.Node.{Node}
 use Rattle.ffi3_nodes.specs.declared.TheConstants.{STRUCT, ARRAY}
 use Rattle.ffi3_nodes.specs.declared.scan.NodeFault as code

@@ -1,7 +1,7 @@
 // The types that nodes without a fault are, from the last node on: a struct takes as many as it counts of those that
 // stand behind it.
 ghost use Rattle.std.specs.Prelude.{◌≡◌, ◌<◌, ◌≤◌, ◌^◌, IfOk, OnOk, IfSome, List, Some, None, [], ◌∷◌, drop, take, length, slice_get};
-ghost use Rattle.ffi3_type_rules.specs.Tree.{struct_of};
+ghost use Rattle.ffi3_type_spec.specs.Tree.{struct_of};
 ghost use Rattle.ffi3_types.specs.TreeOf.{tree_of};
 ghost use Rattle.ffi3_nodes.specs.Nodes.{AreWritten, leaves};
 ghost use Rattle.ffi3_nodes.specs.Faults.{first_node_fault};
@@ -22,7 +22,7 @@ pub struct Behind {
 
 impl Model for Behind {
     ghost use Rattle.std.specs.Prelude.{List, map, reverse};
-    ghost use Rattle.ffi3_type_rules.specs.Tree.{Tree, tree_list_code};
+    ghost use Rattle.ffi3_type_spec.specs.Tree.{Tree, tree_list_code};
     ghost use Rattle.ffi3_types.specs.TreeOf.{tree_of};
 
     ghost Value = { List Tree };

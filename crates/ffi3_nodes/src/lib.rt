@@ -8,7 +8,7 @@ mod scan;
 mod signature;
 mod single;
 
-use ffi3_type_rules::limits::DEEPEST_NESTING;
+use ffi3_type_spec::limits::DEEPEST_NESTING;
 pub use scan::NodeFault;
 pub use signature::{Refused, read_signature, read_signature_for, read_unchecked};
 pub use single::{RefusedType, read_type};

@@ -1,14 +1,14 @@
 // The signature of nodes that are scalars alone, which most are: it is read in one pass, and has no fault.
 ghost use Rattle.std.specs.Prelude.{◌≡◌, ◌<◌, ◌≤◌, ◌∷◌, [], IfOk, IfSome, Some, None, false, slice_get};
-ghost use Rattle.ffi3_type_rules.specs.Fault.{IsArgumentType, IsResultType};
-ghost use Rattle.ffi3_type_rules.specs.Layout.{has_long_double};
-ghost use Rattle.ffi3_type_rules.specs.Signature.{SignatureHasNoFault};
+ghost use Rattle.ffi3_type_spec.specs.Fault.{IsArgumentType, IsResultType};
+ghost use Rattle.ffi3_type_spec.specs.Layout.{has_long_double};
+ghost use Rattle.ffi3_type_spec.specs.Signature.{SignatureHasNoFault};
 ghost use Rattle.ffi3_types.specs.ScalarSize.{scalar_size_of};
 ghost use Rattle.ffi3_types.specs.TreeOf.{tree_of};
 ghost use Rattle.ffi3_nodes.specs.Nodes.{AreWritten, IsSignatureOf, leaves};
 
 use crate::{Node, VOID};
-use ffi3_type_rules::limits::MOST_ARGUMENTS;
+use ffi3_type_spec::limits::MOST_ARGUMENTS;
 use ffi3_types::{FfiType, Fields, NoMemory, Sig};
 use std::alloc::Global;
 

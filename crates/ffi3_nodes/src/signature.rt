@@ -1,7 +1,7 @@
 // The signature that nodes are.
 ghost use Rattle.std.specs.Prelude.{◌≡◌, ◌<◌, ◌^◌, IfOk, IfErr, length, None};
-ghost use Rattle.ffi3_type_rules.specs.Signature.{Signature, SignatureHasNoFault, SignatureIsPlaced, HasNoLongDouble};
-ghost use Rattle.ffi3_format_rules.specs.declared.Format.{Format};
+ghost use Rattle.ffi3_type_spec.specs.Signature.{Signature, SignatureHasNoFault, SignatureIsPlaced, HasNoLongDouble};
+ghost use Rattle.ffi3_format_spec.specs.declared.Format.{Format};
 ghost use Rattle.ffi3_nodes.specs.Faults.{first_node_fault};
 ghost use Rattle.ffi3_nodes.specs.Nodes.{IsSignatureOf};
 ghost use Rattle.ffi3_nodes.specs.Read.{AreNodesOfTypes, IsOfNone, IsRefused, IsUncallable};

@@ -1,12 +1,12 @@
 -- Places of arguments whose copies are laid in the frame, one argument after another.
 use Rattle.std.proofs.Common.{◌≡◌, ℕ, ◌+◌, ◌<◌, ◌≤◌, List, [], ◌∷◌, ◌++◌, map, get_or, set, take, drop, length, ap, sym, subst, ◌∙◌, refl, arith}
 use Rattle.std.proofs.lemmas.List.{append_assoc, append-nil, set-get_or, take_more_set, drop-set-lt, take_all, drop_all}
-use Rattle.ffi3_type_rules.specs.Tree.{Tree, tree_at}
-use Rattle.ffi3_type_rules.specs.Layout.{size_of}
-use Rattle.ffi3_place_rules.specs.declared.Place.{Place}
-use Rattle.ffi3_place_rules.specs.declared.Place.TheVariants.{Direct, ByRef}
-use Rattle.ffi3_place_rules.specs.Standard.{Spot, in_pieces, by_reference, start, places_from, copies_end, round8}
-use Rattle.ffi3_place_rules.proofs.Elements.{drop_read, argument_read}
+use Rattle.ffi3_type_spec.specs.Tree.{Tree, tree_at}
+use Rattle.ffi3_type_spec.specs.Layout.{size_of}
+use Rattle.ffi3_place_spec.specs.declared.Place.{Place}
+use Rattle.ffi3_place_spec.specs.declared.Place.TheVariants.{Direct, ByRef}
+use Rattle.ffi3_place_spec.specs.Standard.{Spot, in_pieces, by_reference, start, places_from, copies_end, round8}
+use Rattle.ffi3_place_spec.proofs.Elements.{drop_read, argument_read}
 use Rattle.ffi3_place.specs.WithoutCopy.{without_copy}
 
 -- an argument's place once its copy is laid behind what ends at `end`, and where the copy ends

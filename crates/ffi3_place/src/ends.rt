@@ -1,15 +1,15 @@
 // Where things begin and end in the frame of a call, and the plan that ends with them. Where copies and buffers begin is
 // `start` by four standards; Microsoft x64 has a rule of its own. The rest is alike by all.
 ghost use Rattle.std.specs.Prelude.{◌<◌, ◌^◌, ◌≡◌, ◌≤◌, ◌+◌, ℕ, List, length, map};
-ghost use Rattle.ffi3_type_rules.specs.declared.limits.TheConstants.{ARGUMENT_BYTES, ARGUMENT_SPAN, LARGEST_GAP, LARGEST_TYPE, STACK_BYTES};
-ghost use Rattle.ffi3_type_rules.specs.Tree.{Tree};
-ghost use Rattle.ffi3_place_rules.specs.Standard.{Spot, ResultSpot, start, place_at, copy_end, places_from, copies_end, result_at, buffer_end};
-ghost use Rattle.ffi3_place_rules.specs.Planned.{planned};
+ghost use Rattle.ffi3_type_spec.specs.declared.limits.TheConstants.{ARGUMENT_BYTES, ARGUMENT_SPAN, LARGEST_GAP, LARGEST_TYPE, STACK_BYTES};
+ghost use Rattle.ffi3_type_spec.specs.Tree.{Tree};
+ghost use Rattle.ffi3_place_spec.specs.Standard.{Spot, ResultSpot, start, place_at, copy_end, places_from, copies_end, result_at, buffer_end};
+ghost use Rattle.ffi3_place_spec.specs.Planned.{planned};
 ghost use Rattle.ffi3_place.specs.WithoutCopy.{without_copy};
 
 use crate::parts::sizes_of;
-use ffi3_place_rules::{Place, Places, Plan, Res};
-use ffi3_type_rules::round_up;
+use ffi3_place_spec::{Place, Places, Plan, Res};
+use ffi3_type_spec::round_up;
 use ffi3_types::{CheckedType, PlacedSig};
 
 /// Where something of a type begins, after the end of what stands before it: at the next multiple of the type's alignment, and of eight bytes at least.

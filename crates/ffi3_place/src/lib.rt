@@ -2,20 +2,20 @@
 #![tactic(auto)]
 
 ghost use Rattle.std.specs.Prelude.{◌≡◌, ℕ, ◌*◌, ◌<◌, true, IfOk, length, slice_index_or};
-ghost use Rattle.ffi3_type_rules.specs.declared.Target.{Target};
-ghost use Rattle.ffi3_type_rules.specs.Signature.{Signature, SignatureIsPlaced, HasNoLongDouble};
-ghost use Rattle.ffi3_place_rules.specs.Standard.{Standard, plan_of};
-ghost use Rattle.ffi3_place_rules.specs.Sound.{IsSound, IsDetermined};
-ghost use Rattle.ffi3_place_rules.specs.Agrees.{AgreesWithMachine};
-ghost use Rattle.ffi3_place_rules.specs.Alike.{GoesByLayout};
-ghost use Rattle.ffi3_place_rules.specs.ByStubs.{AgreesWithStubs, ResultGoesByStubs};
-ghost use Rattle.ffi3_place_rules.specs.Isa.{has_stubs};
+ghost use Rattle.ffi3_type_spec.specs.declared.Target.{Target};
+ghost use Rattle.ffi3_type_spec.specs.Signature.{Signature, SignatureIsPlaced, HasNoLongDouble};
+ghost use Rattle.ffi3_place_spec.specs.Standard.{Standard, plan_of};
+ghost use Rattle.ffi3_place_spec.specs.Sound.{IsSound, IsDetermined};
+ghost use Rattle.ffi3_place_spec.specs.Agrees.{AgreesWithMachine};
+ghost use Rattle.ffi3_place_spec.specs.Alike.{GoesByLayout};
+ghost use Rattle.ffi3_place_spec.specs.ByStubs.{AgreesWithStubs, ResultGoesByStubs};
+ghost use Rattle.ffi3_place_spec.specs.StubRegisters.{has_stubs};
 
 pub mod ends;
 pub mod names;
 pub mod parts;
 
-pub use ffi3_place_rules::{Ext, Loc, Piece, Pieces, Place, Places, Plan, Res, SaveWord};
+pub use ffi3_place_spec::{Ext, Loc, Piece, Pieces, Place, Places, Plan, Res, SaveWord};
 use ffi3_types::{NoMemory, Sig, Target};
 use std::alloc::Global;
 

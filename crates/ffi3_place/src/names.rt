@@ -1,8 +1,8 @@
 // Names of registers.
 ghost use Rattle.std.specs.Prelude.{◌≡◌, [], map, slice_index_or};
-ghost use Rattle.ffi3_place_rules.specs.RegisterNames.{general_names, floating_names};
+ghost use Rattle.ffi3_place_spec.specs.RegisterNames.{general_names, floating_names};
 
-use ffi3_type_rules::Isa;
+use ffi3_type_spec::Isa;
 
 const AMD64_GENERAL: [&str; 16] = [
     "rax", "rcx", "rdx", "rbx", "rsp", "rbp", "rsi", "rdi", "r8", "r9", "r10", "r11", "r12", "r13",

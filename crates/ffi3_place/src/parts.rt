@@ -1,15 +1,15 @@
 // The sizes of arguments, and the pieces of values, as every standard needs them.
 ghost use Rattle.std.specs.Prelude.{◌≡◌, ◌<◌, ◌≤◌, ◌+◌, ◌*◌, [], ◌∷◌, length, IfOk};
 ghost use Rattle.std.specs.List.{sum_by};
-ghost use Rattle.ffi3_type_rules.specs.declared.limits.TheConstants.{ARGUMENT_BYTES, LARGEST_TYPE};
-ghost use Rattle.ffi3_type_rules.specs.Layout.{size_of, leaves_of, leaf_at};
+ghost use Rattle.ffi3_type_spec.specs.declared.limits.TheConstants.{ARGUMENT_BYTES, LARGEST_TYPE};
+ghost use Rattle.ffi3_type_spec.specs.Layout.{size_of, leaves_of, leaf_at};
 ghost use Rattle.ffi3_types.specs.TreeOf.{tree_of};
-ghost use Rattle.ffi3_place_rules.specs.declared.Ext.TheVariants.{Free};
-ghost use Rattle.ffi3_place_rules.specs.Standard.{doubleword, round8};
-ghost use Rattle.ffi3_place_rules.specs.Doublewords.{doublewords, filling, widening, stack_pieces, leaf_piece};
+ghost use Rattle.ffi3_place_spec.specs.declared.Ext.TheVariants.{Free};
+ghost use Rattle.ffi3_place_spec.specs.Standard.{doubleword, round8};
+ghost use Rattle.ffi3_place_spec.specs.Doublewords.{doublewords, filling, widening, stack_pieces, leaf_piece};
 
-use ffi3_place_rules::{Ext, Loc, Piece, Pieces};
-use ffi3_type_rules::round_up;
+use ffi3_place_spec::{Ext, Loc, Piece, Pieces};
+use ffi3_type_spec::round_up;
 use ffi3_types::{CheckedType, FfiType, NoMemory, PlacedSig};
 use std::alloc::Global;
 

@@ -1,12 +1,12 @@
 -- A prepared call interface: a target, whose calls go by its standard, and a signature that can be placed.
 use Rattle.std.specs.Prelude.{◌≡◌, ℕ, ⊤, List, Option}
-use Rattle.ffi3_type_rules.specs.declared.Target.{Target}
-use Rattle.ffi3_type_rules.specs.declared.Target.TheVariants.{Amd64 as ForAmd64, Aapcs64 as ForAapcs64, Riscv as ForRiscv, Win64 as ForWin64, Apple as ForApple}
-use Rattle.ffi3_type_rules.specs.Layout.{size_of}
-use Rattle.ffi3_type_rules.specs.Signature.{Signature, SignatureIsPlaced}
-use Rattle.ffi3_format_rules.specs.Format.{format_of}
-use Rattle.ffi3_place_rules.specs.Standard.{Standard, frame_of}
-use Rattle.ffi3_explain_rules.specs.Standards.{standard_of}
+use Rattle.ffi3_type_spec.specs.declared.Target.{Target}
+use Rattle.ffi3_type_spec.specs.declared.Target.TheVariants.{Amd64 as ForAmd64, Aapcs64 as ForAapcs64, Riscv as ForRiscv, Win64 as ForWin64, Apple as ForApple}
+use Rattle.ffi3_type_spec.specs.Layout.{size_of}
+use Rattle.ffi3_type_spec.specs.Signature.{Signature, SignatureIsPlaced}
+use Rattle.ffi3_format_spec.specs.Format.{format_of}
+use Rattle.ffi3_place_spec.specs.Standard.{Standard, frame_of}
+use Rattle.ffi3_explain_spec.specs.Standards.{standard_of}
 use Rattle.ffi3_nodes.specs.declared.Node.{Node}
 use Rattle.ffi3_nodes.specs.Read.{IsCallableWithout, IsOfNone, IsRefusedFor, IsRefusedWithout, IsSignatureFor}
 use Rattle.ffi3_nodes.specs.Read.{IsUnplaceable}

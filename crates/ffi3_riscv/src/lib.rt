@@ -2,18 +2,18 @@
 #![tactic(auto)]
 
 ghost use Rattle.std.specs.Prelude.{◌≡◌, ◌<◌, ◌≤◌, ◌+◌, ◌*◌, ◌/◌, length, map, IfOk, true, false, cond, nat_le};
-ghost use Rattle.ffi3_type_rules.specs.declared.limits.TheConstants.{ARGUMENT_BYTES, MOST_ARGUMENTS};
-ghost use Rattle.ffi3_type_rules.specs.Tree.{Scalar, scalar, Tree, tree_at};
-ghost use Rattle.ffi3_type_rules.specs.Layout.{size_of, leaves_of, leaf_at};
-ghost use Rattle.ffi3_type_rules.specs.Integer.{is_floating};
-ghost use Rattle.ffi3_type_rules.specs.Fault.{IsLaidOut};
+ghost use Rattle.ffi3_type_spec.specs.declared.limits.TheConstants.{ARGUMENT_BYTES, MOST_ARGUMENTS};
+ghost use Rattle.ffi3_type_spec.specs.Tree.{Scalar, scalar, Tree, tree_at};
+ghost use Rattle.ffi3_type_spec.specs.Layout.{size_of, leaves_of, leaf_at};
+ghost use Rattle.ffi3_type_spec.specs.Integer.{is_floating};
+ghost use Rattle.ffi3_type_spec.specs.Fault.{IsLaidOut};
 ghost use Rattle.ffi3_types.specs.TreeOf.{tree_of};
-ghost use Rattle.ffi3_place_rules.specs.Standard.{result_at, plan_of};
-ghost use Rattle.ffi3_place_rules.specs.Doublewords.{doublewords};
-ghost use Rattle.ffi3_riscv_rules.specs.Riscv.{riscv, is_word_integer, shape_of_two, shape_of_leaves, shape_of, words_of, floats_of, registers_suffice, passed_as, word, extension, boxing, integer_register, floating_register, floating_piece, integer_piece, word_pieces, spot_of, is_fixed, is_at_even_word, first_word, taken_at_start, taken_by_shape, taken_at_first, shape_after, taken_by_all, placing_of, result_shape, result_spot_of, stack_of};
-ghost use Rattle.ffi3_riscv_rules.specs.declared.Shape.{Shape};
-ghost use Rattle.ffi3_riscv_rules.specs.declared.Shape.TheVariants.{OneF, Words, ByRef};
-ghost use Rattle.ffi3_riscv_rules.proofs.Shapes.{Suits, HasRoom};
+ghost use Rattle.ffi3_place_spec.specs.Standard.{result_at, plan_of};
+ghost use Rattle.ffi3_place_spec.specs.Doublewords.{doublewords};
+ghost use Rattle.ffi3_riscv_spec.specs.Riscv.{riscv, is_word_integer, shape_of_two, shape_of_leaves, shape_of, words_of, floats_of, registers_suffice, passed_as, word, extension, boxing, integer_register, floating_register, floating_piece, integer_piece, word_pieces, spot_of, is_fixed, is_at_even_word, first_word, taken_at_start, taken_by_shape, taken_at_first, shape_after, taken_by_all, placing_of, result_shape, result_spot_of, stack_of};
+ghost use Rattle.ffi3_riscv_spec.specs.declared.Shape.{Shape};
+ghost use Rattle.ffi3_riscv_spec.specs.declared.Shape.TheVariants.{OneF, Words, ByRef};
+ghost use Rattle.ffi3_riscv_spec.proofs.Shapes.{Suits, HasRoom};
 ghost use Rattle.ffi3_place.specs.WithoutCopy.{without_copy};
 ghost use Rattle.ffi3_riscv.specs.Found.{IsFound};
 
@@ -22,9 +22,9 @@ pub mod laws;
 use ffi3_place::ends::{buffer_end, lay_copies, planned, start};
 use ffi3_place::parts::{doubleword, filling, leaf_piece, one_piece, two_pieces};
 use ffi3_place::{Abi, Ext, Loc, Piece, Pieces, Place, Places, Plan, Res, SaveWord};
-pub use ffi3_riscv_rules::Shape;
-use ffi3_riscv_rules::TakenWords;
-use ffi3_type_rules::round_up;
+pub use ffi3_riscv_spec::Shape;
+use ffi3_riscv_spec::TakenWords;
+use ffi3_type_spec::round_up;
 use ffi3_types::{CheckedType, FfiType, NoMemory, PlacedSig, Sig, Target};
 pub use laws::placement_laws;
 use std::alloc::Global;
@@ -582,8 +582,8 @@ fn plan_of(alloc: Global, sig: &PlacedSig<'_>) -> Result<Plan, NoMemory>
 }
 
 impl Abi for Riscv {
-    ghost use Rattle.ffi3_type_rules.specs.declared.Target.TheVariants as target;
-    ghost use Rattle.ffi3_riscv_rules.specs.Riscv.{riscv};
+    ghost use Rattle.ffi3_type_spec.specs.declared.Target.TheVariants as target;
+    ghost use Rattle.ffi3_riscv_spec.specs.Riscv.{riscv};
 
     ghost standard = { riscv };
 
@@ -640,10 +640,10 @@ impl Abi for Riscv {
 
     ghost use Rattle.std.specs.Prelude.{refl};
     ghost use Rattle.std.proofs.lemmas.Bool.{ltb-true};
-    ghost use Rattle.ffi3_riscv_rules.proofs.Agrees.{agrees as with_machine};
-    ghost use Rattle.ffi3_riscv_rules.proofs.Alike.{goes_by_layout};
-    ghost use Rattle.ffi3_riscv_rules.proofs.ByStubs.{by_stubs as with_stubs, result_by_stubs as result_with_stubs};
-    ghost use Rattle.ffi3_riscv_rules.proofs.Sound.{sound as every_law, determines};
+    ghost use Rattle.ffi3_riscv_spec.proofs.Agrees.{agrees as with_machine};
+    ghost use Rattle.ffi3_riscv_spec.proofs.Alike.{goes_by_layout};
+    ghost use Rattle.ffi3_riscv_spec.proofs.ByStubs.{by_stubs as with_stubs, result_by_stubs as result_with_stubs};
+    ghost use Rattle.ffi3_riscv_spec.proofs.Sound.{sound as every_law, determines};
 
     ghost save_is = { refl };
 

@@ -1,27 +1,27 @@
 -- All activations stand in their bodies, after each kind of move.
 use Rattle.std.proofs.Common.{◌≡◌, ℕ, true, List, [], ◌∷◌, ◌++◌, Option, Some, reverse, refl, sym, ap, ◌∙◌, subst}
 use Rattle.std.proofs.lemmas.List.{reverse-append}
-use Rattle.ffi3_type_rules.specs.Signature.{Signature, signature_at}
-use Rattle.ffi3_type_rules.specs.Value.{ValueTree, fits}
-use Rattle.ffi3_run_rules.specs.declared.Closure.{Closure}
-use Rattle.ffi3_run_rules.specs.Meaning.{function}
+use Rattle.ffi3_type_spec.specs.Signature.{Signature, signature_at}
+use Rattle.ffi3_type_spec.specs.Value.{ValueTree, fits}
+use Rattle.ffi3_semantics_spec.specs.declared.Closure.{Closure}
+use Rattle.ffi3_semantics_spec.specs.Meaning.{function}
 use Rattle.ffi3_machine.specs.State.{State}
-use Rattle.ffi3_script_rules.specs.Natives.{NamedNative}
+use Rattle.ffi3_script_spec.specs.Natives.{NamedNative}
 use Rattle.ffi3_body.specs.SeenActivation.{SeenActivation}
 use Rattle.ffi3_script.specs.declared.script.Script.{Script}
-use Rattle.ffi3_ask.specs.Stands as ask
-use Rattle.ffi3_ask.specs.Stands.{StandingAgrees}
-use Rattle.ffi3_ask.specs.declared.standing.Standing.{Standing}
-use Rattle.ffi3_configuration.specs.declared.activation.Activation.{Activation}
-use Rattle.ffi3_configuration.specs.declared.activation.OpenCall.{OpenCall}
-use Rattle.ffi3_configuration.specs.declared.activation.Waiting.{Waiting}
-use Rattle.ffi3_configuration.specs.declared.activation.Who.TheVariants.{Function}
-use Rattle.ffi3_configuration.specs.declared.configuration.Configuration.{Configuration}
-use Rattle.ffi3_configuration.specs.Going.{HasGoneIn, HasGoneBack}
-use Rattle.ffi3_configuration.specs.Activations.{call_inside, calls_of, result_type_at}
-use Rattle.ffi3_configuration.specs.Served.{HasAccepted}
-use Rattle.ffi3_configuration.proofs.Blocks.{AreAbove}
-use Rattle.ffi3_configuration.proofs.Opened.{StaysFrom}
+use Rattle.ffi3_next_move.specs.Stands as ask
+use Rattle.ffi3_next_move.specs.Stands.{StandingAgrees}
+use Rattle.ffi3_next_move.specs.declared.standing.Standing.{Standing}
+use Rattle.ffi3_run_state.specs.declared.activation.Activation.{Activation}
+use Rattle.ffi3_run_state.specs.declared.activation.OpenCall.{OpenCall}
+use Rattle.ffi3_run_state.specs.declared.activation.Waiting.{Waiting}
+use Rattle.ffi3_run_state.specs.declared.activation.Who.TheVariants.{Function}
+use Rattle.ffi3_run_state.specs.declared.configuration.Configuration.{Configuration}
+use Rattle.ffi3_run_state.specs.Going.{HasGoneIn, HasGoneBack}
+use Rattle.ffi3_run_state.specs.Activations.{call_inside, calls_of, result_type_at}
+use Rattle.ffi3_run_state.specs.Served.{HasAccepted}
+use Rattle.ffi3_run_state.proofs.Blocks.{AreAbove}
+use Rattle.ffi3_run_state.proofs.Opened.{StaysFrom}
 use Rattle.ffi3_runner.specs.Agreeing.{seen_by, InnermostStands, IsStanding, WillStand, AllWillStand, PositionsAgree}
 use Rattle.ffi3_runner.proofs.Seen.{standing_kept, will_kept, all_will_kept, now_stands, stays_equal, all_above}
 

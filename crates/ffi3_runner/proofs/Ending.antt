@@ -3,22 +3,22 @@ use Rattle.std.proofs.Common.{◌≡◌, ℕ, ◌+◌, ◌*◌, ◌%◌, ◌^◌
 use Rattle.std.specs.Prelude.{Bool, true, false}
 use Rattle.std.proofs.lemmas.List.{take-append-le}
 use Rattle.std.proofs.Math.Seq.{take-length}
-use Rattle.ffi3_type_rules.specs.declared.Target.{Target}
-use Rattle.ffi3_type_rules.specs.Value.{void_value}
-use Rattle.ffi3_place_rules.specs.Event.{Event}
-use Rattle.ffi3_place_rules.specs.Standard.{Standard}
-use Rattle.ffi3_run_rules.specs.declared.Stop.{Stop}
-use Rattle.ffi3_run_rules.specs.Closures.{Closures}
-use Rattle.ffi3_run_rules.specs.Journal.{JournalOf, IsWhole, stack_top}
-use Rattle.ffi3_run_rules.specs.Lines.{at_start, text, text_of_run}
-use Rattle.ffi3_run_rules.specs.Meaning.{Program, End, returned, stopped, meaning_of}
-use Rattle.ffi3_run_rules.specs.Trace.{TraceItem, trace_of}
-use Rattle.ffi3_turn_rules.specs.Interrupted.{past_all, next_text, begun}
-use Rattle.ffi3_turn_rules.specs.Depth.{deepest}
-use Rattle.ffi3_turn_rules.specs.Remainder.{remainder_of}
-use Rattle.ffi3_turn_rules.specs.MainTracing.{main_tracing}
-use Rattle.ffi3_turn_rules.specs.SoFar.{main_base}
-use Rattle.ffi3_turn_rules.proofs.Coming.{main_is_over, main_was_cut}
+use Rattle.ffi3_type_spec.specs.declared.Target.{Target}
+use Rattle.ffi3_type_spec.specs.Value.{void_value}
+use Rattle.ffi3_place_spec.specs.Event.{Event}
+use Rattle.ffi3_place_spec.specs.Standard.{Standard}
+use Rattle.ffi3_semantics_spec.specs.declared.Stop.{Stop}
+use Rattle.ffi3_semantics_spec.specs.Closures.{Closures}
+use Rattle.ffi3_semantics_spec.specs.Journal.{JournalOf, IsWhole, stack_top}
+use Rattle.ffi3_semantics_spec.specs.Lines.{at_start, text, text_of_run}
+use Rattle.ffi3_semantics_spec.specs.Meaning.{Program, End, returned, stopped, meaning_of}
+use Rattle.ffi3_semantics_spec.specs.Trace.{TraceItem, trace_of}
+use Rattle.ffi3_small_step_spec.specs.Interrupted.{past_all, next_text, begun}
+use Rattle.ffi3_small_step_spec.specs.Depth.{deepest}
+use Rattle.ffi3_small_step_spec.specs.Remainder.{remainder_of}
+use Rattle.ffi3_small_step_spec.specs.MainTracing.{main_tracing}
+use Rattle.ffi3_small_step_spec.specs.SoFar.{main_base}
+use Rattle.ffi3_small_step_spec.proofs.Coming.{main_is_over, main_was_cut}
 use Rattle.ffi3_machine.specs.State.{State}
 use Rattle.ffi3_closures.specs.Slots.{HoldsMap}
 use Rattle.ffi3_io.specs.Sink.{Rose, SinkState}
@@ -26,12 +26,12 @@ use Rattle.ffi3_io.specs.declared.IoError.{IoError}
 use Rattle.ffi3_io.specs.declared.IoError.TheVariants as cut
 use Rattle.ffi3_io.proofs.Adding.{Adds-along}
 use Rattle.ffi3_io.proofs.Writing.{whole_part}
-use Rattle.ffi3_ask.specs.declared.standing.Standing.{Standing}
-use Rattle.ffi3_configuration.specs.declared.configuration.Configuration.{Configuration}
-use Rattle.ffi3_configuration.specs.CallSteps.{call_steps, steps_in, returns_in}
-use Rattle.ffi3_configuration.specs.Counted.{steps_after}
-use Rattle.ffi3_configuration.specs.Turned.{IsEnded, WasInterrupted, is_in_line}
-use Rattle.ffi3_configuration.proofs.Counting.{counts_from_none, main_counts, whole_calls}
+use Rattle.ffi3_next_move.specs.declared.standing.Standing.{Standing}
+use Rattle.ffi3_run_state.specs.declared.configuration.Configuration.{Configuration}
+use Rattle.ffi3_run_state.specs.CallSteps.{call_steps, steps_in, returns_in}
+use Rattle.ffi3_run_state.specs.Counted.{steps_after}
+use Rattle.ffi3_run_state.specs.Turned.{IsEnded, WasInterrupted, is_in_line}
+use Rattle.ffi3_run_state.proofs.Counting.{counts_from_none, main_counts, whole_calls}
 use Rattle.ffi3_runner.specs.Ran.{Ran}
 use Rattle.ffi3_runner.specs.RunInterrupted.{RunWasInterrupted}
 use Rattle.ffi3_runner.specs.RunMatches.{RunMatches, WrotePart}

@@ -1,22 +1,22 @@
 -- The last of a list.
 use Rattle.std.proofs.Common.{◌≡◌, ℕ, ◌+◌, ◌-◌, ◌<◌, ◌≤◌, List, [], ◌∷◌, ◌++◌, length, reverse, Option, Some, None, refl, sym, ap, ◌∙◌, subst, arith}
 use Rattle.std.specs.List.{slice_get}
-use Rattle.ffi3_type_rules.specs.declared.limits.TheConstants.{STACK, STACK_TOP}
-use Rattle.ffi3_type_rules.specs.Signature.{Signature, signature_at}
-use Rattle.ffi3_place_rules.specs.declared.Loc.{Loc}
-use Rattle.ffi3_place_rules.specs.Standard.{Standard, block_bytes, frame_of}
-use Rattle.ffi3_run_rules.specs.Journal.{Entered}
+use Rattle.ffi3_type_spec.specs.declared.limits.TheConstants.{STACK, STACK_TOP}
+use Rattle.ffi3_type_spec.specs.Signature.{Signature, signature_at}
+use Rattle.ffi3_place_spec.specs.declared.Loc.{Loc}
+use Rattle.ffi3_place_spec.specs.Standard.{Standard, block_bytes, frame_of}
+use Rattle.ffi3_semantics_spec.specs.Journal.{Entered}
 use Rattle.ffi3_machine.specs.State.{State, stack_at}
 use Rattle.ffi3_callee.specs.declared.Incoming.{Incoming}
 use Rattle.ffi3_callee.specs.Received.{IsIncoming}
-use Rattle.ffi3_ask.specs.declared.standing.Standing.{Standing}
-use Rattle.ffi3_configuration.specs.declared.activation.Activation.{Activation}
-use Rattle.ffi3_configuration.specs.declared.activation.OpenCall.{OpenCall}
-use Rattle.ffi3_configuration.specs.declared.activation.Waiting.{Waiting}
-use Rattle.ffi3_configuration.specs.Activations.{calls_below, calls_of}
-use Rattle.ffi3_configuration.specs.Stack.{HoldsCalls}
-use Rattle.ffi3_configuration.proofs.Configuring.{popped_holds, reverse-last}
-use Rattle.ffi3_configuration.proofs.Opened.{block_at, is_incoming, sig_below}
+use Rattle.ffi3_next_move.specs.declared.standing.Standing.{Standing}
+use Rattle.ffi3_run_state.specs.declared.activation.Activation.{Activation}
+use Rattle.ffi3_run_state.specs.declared.activation.OpenCall.{OpenCall}
+use Rattle.ffi3_run_state.specs.declared.activation.Waiting.{Waiting}
+use Rattle.ffi3_run_state.specs.Activations.{calls_below, calls_of}
+use Rattle.ffi3_run_state.specs.Stack.{HoldsCalls}
+use Rattle.ffi3_run_state.proofs.Configuring.{popped_holds, reverse-last}
+use Rattle.ffi3_run_state.proofs.Opened.{block_at, is_incoming, sig_below}
 use Rattle.ffi3_runner.specs.Agreeing.{seen_by_callee}
 
 module _ {X : Type 0} where

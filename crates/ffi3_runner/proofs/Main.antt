@@ -1,35 +1,35 @@
 -- A run of main, from its start.
 use Rattle.std.proofs.Common.{◌≡◌, ℕ, List, [], Option, Some, None, reverse, refl, sym, ap, ◌∙◌, subst}
 use Rattle.std.specs.Prelude.{Bool}
-use Rattle.ffi3_type_rules.specs.declared.Target.{Target}
-use Rattle.ffi3_type_rules.specs.Signature.{Signature}
-use Rattle.ffi3_place_rules.specs.Agrees.{AgreesWithMachine}
-use Rattle.ffi3_place_rules.specs.Event.{Event}
-use Rattle.ffi3_place_rules.specs.Standard.{Standard}
-use Rattle.ffi3_run_rules.specs.Meaning.{main, meaning_of}
-use Rattle.ffi3_run_rules.specs.Move.{no_signature}
-use Rattle.ffi3_run_rules.specs.Trace.{TraceItem}
-use Rattle.ffi3_turn_rules.specs.Remainder.{Remainder, remainder_of}
-use Rattle.ffi3_turn_rules.specs.MainTracing.{main_tracing}
-use Rattle.ffi3_turn_rules.specs.SoFar.{Base, main_base}
-use Rattle.ffi3_turn_rules.specs.TracingOf.{IsTracingOf}
-use Rattle.ffi3_turn_rules.proofs.TracedCalls.{main_is_traced}
+use Rattle.ffi3_type_spec.specs.declared.Target.{Target}
+use Rattle.ffi3_type_spec.specs.Signature.{Signature}
+use Rattle.ffi3_place_spec.specs.Agrees.{AgreesWithMachine}
+use Rattle.ffi3_place_spec.specs.Event.{Event}
+use Rattle.ffi3_place_spec.specs.Standard.{Standard}
+use Rattle.ffi3_semantics_spec.specs.Meaning.{main, meaning_of}
+use Rattle.ffi3_semantics_spec.specs.Move.{no_signature}
+use Rattle.ffi3_semantics_spec.specs.Trace.{TraceItem}
+use Rattle.ffi3_small_step_spec.specs.Remainder.{Remainder, remainder_of}
+use Rattle.ffi3_small_step_spec.specs.MainTracing.{main_tracing}
+use Rattle.ffi3_small_step_spec.specs.SoFar.{Base, main_base}
+use Rattle.ffi3_small_step_spec.specs.TracingOf.{IsTracingOf}
+use Rattle.ffi3_small_step_spec.proofs.TracedCalls.{main_is_traced}
 use Rattle.ffi3_machine.specs.State.{State, begun}
 use Rattle.ffi3_io.specs.Sink.{SinkState}
 use Rattle.ffi3_body.specs.SeenActivation.{SeenActivation}
-use Rattle.ffi3_script_rules.specs.Natives.{NamedNative}
+use Rattle.ffi3_script_spec.specs.Natives.{NamedNative}
 use Rattle.ffi3_script.specs.declared.script.Script.{Script}
-use Rattle.ffi3_ask.specs.Stands as ask
-use Rattle.ffi3_ask.specs.Stands.{StandingAgrees}
-use Rattle.ffi3_ask.specs.declared.standing.Standing.{Standing}
-use Rattle.ffi3_configuration.specs.declared.activation.Activation.{Activation}
-use Rattle.ffi3_configuration.specs.declared.activation.OpenCall.{OpenCall}
-use Rattle.ffi3_configuration.specs.declared.activation.Waiting.{Waiting}
-use Rattle.ffi3_configuration.specs.declared.activation.Who.TheVariants.{Main}
-use Rattle.ffi3_configuration.specs.declared.configuration.Configuration.{Configuration}
-use Rattle.ffi3_configuration.specs.Between.{Beginning}
-use Rattle.ffi3_configuration.specs.Activations.{call_inside, who_of}
-use Rattle.ffi3_configuration.specs.Turned.{StandsAt}
+use Rattle.ffi3_next_move.specs.Stands as ask
+use Rattle.ffi3_next_move.specs.Stands.{StandingAgrees}
+use Rattle.ffi3_next_move.specs.declared.standing.Standing.{Standing}
+use Rattle.ffi3_run_state.specs.declared.activation.Activation.{Activation}
+use Rattle.ffi3_run_state.specs.declared.activation.OpenCall.{OpenCall}
+use Rattle.ffi3_run_state.specs.declared.activation.Waiting.{Waiting}
+use Rattle.ffi3_run_state.specs.declared.activation.Who.TheVariants.{Main}
+use Rattle.ffi3_run_state.specs.declared.configuration.Configuration.{Configuration}
+use Rattle.ffi3_run_state.specs.Between.{Beginning}
+use Rattle.ffi3_run_state.specs.Activations.{call_inside, who_of}
+use Rattle.ffi3_run_state.specs.Turned.{StandsAt}
 use Rattle.ffi3_runner.specs.Agreeing.{seen_by_main, IsStanding, AllWillStand, PositionsAgree}
 use Rattle.ffi3_runner.specs.Ran.{Ran}
 use Rattle.ffi3_runner.specs.Ready.{CanGoOn, traced_or_not}

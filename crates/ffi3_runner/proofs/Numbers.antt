@@ -1,34 +1,34 @@
 -- Moves that are asked for, by what is seen; and numbers of functions.
 use Rattle.std.proofs.lemmas.List.{take_all, take_more}
-use Rattle.ffi3_run_rules.specs.Move.{no_signature}
+use Rattle.ffi3_semantics_spec.specs.Move.{no_signature}
 use Rattle.std.proofs.Common.{◌≡◌, ℕ, ◌+◌, ◌<◌, ◌≤◌, List, [], ◌∷◌, ◌++◌, take, length, IfOk, Result, refl, sym, ap, ◌∙◌, subst, arith, length-append}
 use Rattle.std.specs.declared.alloc.AllocError.{AllocError}
-use Rattle.ffi3_type_rules.specs.Signature.{Signature, signature_at}
-use Rattle.ffi3_place_rules.specs.Standard.{Standard, need_of}
-use Rattle.ffi3_run_rules.specs.Meaning.{Program, Who, function_at}
+use Rattle.ffi3_type_spec.specs.Signature.{Signature, signature_at}
+use Rattle.ffi3_place_spec.specs.Standard.{Standard, need_of}
+use Rattle.ffi3_semantics_spec.specs.Meaning.{Program, Who, function_at}
 use Rattle.ffi3_body.specs.declared.Move.{Move}
 use Rattle.ffi3_body.specs.MoveOf.{move_of}
 use Rattle.ffi3_body.specs.SeenActivation.{SeenActivation}
-use Rattle.ffi3_script_rules.specs.Natives.{NamedNative}
+use Rattle.ffi3_script_spec.specs.Natives.{NamedNative}
 use Rattle.ffi3_script.specs.ScriptOf.{script_of}
 use Rattle.ffi3_script.specs.declared.script.Script.{Script}
-use Rattle.ffi3_ask.specs.Asked.{IsAsked}
-use Rattle.ffi3_ask.specs.Stands.{StandingAgrees}
+use Rattle.ffi3_next_move.specs.Asked.{IsAsked}
+use Rattle.ffi3_next_move.specs.Stands.{StandingAgrees}
 use Rattle.ffi3_script_body.specs.Agrees.{one_more}
-use Rattle.ffi3_ask.specs.declared.standing.Standing.{Standing}
-use Rattle.ffi3_type_rules.specs.declared.limits.TheConstants.{STACK}
-use Rattle.ffi3_type_rules.specs.Value.{ValueTree}
-use Rattle.ffi3_place_rules.specs.Event.{Event}
-use Rattle.ffi3_run_rules.specs.declared.Closure.{Closure}
-use Rattle.ffi3_run_rules.specs.declared.Stop.{Stop}
-use Rattle.ffi3_run_rules.specs.Meaning as meaning
-use Rattle.ffi3_run_rules.specs.Move as run
-use Rattle.ffi3_run_rules.specs.Trace.{TraceItem}
-use Rattle.ffi3_turn_rules.specs.Remainder.{Remainder}
-use Rattle.ffi3_turn_rules.specs.SoFar.{Base}
-use Rattle.ffi3_configuration.specs.Between.{Beginning, RunState, IsAsking}
-use Rattle.ffi3_configuration.specs.Known.{LeadsTo}
-use Rattle.ffi3_ask.specs.Handed.{signatures_in}
+use Rattle.ffi3_next_move.specs.declared.standing.Standing.{Standing}
+use Rattle.ffi3_type_spec.specs.declared.limits.TheConstants.{STACK}
+use Rattle.ffi3_type_spec.specs.Value.{ValueTree}
+use Rattle.ffi3_place_spec.specs.Event.{Event}
+use Rattle.ffi3_semantics_spec.specs.declared.Closure.{Closure}
+use Rattle.ffi3_semantics_spec.specs.declared.Stop.{Stop}
+use Rattle.ffi3_semantics_spec.specs.Meaning as meaning
+use Rattle.ffi3_semantics_spec.specs.Move as run
+use Rattle.ffi3_semantics_spec.specs.Trace.{TraceItem}
+use Rattle.ffi3_small_step_spec.specs.Remainder.{Remainder}
+use Rattle.ffi3_small_step_spec.specs.SoFar.{Base}
+use Rattle.ffi3_run_state.specs.Between.{Beginning, RunState, IsAsking}
+use Rattle.ffi3_run_state.specs.Known.{LeadsTo}
+use Rattle.ffi3_next_move.specs.Handed.{signatures_in}
 use Rattle.ffi3_runner.specs.Running.{program, IsPrepared}
 use Rattle.ffi3_runner.proofs.Turning.{count_of_functions}
 

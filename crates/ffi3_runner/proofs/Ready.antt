@@ -1,23 +1,23 @@
 -- A run that can go on by a move.
 use Rattle.std.proofs.Common.{◌≡◌, suc, List, ◌++◌}
 use Rattle.std.specs.Prelude.{Bool, true}
-use Rattle.ffi3_place_rules.specs.Event.{Event}
-use Rattle.ffi3_place_rules.specs.Standard.{Standard}
-use Rattle.ffi3_run_rules.specs.Lines.{Tracing}
-use Rattle.ffi3_run_rules.specs.Meaning.{Program}
-use Rattle.ffi3_run_rules.specs.Trace.{TraceItem}
-use Rattle.ffi3_turn_rules.specs.Remainder.{Remainder}
-use Rattle.ffi3_turn_rules.specs.SoFar.{Base}
-use Rattle.ffi3_turn_rules.specs.TracingOf.{IsTracingOf}
+use Rattle.ffi3_place_spec.specs.Event.{Event}
+use Rattle.ffi3_place_spec.specs.Standard.{Standard}
+use Rattle.ffi3_semantics_spec.specs.Lines.{Tracing}
+use Rattle.ffi3_semantics_spec.specs.Meaning.{Program}
+use Rattle.ffi3_semantics_spec.specs.Trace.{TraceItem}
+use Rattle.ffi3_small_step_spec.specs.Remainder.{Remainder}
+use Rattle.ffi3_small_step_spec.specs.SoFar.{Base}
+use Rattle.ffi3_small_step_spec.specs.TracingOf.{IsTracingOf}
 use Rattle.ffi3_machine.specs.State.{State}
 use Rattle.ffi3_io.specs.Sink.{SinkState}
-use Rattle.ffi3_ask.specs.declared.standing.Standing.{Standing}
-use Rattle.ffi3_configuration.specs.declared.configuration.Configuration.{Configuration}
-use Rattle.ffi3_configuration.specs.declared.configuration.Turn.{Turn}
-use Rattle.ffi3_configuration.specs.declared.configuration.Turn.TheVariants as turn
-use Rattle.ffi3_configuration.specs.Between.{Beginning, anew}
-use Rattle.ffi3_configuration.specs.Turned.{StandsAt, WentOn}
-use Rattle.ffi3_configuration.proofs.Since.{configuration_looked_at}
+use Rattle.ffi3_next_move.specs.declared.standing.Standing.{Standing}
+use Rattle.ffi3_run_state.specs.declared.configuration.Configuration.{Configuration}
+use Rattle.ffi3_run_state.specs.declared.configuration.Turn.{Turn}
+use Rattle.ffi3_run_state.specs.declared.configuration.Turn.TheVariants as turn
+use Rattle.ffi3_run_state.specs.Between.{Beginning, anew}
+use Rattle.ffi3_run_state.specs.Turned.{StandsAt, WentOn}
+use Rattle.ffi3_run_state.proofs.Since.{configuration_looked_at}
 use Rattle.ffi3_runner.specs.Ready.{CanGoOn, traced_or_not}
 use Rattle.ffi3_runner.specs.Ran.{TurnSays}
 use Rattle.ffi3_runner.proofs.Turning.{went_on}

@@ -1,22 +1,22 @@
 -- What activations have seen, from one machine to the next and with one result more.
 use Rattle.std.proofs.Common.{◌≡◌, ℕ, ◌≤◌, true, List, [], ◌∷◌, Option, Some, None, refl, sym, ap, subst, arith}
-use Rattle.ffi3_type_rules.specs.Signature.{Signature, signature_at}
-use Rattle.ffi3_type_rules.specs.Value.{ValueTree, fits}
-use Rattle.ffi3_place_rules.specs.Standard.{block_bytes}
+use Rattle.ffi3_type_spec.specs.Signature.{Signature, signature_at}
+use Rattle.ffi3_type_spec.specs.Value.{ValueTree, fits}
+use Rattle.ffi3_place_spec.specs.Standard.{block_bytes}
 use Rattle.ffi3_machine.specs.State.{State, stack_at}
-use Rattle.ffi3_script_rules.specs.Natives.{NamedNative}
+use Rattle.ffi3_script_spec.specs.Natives.{NamedNative}
 use Rattle.ffi3_body.specs.SeenActivation.{SeenActivation}
 use Rattle.ffi3_script.specs.declared.script.Script.{Script}
-use Rattle.ffi3_ask.specs.Stands.{StandingAgrees}
+use Rattle.ffi3_next_move.specs.Stands.{StandingAgrees}
 use Rattle.ffi3_script_body.specs.Agrees.{one_more}
-use Rattle.ffi3_ask.specs.declared.standing.Standing.{Standing}
-use Rattle.ffi3_configuration.specs.declared.activation.Activation.{Activation}
-use Rattle.ffi3_configuration.specs.declared.activation.OpenCall.{OpenCall}
-use Rattle.ffi3_configuration.specs.declared.activation.Waiting.{Waiting}
-use Rattle.ffi3_configuration.specs.Going.{and_result}
-use Rattle.ffi3_configuration.specs.Activations.{calls_below, call_inside, calls_of}
-use Rattle.ffi3_configuration.proofs.Blocks.{AreAbove}
-use Rattle.ffi3_configuration.proofs.Opened.{StaysFrom}
+use Rattle.ffi3_next_move.specs.declared.standing.Standing.{Standing}
+use Rattle.ffi3_run_state.specs.declared.activation.Activation.{Activation}
+use Rattle.ffi3_run_state.specs.declared.activation.OpenCall.{OpenCall}
+use Rattle.ffi3_run_state.specs.declared.activation.Waiting.{Waiting}
+use Rattle.ffi3_run_state.specs.Going.{and_result}
+use Rattle.ffi3_run_state.specs.Activations.{calls_below, call_inside, calls_of}
+use Rattle.ffi3_run_state.proofs.Blocks.{AreAbove}
+use Rattle.ffi3_run_state.proofs.Opened.{StaysFrom}
 use Rattle.ffi3_runner.specs.Agreeing.{seen_by, seen_by_callee, IsStanding, WillStand, AllWillStand}
 
 -- with one result more

@@ -1,30 +1,30 @@
 -- A call that is served: what accepting it and running on say together.
 use Rattle.std.proofs.Common.{◌≡◌, ℕ, ◌⊎◌, inl, inr, List, [], Some, refl, sym, ◌∙◌, subst}
 use Rattle.std.specs.Prelude.{Bool}
-use Rattle.ffi3_type_rules.specs.Signature.{Signature, signature_at}
-use Rattle.ffi3_type_rules.specs.Value.{ValueTree}
-use Rattle.ffi3_place_rules.specs.Event.{Event}
-use Rattle.ffi3_place_rules.specs.Standard.{Standard}
-use Rattle.ffi3_run_rules.specs.declared.Closure.{Closure}
-use Rattle.ffi3_run_rules.specs.Closures.{Closures, closure_at}
-use Rattle.ffi3_run_rules.specs.Meaning.{Program}
-use Rattle.ffi3_run_rules.specs.Trace.{TraceItem}
-use Rattle.ffi3_turn_rules.specs.Remainder.{Remainder}
-use Rattle.ffi3_turn_rules.specs.SoFar.{Base}
-use Rattle.ffi3_turn_rules.specs.TracingOf.{IsTracingOf}
+use Rattle.ffi3_type_spec.specs.Signature.{Signature, signature_at}
+use Rattle.ffi3_type_spec.specs.Value.{ValueTree}
+use Rattle.ffi3_place_spec.specs.Event.{Event}
+use Rattle.ffi3_place_spec.specs.Standard.{Standard}
+use Rattle.ffi3_semantics_spec.specs.declared.Closure.{Closure}
+use Rattle.ffi3_semantics_spec.specs.Closures.{Closures, closure_at}
+use Rattle.ffi3_semantics_spec.specs.Meaning.{Program}
+use Rattle.ffi3_semantics_spec.specs.Trace.{TraceItem}
+use Rattle.ffi3_small_step_spec.specs.Remainder.{Remainder}
+use Rattle.ffi3_small_step_spec.specs.SoFar.{Base}
+use Rattle.ffi3_small_step_spec.specs.TracingOf.{IsTracingOf}
 use Rattle.ffi3_machine.specs.State.{State}
 use Rattle.ffi3_io.specs.Sink.{SinkState}
 use Rattle.ffi3_io.specs.Written.{TookText}
 use Rattle.ffi3_io.specs.declared.IoError.{IoError}
 use Rattle.ffi3_invoke.specs.Calls.{entered_closure, entry_at}
-use Rattle.ffi3_ask.specs.declared.standing.Standing.{Standing}
-use Rattle.ffi3_configuration.specs.declared.configuration.Configuration.{Configuration}
-use Rattle.ffi3_configuration.specs.Between.{Beginning}
-use Rattle.ffi3_configuration.specs.Accepted.{WasInterruptedAtEntry}
-use Rattle.ffi3_configuration.specs.Served.{ShowsCall, served_base, served_beginning, served_left, served_tracing}
-use Rattle.ffi3_configuration.specs.TraceLines.{entry_lines}
-use Rattle.ffi3_configuration.proofs.Accepting.{served_is_traced}
-use Rattle.ffi3_configuration.specs.Turned.{StandsAt}
+use Rattle.ffi3_next_move.specs.declared.standing.Standing.{Standing}
+use Rattle.ffi3_run_state.specs.declared.configuration.Configuration.{Configuration}
+use Rattle.ffi3_run_state.specs.Between.{Beginning}
+use Rattle.ffi3_run_state.specs.Accepted.{WasInterruptedAtEntry}
+use Rattle.ffi3_run_state.specs.Served.{ShowsCall, served_base, served_beginning, served_left, served_tracing}
+use Rattle.ffi3_run_state.specs.TraceLines.{entry_lines}
+use Rattle.ffi3_run_state.proofs.Accepting.{served_is_traced}
+use Rattle.ffi3_run_state.specs.Turned.{StandsAt}
 use Rattle.ffi3_runner.specs.Ran.{Ran}
 use Rattle.ffi3_runner.specs.Ready.{CanGoOn, traced_or_not}
 use Rattle.ffi3_runner.specs.Serving.{IsAtEntry, HasRun, HasNotRun, Served, end_of}

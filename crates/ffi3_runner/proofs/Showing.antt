@@ -1,26 +1,26 @@
 -- The closure that a machine shows at its entry, once a call of this run is passed: it is the one that was called.
 use Rattle.std.proofs.Common.{◌≡◌, ℕ, suc, List, [], ◌∷◌, ◌++◌, reverse, None, Some, sym, ap, ◌∙◌, subst}
-use Rattle.ffi3_type_rules.specs.Signature.{Signature}
-use Rattle.ffi3_type_rules.specs.Value.{ValueTree}
-use Rattle.ffi3_place_rules.specs.Event.{Event}
-use Rattle.ffi3_run_rules.specs.declared.Closure.{Closure}
-use Rattle.ffi3_run_rules.specs.Closures.{Closures, closure_at}
-use Rattle.ffi3_run_rules.specs.Meaning.{Program, callee_of, effect_of, enters}
-use Rattle.ffi3_run_rules.specs.Move.{call}
-use Rattle.ffi3_run_rules.specs.Trace.{TraceItem}
-use Rattle.ffi3_turn_rules.specs.Remainder.{Remainder}
-use Rattle.ffi3_turn_rules.specs.SoFar.{Base}
+use Rattle.ffi3_type_spec.specs.Signature.{Signature}
+use Rattle.ffi3_type_spec.specs.Value.{ValueTree}
+use Rattle.ffi3_place_spec.specs.Event.{Event}
+use Rattle.ffi3_semantics_spec.specs.declared.Closure.{Closure}
+use Rattle.ffi3_semantics_spec.specs.Closures.{Closures, closure_at}
+use Rattle.ffi3_semantics_spec.specs.Meaning.{Program, callee_of, effect_of, enters}
+use Rattle.ffi3_semantics_spec.specs.Move.{call}
+use Rattle.ffi3_semantics_spec.specs.Trace.{TraceItem}
+use Rattle.ffi3_small_step_spec.specs.Remainder.{Remainder}
+use Rattle.ffi3_small_step_spec.specs.SoFar.{Base}
 use Rattle.ffi3_machine.specs.State.{State}
 use Rattle.ffi3_io.specs.Sink.{SinkState}
-use Rattle.ffi3_ask.specs.declared.standing.Standing.{Standing}
+use Rattle.ffi3_next_move.specs.declared.standing.Standing.{Standing}
 use Rattle.ffi3_invoke.specs.Calls.{entered_closure}
-use Rattle.ffi3_configuration.specs.declared.activation.Activation.{Activation}
-use Rattle.ffi3_configuration.specs.declared.activation.Waiting.{Waiting}
-use Rattle.ffi3_configuration.specs.declared.configuration.Configuration.{Configuration}
-use Rattle.ffi3_configuration.specs.declared.configuration.Turn.{Turn}
-use Rattle.ffi3_configuration.specs.Between.{Beginning, RunState, IsAsking, run_state, run_state_with}
-use Rattle.ffi3_configuration.specs.Going.{HasGoneIn}
-use Rattle.ffi3_configuration.specs.Turned.{Turned}
+use Rattle.ffi3_run_state.specs.declared.activation.Activation.{Activation}
+use Rattle.ffi3_run_state.specs.declared.activation.Waiting.{Waiting}
+use Rattle.ffi3_run_state.specs.declared.configuration.Configuration.{Configuration}
+use Rattle.ffi3_run_state.specs.declared.configuration.Turn.{Turn}
+use Rattle.ffi3_run_state.specs.Between.{Beginning, RunState, IsAsking, run_state, run_state_with}
+use Rattle.ffi3_run_state.specs.Going.{HasGoneIn}
+use Rattle.ffi3_run_state.specs.Turned.{Turned}
 
 no_closure : (c : Closure) → None ≡ Some c → ⊥
 no_closure c e = cc

@@ -2,33 +2,33 @@
 use Rattle.std.proofs.Common.{◌≡◌, ℕ, inl, List, [], Option, Some, None, reverse, refl, sym, ap, ◌∙◌, subst, arith}
 use Rattle.std.specs.Prelude.{Bool}
 use Rattle.std.specs.List.{AllByRecursion}
-use Rattle.ffi3_type_rules.specs.declared.Isa.{Isa}
-use Rattle.ffi3_type_rules.specs.declared.Isa.TheVariants.{Amd64, Aarch64, Riscv}
-use Rattle.ffi3_type_rules.specs.Isa.{isa_of}
-use Rattle.ffi3_place_rules.specs.declared.Loc.{Loc}
-use Rattle.ffi3_place_rules.specs.Agrees.{AgreesWithMachine}
-use Rattle.ffi3_place_rules.specs.Image.{register}
-use Rattle.ffi3_place_rules.specs.Isa.{reserved_places}
-use Rattle.ffi3_place_rules.specs.Standard.{Standard, need_of}
-use Rattle.ffi3_run_rules.specs.Closures.{Closures, no_closures}
-use Rattle.ffi3_run_rules.specs.Meaning.{Program, meaning_of, main_call, most_moves, stack_size}
-use Rattle.ffi3_turn_rules.specs.Remainder.{remainder_of}
-use Rattle.ffi3_turn_rules.specs.SoFar.{main_base}
-use Rattle.ffi3_turn_rules.proofs.Coming.{comes_from}
+use Rattle.ffi3_type_spec.specs.declared.Isa.{Isa}
+use Rattle.ffi3_type_spec.specs.declared.Isa.TheVariants.{Amd64, Aarch64, Riscv}
+use Rattle.ffi3_type_spec.specs.TargetIsa.{isa_of}
+use Rattle.ffi3_place_spec.specs.declared.Loc.{Loc}
+use Rattle.ffi3_place_spec.specs.Agrees.{AgreesWithMachine}
+use Rattle.ffi3_place_spec.specs.Image.{register}
+use Rattle.ffi3_place_spec.specs.MachineRegisters.{reserved_places}
+use Rattle.ffi3_place_spec.specs.Standard.{Standard, need_of}
+use Rattle.ffi3_semantics_spec.specs.Closures.{Closures, no_closures}
+use Rattle.ffi3_semantics_spec.specs.Meaning.{Program, meaning_of, main_call, most_moves, stack_size}
+use Rattle.ffi3_small_step_spec.specs.Remainder.{remainder_of}
+use Rattle.ffi3_small_step_spec.specs.SoFar.{main_base}
+use Rattle.ffi3_small_step_spec.proofs.Coming.{comes_from}
 use Rattle.ffi3_machine.specs.State.{State, begun, begun_code, begun_general, image_of, scribbled_general}
 use Rattle.ffi3_closures.specs.Slots.{HoldsMap}
 use Rattle.ffi3_io.specs.Sink.{SinkState}
 use Rattle.ffi3_io.proofs.Writing.{took_nothing}
-use Rattle.ffi3_ask.specs.declared.standing.Standing.{Standing}
-use Rattle.ffi3_configuration.specs.declared.activation.Activation.{Activation}
-use Rattle.ffi3_configuration.specs.declared.activation.OpenCall.{OpenCall}
-use Rattle.ffi3_configuration.specs.declared.activation.Waiting.{Waiting}
-use Rattle.ffi3_configuration.specs.declared.activation.Who.TheVariants.{Main}
-use Rattle.ffi3_configuration.specs.declared.configuration.Configuration.{Configuration}
-use Rattle.ffi3_configuration.specs.Between.{RunState, IsBetween, run_state, run_state_with}
-use Rattle.ffi3_configuration.specs.Activations.{acting, who_of}
-use Rattle.ffi3_configuration.specs.Turned.{StandsAt}
-use Rattle.ffi3_configuration.proofs.Closed.{none_known}
+use Rattle.ffi3_next_move.specs.declared.standing.Standing.{Standing}
+use Rattle.ffi3_run_state.specs.declared.activation.Activation.{Activation}
+use Rattle.ffi3_run_state.specs.declared.activation.OpenCall.{OpenCall}
+use Rattle.ffi3_run_state.specs.declared.activation.Waiting.{Waiting}
+use Rattle.ffi3_run_state.specs.declared.activation.Who.TheVariants.{Main}
+use Rattle.ffi3_run_state.specs.declared.configuration.Configuration.{Configuration}
+use Rattle.ffi3_run_state.specs.Between.{RunState, IsBetween, run_state, run_state_with}
+use Rattle.ffi3_run_state.specs.Activations.{acting, who_of}
+use Rattle.ffi3_run_state.specs.Turned.{StandsAt}
+use Rattle.ffi3_run_state.proofs.Closed.{none_known}
 use Rattle.ffi3_runner.specs.Running.{IsNew}
 use Rattle.ffi3_runner.specs.Started.{main_beginning}
 

@@ -1,39 +1,39 @@
 -- The move that the innermost activation asks for, by what it has seen.
 use Rattle.std.proofs.Common.{◌≡◌, ℕ, suc, ◌+◌, ◌≤◌, true, List, [], ◌∷◌, length, map, Option, Some, None, reverse, refl, sym, ap, ◌∙◌, subst, arith, length-append}
 use Rattle.std.proofs.lemmas.List.{length-map}
-use Rattle.ffi3_type_rules.specs.Signature.{Signature}
-use Rattle.ffi3_type_rules.specs.Value.{ValueTree, fits}
-use Rattle.ffi3_place_rules.specs.Event.{Event}
-use Rattle.ffi3_place_rules.specs.Standard.{Standard}
-use Rattle.ffi3_run_rules.specs.Meaning as meaning
-use Rattle.ffi3_run_rules.specs.Meaning.{Program, Native, behaviour_of, functions_from, most_moves, next_move, function_of}
-use Rattle.ffi3_run_rules.specs.Move.{Move, MoveFits, result_type_of}
+use Rattle.ffi3_type_spec.specs.Signature.{Signature}
+use Rattle.ffi3_type_spec.specs.Value.{ValueTree, fits}
+use Rattle.ffi3_place_spec.specs.Event.{Event}
+use Rattle.ffi3_place_spec.specs.Standard.{Standard}
+use Rattle.ffi3_semantics_spec.specs.Meaning as meaning
+use Rattle.ffi3_semantics_spec.specs.Meaning.{Program, Native, behaviour_of, functions_from, most_moves, next_move, function_of}
+use Rattle.ffi3_semantics_spec.specs.Move.{Move, MoveFits, result_type_of}
 use Rattle.ffi3_body.specs.Follow.{IsOfType}
-use Rattle.ffi3_ask.specs.Asked.{IsAsked}
-use Rattle.ffi3_run_rules.specs.Trace.{TraceItem}
-use Rattle.ffi3_turn_rules.specs.Remainder.{Remainder}
-use Rattle.ffi3_turn_rules.specs.SoFar.{Base}
+use Rattle.ffi3_next_move.specs.Asked.{IsAsked}
+use Rattle.ffi3_semantics_spec.specs.Trace.{TraceItem}
+use Rattle.ffi3_small_step_spec.specs.Remainder.{Remainder}
+use Rattle.ffi3_small_step_spec.specs.SoFar.{Base}
 use Rattle.ffi3_machine.specs.State.{State}
 use Rattle.ffi3_io.specs.Sink.{SinkState}
 use Rattle.ffi3_body.specs.SeenActivation.{SeenActivation, arguments_of}
-use Rattle.ffi3_script_rules.specs.Meaning as rules
-use Rattle.ffi3_script_rules.specs.Natives.{NamedNative}
+use Rattle.ffi3_script_spec.specs.Meaning as rules
+use Rattle.ffi3_script_spec.specs.Natives.{NamedNative}
 use Rattle.ffi3_script.specs.ScriptOf.{script_of}
 use Rattle.ffi3_script.specs.declared.script.Script.{Script}
-use Rattle.ffi3_ask.specs.Stands as ask
-use Rattle.ffi3_ask.specs.Stands.{StandingAgrees}
+use Rattle.ffi3_next_move.specs.Stands as ask
+use Rattle.ffi3_next_move.specs.Stands.{StandingAgrees}
 use Rattle.ffi3_script_body.specs.Agrees.{one_more}
-use Rattle.ffi3_ask.specs.declared.standing.Standing.{Standing}
-use Rattle.ffi3_configuration.specs.declared.activation.Activation.{Activation}
-use Rattle.ffi3_configuration.specs.declared.activation.OpenCall.{OpenCall}
-use Rattle.ffi3_configuration.specs.declared.activation.Waiting.{Waiting}
-use Rattle.ffi3_configuration.specs.declared.configuration.Configuration.{Configuration}
-use Rattle.ffi3_configuration.specs.Between.{Beginning, ResultsWithinMoves, IsBetween, IsAsking, run_state}
-use Rattle.ffi3_configuration.specs.Going.{and_result}
-use Rattle.ffi3_configuration.specs.Activations.{who_of, acting, arguments_at, call_inside, suspended_at, result_type_at, AreShort}
-use Rattle.ffi3_configuration.specs.Turned.{StandsAt, StandsWith, Turned, WentOn}
-use Rattle.ffi3_configuration.specs.declared.configuration.Turn.{Turn}
-use Rattle.ffi3_configuration.specs.declared.configuration.Turn.TheVariants as turn
+use Rattle.ffi3_next_move.specs.declared.standing.Standing.{Standing}
+use Rattle.ffi3_run_state.specs.declared.activation.Activation.{Activation}
+use Rattle.ffi3_run_state.specs.declared.activation.OpenCall.{OpenCall}
+use Rattle.ffi3_run_state.specs.declared.activation.Waiting.{Waiting}
+use Rattle.ffi3_run_state.specs.declared.configuration.Configuration.{Configuration}
+use Rattle.ffi3_run_state.specs.Between.{Beginning, ResultsWithinMoves, IsBetween, IsAsking, run_state}
+use Rattle.ffi3_run_state.specs.Going.{and_result}
+use Rattle.ffi3_run_state.specs.Activations.{who_of, acting, arguments_at, call_inside, suspended_at, result_type_at, AreShort}
+use Rattle.ffi3_run_state.specs.Turned.{StandsAt, StandsWith, Turned, WentOn}
+use Rattle.ffi3_run_state.specs.declared.configuration.Turn.{Turn}
+use Rattle.ffi3_run_state.specs.declared.configuration.Turn.TheVariants as turn
 use Rattle.ffi3_runner.specs.Agreeing.{seen_by, InnermostStands, IsStanding, WillStand, PositionsAgree}
 use Rattle.ffi3_runner.specs.Running.{program, IsPrepared}
 use Rattle.ffi3_runner.proofs.Seen.{seen_more, seen_still}

@@ -1,22 +1,22 @@
 -- Where the activations of a run stand in their bodies.
 use Rattle.std.specs.Prelude.{◌≡◌, ⊤, true, List, [], ◌∷◌, reverse, Option, Some, None}
-use Rattle.ffi3_type_rules.specs.Signature.{Signature, signature_at}
-use Rattle.ffi3_type_rules.specs.Value.{ValueTree, fits}
-use Rattle.ffi3_place_rules.specs.Standard.{block_bytes}
-use Rattle.ffi3_run_rules.specs.Move.{no_signature}
-use Rattle.ffi3_script_rules.specs.Natives.{NamedNative}
+use Rattle.ffi3_type_spec.specs.Signature.{Signature, signature_at}
+use Rattle.ffi3_type_spec.specs.Value.{ValueTree, fits}
+use Rattle.ffi3_place_spec.specs.Standard.{block_bytes}
+use Rattle.ffi3_semantics_spec.specs.Move.{no_signature}
+use Rattle.ffi3_script_spec.specs.Natives.{NamedNative}
 use Rattle.ffi3_machine.specs.State.{State, stack_at}
 use Rattle.ffi3_body.specs.SeenActivation.{SeenActivation}
 use Rattle.ffi3_script_body.specs.Agrees.{one_more}
 use Rattle.ffi3_script.specs.declared.script.Script.{Script}
-use Rattle.ffi3_ask.specs.Stands as ask
-use Rattle.ffi3_ask.specs.Stands.{StandingAgrees}
-use Rattle.ffi3_ask.specs.declared.standing.Standing.{Standing}
-use Rattle.ffi3_configuration.specs.declared.activation.Activation.{Activation}
-use Rattle.ffi3_configuration.specs.declared.activation.OpenCall.{OpenCall}
-use Rattle.ffi3_configuration.specs.declared.activation.Waiting.{Waiting}
-use Rattle.ffi3_configuration.specs.declared.configuration.Configuration.{Configuration}
-use Rattle.ffi3_configuration.specs.Activations.{who_of, call_inside}
+use Rattle.ffi3_next_move.specs.Stands as ask
+use Rattle.ffi3_next_move.specs.Stands.{StandingAgrees}
+use Rattle.ffi3_next_move.specs.declared.standing.Standing.{Standing}
+use Rattle.ffi3_run_state.specs.declared.activation.Activation.{Activation}
+use Rattle.ffi3_run_state.specs.declared.activation.OpenCall.{OpenCall}
+use Rattle.ffi3_run_state.specs.declared.activation.Waiting.{Waiting}
+use Rattle.ffi3_run_state.specs.declared.configuration.Configuration.{Configuration}
+use Rattle.ffi3_run_state.specs.Activations.{who_of, call_inside}
 
 -- what main's activation has seen
 abbrev pub seen_by_main : Activation Standing → SeenActivation

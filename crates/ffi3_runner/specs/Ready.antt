@@ -1,20 +1,20 @@
 -- A run that can go on by a move, as its caller sees it.
 use Rattle.std.specs.Prelude.{◌≡◌, Bool, true, List}
-use Rattle.ffi3_place_rules.specs.Event.{Event}
-use Rattle.ffi3_place_rules.specs.Standard.{Standard}
-use Rattle.ffi3_run_rules.specs.Lines.{Tracing}
-use Rattle.ffi3_run_rules.specs.Meaning.{Program}
-use Rattle.ffi3_run_rules.specs.Trace.{TraceItem}
-use Rattle.ffi3_turn_rules.specs.Remainder.{Remainder}
-use Rattle.ffi3_turn_rules.specs.SoFar.{Base}
-use Rattle.ffi3_turn_rules.specs.TracingOf.{IsTracingOf}
+use Rattle.ffi3_place_spec.specs.Event.{Event}
+use Rattle.ffi3_place_spec.specs.Standard.{Standard}
+use Rattle.ffi3_semantics_spec.specs.Lines.{Tracing}
+use Rattle.ffi3_semantics_spec.specs.Meaning.{Program}
+use Rattle.ffi3_semantics_spec.specs.Trace.{TraceItem}
+use Rattle.ffi3_small_step_spec.specs.Remainder.{Remainder}
+use Rattle.ffi3_small_step_spec.specs.SoFar.{Base}
+use Rattle.ffi3_small_step_spec.specs.TracingOf.{IsTracingOf}
 use Rattle.ffi3_machine.specs.State.{State}
-use Rattle.ffi3_ask.specs.declared.standing.Standing.{Standing}
-use Rattle.ffi3_configuration.specs.declared.configuration.Configuration.{Configuration}
-use Rattle.ffi3_configuration.specs.declared.configuration.Turn.{Turn}
-use Rattle.ffi3_configuration.specs.declared.configuration.Turn.TheVariants.{More}
-use Rattle.ffi3_configuration.specs.Between.{Beginning}
-use Rattle.ffi3_configuration.specs.Turned.{StandsAnew}
+use Rattle.ffi3_next_move.specs.declared.standing.Standing.{Standing}
+use Rattle.ffi3_run_state.specs.declared.configuration.Configuration.{Configuration}
+use Rattle.ffi3_run_state.specs.declared.configuration.Turn.{Turn}
+use Rattle.ffi3_run_state.specs.declared.configuration.Turn.TheVariants.{More}
+use Rattle.ffi3_run_state.specs.Between.{Beginning}
+use Rattle.ffi3_run_state.specs.Turned.{StandsAnew}
 
 -- traced and untraced
 abbrev pub traced_or_not : Bool → Bool

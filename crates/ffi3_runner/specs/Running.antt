@@ -1,19 +1,19 @@
 -- The program that a runner runs.
 use Rattle.std.specs.Prelude.{◌≡◌, ◌^◌, ◌<◌, ◌≤◌, List, [], length, None}
-use Rattle.ffi3_type_rules.specs.declared.Target.{Target}
-use Rattle.ffi3_type_rules.specs.Isa.{isa_of}
-use Rattle.ffi3_type_rules.specs.Signature.{Signature}
+use Rattle.ffi3_type_spec.specs.declared.Target.{Target}
+use Rattle.ffi3_type_spec.specs.TargetIsa.{isa_of}
+use Rattle.ffi3_type_spec.specs.Signature.{Signature}
 use Rattle.ffi3_machine.specs.State.{begun_code}
 use Rattle.ffi3_closures.specs.Slots.{HoldsMap}
-use Rattle.ffi3_place_rules.specs.Standard.{Standard}
-use Rattle.ffi3_script_rules.specs.Natives.{NamedNative, program_beside}
+use Rattle.ffi3_place_spec.specs.Standard.{Standard}
+use Rattle.ffi3_script_spec.specs.Natives.{NamedNative, program_beside}
 use Rattle.ffi3_script.specs.ScriptOf.{script_of, natives_of}
 use Rattle.ffi3_script.specs.declared.script.Script.{Script}
-use Rattle.ffi3_run_rules.specs.Closures.{no_closures}
-use Rattle.ffi3_run_rules.specs.Meaning.{Program, most_moves}
-use Rattle.ffi3_ask.specs.Handed.{signatures_in}
-use Rattle.ffi3_ask.specs.declared.standing.Standing.{Standing}
-use Rattle.ffi3_configuration.specs.declared.configuration.Configuration.{Configuration}
+use Rattle.ffi3_semantics_spec.specs.Closures.{no_closures}
+use Rattle.ffi3_semantics_spec.specs.Meaning.{Program, most_moves}
+use Rattle.ffi3_next_move.specs.Handed.{signatures_in}
+use Rattle.ffi3_next_move.specs.declared.standing.Standing.{Standing}
+use Rattle.ffi3_run_state.specs.declared.configuration.Configuration.{Configuration}
 
 -- the program of a script beside natives
 abbrev pub program : Standard → Script → List NamedNative → Program

@@ -1,22 +1,22 @@
 -- A call that a runner serves.
 use Rattle.std.specs.Prelude.{◌≡◌, ◌⊎◌, Bool, List, Some}
-use Rattle.ffi3_type_rules.specs.Signature.{signature_at}
-use Rattle.ffi3_type_rules.specs.Value.{ValueTree}
-use Rattle.ffi3_place_rules.specs.Standard.{Standard}
-use Rattle.ffi3_run_rules.specs.declared.Closure.{Closure}
-use Rattle.ffi3_run_rules.specs.Closures.{Closures, closure_at}
-use Rattle.ffi3_run_rules.specs.Meaning.{Program}
+use Rattle.ffi3_type_spec.specs.Signature.{signature_at}
+use Rattle.ffi3_type_spec.specs.Value.{ValueTree}
+use Rattle.ffi3_place_spec.specs.Standard.{Standard}
+use Rattle.ffi3_semantics_spec.specs.declared.Closure.{Closure}
+use Rattle.ffi3_semantics_spec.specs.Closures.{Closures, closure_at}
+use Rattle.ffi3_semantics_spec.specs.Meaning.{Program}
 use Rattle.ffi3_machine.specs.State.{State}
 use Rattle.ffi3_io.specs.Sink.{SinkState}
 use Rattle.ffi3_io.specs.Written.{TookText}
 use Rattle.ffi3_io.specs.declared.IoError.{IoError}
 use Rattle.ffi3_io.specs.declared.IoError.TheVariants as cut
 use Rattle.ffi3_invoke.specs.Calls.{entered_closure, entry_at}
-use Rattle.ffi3_ask.specs.declared.standing.Standing.{Standing}
-use Rattle.ffi3_configuration.specs.declared.configuration.Configuration.{Configuration}
-use Rattle.ffi3_configuration.specs.Accepted.{WasInterruptedAtEntry}
-use Rattle.ffi3_configuration.specs.Served.{ShowsCall, served_base, served_beginning, served_left, served_tracing}
-use Rattle.ffi3_configuration.specs.TraceLines.{entry_lines}
+use Rattle.ffi3_next_move.specs.declared.standing.Standing.{Standing}
+use Rattle.ffi3_run_state.specs.declared.configuration.Configuration.{Configuration}
+use Rattle.ffi3_run_state.specs.Accepted.{WasInterruptedAtEntry}
+use Rattle.ffi3_run_state.specs.Served.{ShowsCall, served_base, served_beginning, served_left, served_tracing}
+use Rattle.ffi3_run_state.specs.TraceLines.{entry_lines}
 use Rattle.ffi3_runner.specs.Ran.{Ran}
 use Rattle.ffi3_runner.specs.declared.run.RunEnd.{RunEnd}
 use Rattle.ffi3_runner.specs.declared.run.RunEnd.TheVariants as run

@@ -1,15 +1,15 @@
 -- What a run of main begins with, and what it leaves where it returned or stopped.
 use Rattle.std.specs.Prelude.{◌≡◌, Bool, []}
-use Rattle.ffi3_type_rules.specs.declared.limits.TheConstants.{STACK_TOP}
-use Rattle.ffi3_place_rules.specs.Standard.{Standard}
-use Rattle.ffi3_run_rules.specs.Meaning.{Program, meaning_of}
-use Rattle.ffi3_turn_rules.specs.MainTracing.{main_tracing}
+use Rattle.ffi3_type_spec.specs.declared.limits.TheConstants.{STACK_TOP}
+use Rattle.ffi3_place_spec.specs.Standard.{Standard}
+use Rattle.ffi3_semantics_spec.specs.Meaning.{Program, meaning_of}
+use Rattle.ffi3_small_step_spec.specs.MainTracing.{main_tracing}
 use Rattle.ffi3_machine.specs.State.{State, begun_stack}
 use Rattle.ffi3_io.specs.Sink.{SinkState}
-use Rattle.ffi3_ask.specs.declared.standing.Standing.{Standing}
-use Rattle.ffi3_configuration.specs.declared.configuration.Configuration.{Configuration}
-use Rattle.ffi3_configuration.specs.Between.{Beginning}
-use Rattle.ffi3_configuration.specs.Served.{IsIdle}
+use Rattle.ffi3_next_move.specs.declared.standing.Standing.{Standing}
+use Rattle.ffi3_run_state.specs.declared.configuration.Configuration.{Configuration}
+use Rattle.ffi3_run_state.specs.Between.{Beginning}
+use Rattle.ffi3_run_state.specs.Served.{IsIdle}
 
 -- what a run of main finds, and how it is traced
 abbrev pub main_beginning : (trace : Bool) → Standard → SinkState → Beginning

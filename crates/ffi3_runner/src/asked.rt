@@ -1,22 +1,22 @@
 //! What an activation's function asks for.
 ghost use Rattle.std.specs.Prelude.{◌≡◌, ◌+◌, ◌<◌, ◌≤◌, ◌^◌, IfOk, length};
-ghost use Rattle.ffi3_type_rules.specs.declared.limits.TheConstants.{STACK, STACK_TOP};
-ghost use Rattle.ffi3_type_rules.specs.Signature.{signature_at};
-ghost use Rattle.ffi3_place_rules.specs.Standard.{Standard, block_bytes};
+ghost use Rattle.ffi3_type_spec.specs.declared.limits.TheConstants.{STACK, STACK_TOP};
+ghost use Rattle.ffi3_type_spec.specs.Signature.{signature_at};
+ghost use Rattle.ffi3_place_spec.specs.Standard.{Standard, block_bytes};
 ghost use Rattle.ffi3_script.specs.ScriptOf.{natives_of};
 ghost use Rattle.ffi3_body.specs.MoveOf.{move_of};
-ghost use Rattle.ffi3_ask.specs.Asked.{IsAsked};
-ghost use Rattle.ffi3_ask.specs.Handed.{handed, signatures_in};
-ghost use Rattle.ffi3_ask.specs.Stands.{StandingAgrees};
+ghost use Rattle.ffi3_next_move.specs.Asked.{IsAsked};
+ghost use Rattle.ffi3_next_move.specs.Handed.{handed, signatures_in};
+ghost use Rattle.ffi3_next_move.specs.Stands.{StandingAgrees};
 ghost use Rattle.ffi3_script_body.specs.Agrees.{one_more};
-ghost use Rattle.ffi3_ask.specs.Stands as ask;
+ghost use Rattle.ffi3_next_move.specs.Stands as ask;
 ghost use Rattle.ffi3_runner.specs.Agreeing.{seen_by_callee, seen_by_main};
 ghost use Rattle.ffi3_runner.specs.Running.{program};
 
-use ffi3_ask::{Move, Native, Seen, Standing, ask};
-use ffi3_configuration::{Activation, Cifs, OpenCall};
 use ffi3_machine::Machine;
+use ffi3_next_move::{Move, Native, Seen, Standing, ask};
 use ffi3_place::Abi;
+use ffi3_run_state::{Activation, Cifs, OpenCall};
 use ffi3_script::Script;
 use ffi3_types::{FfiType, Fields, NoMemory, Sig};
 use std::alloc::Global;

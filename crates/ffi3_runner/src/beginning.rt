@@ -1,21 +1,21 @@
 //! The beginning of a run of main.
 ghost use Rattle.std.specs.Prelude.{◌≡◌, Bool, []};
-ghost use Rattle.ffi3_run_rules.specs.Meaning.{meaning_of};
-ghost use Rattle.ffi3_turn_rules.specs.Remainder.{remainder_of};
-ghost use Rattle.ffi3_turn_rules.specs.SoFar.{main_base};
+ghost use Rattle.ffi3_semantics_spec.specs.Meaning.{meaning_of};
+ghost use Rattle.ffi3_small_step_spec.specs.Remainder.{remainder_of};
+ghost use Rattle.ffi3_small_step_spec.specs.SoFar.{main_base};
 ghost use Rattle.ffi3_machine.specs.State.{State, begun};
 ghost use Rattle.ffi3_io.specs.Sink.{SinkState};
-ghost use Rattle.ffi3_ask.specs.Handed.{handed};
-ghost use Rattle.ffi3_configuration.specs.Turned.{StandsAt};
+ghost use Rattle.ffi3_next_move.specs.Handed.{handed};
+ghost use Rattle.ffi3_run_state.specs.Turned.{StandsAt};
 ghost use Rattle.ffi3_runner.specs.Agreeing.{PositionsAgree};
 ghost use Rattle.ffi3_runner.specs.Ready.{CanGoOn, traced_or_not};
 ghost use Rattle.ffi3_runner.specs.Running.{IsNew, IsPrepared, program};
 ghost use Rattle.ffi3_runner.specs.Started.{main_beginning};
 
 use crate::prepare::Prepared;
-use ffi3_ask::Standing;
-use ffi3_configuration::{Activation, Configuration, Who};
+use ffi3_next_move::Standing;
 use ffi3_place::Abi;
+use ffi3_run_state::{Activation, Configuration, Who};
 use ffi3_values::Values;
 
 impl<'a, A: Abi> Prepared<'a, A> {

@@ -1,21 +1,21 @@
 //! A call that is served.
 ghost use Rattle.std.specs.Prelude.{List};
-ghost use Rattle.ffi3_type_rules.specs.Value.{ValueTree};
-ghost use Rattle.ffi3_run_rules.specs.declared.Closure.{Closure};
+ghost use Rattle.ffi3_type_spec.specs.Value.{ValueTree};
+ghost use Rattle.ffi3_semantics_spec.specs.declared.Closure.{Closure};
 ghost use Rattle.ffi3_closures.specs.Slots.{HoldsMap};
-ghost use Rattle.ffi3_ask.specs.Handed.{handed};
-ghost use Rattle.ffi3_configuration.specs.Served.{IsIdle};
+ghost use Rattle.ffi3_next_move.specs.Handed.{handed};
+ghost use Rattle.ffi3_run_state.specs.Served.{IsIdle};
 ghost use Rattle.ffi3_runner.specs.Running.{IsPrepared, program};
 ghost use Rattle.ffi3_runner.specs.Serving.{IsAtEntry, Served};
 
 use crate::prepare::Prepared;
 use crate::run::RunEnd;
-use ffi3_ask::Standing;
-use ffi3_configuration::Configuration;
 use ffi3_invoke::entered_closure;
 use ffi3_io::Sink;
 use ffi3_machine::Machine;
+use ffi3_next_move::Standing;
 use ffi3_place::Abi;
+use ffi3_run_state::Configuration;
 
 impl<'a, A: Abi> Prepared<'a, A> {
     // Accepts the call that the machine shows, and does moves until its activation has left. With

@@ -12,6 +12,6 @@ mod run;
 mod runner;
 mod turn;
 
-pub use ffi3_configuration::{Cifs, Stop, Table, Turn};
+pub use ffi3_run_state::{Cifs, Stop, Table, Turn};
 pub use run::RunEnd;
 pub use runner::Runner;

@@ -1,14 +1,14 @@
 //! What a run is prepared with.
 ghost use Rattle.std.specs.Prelude.{◌≡◌, IfOk};
-ghost use Rattle.ffi3_place_rules.specs.Standard.{Standard};
-ghost use Rattle.ffi3_script_rules.specs.Natives.{program_beside};
+ghost use Rattle.ffi3_place_spec.specs.Standard.{Standard};
+ghost use Rattle.ffi3_script_spec.specs.Natives.{program_beside};
 ghost use Rattle.ffi3_script.specs.ScriptOf.{script_of};
-ghost use Rattle.ffi3_ask.specs.Handed.{AreFew, handed};
+ghost use Rattle.ffi3_next_move.specs.Handed.{AreFew, handed};
 
-use ffi3_ask::{Native, signature, signatures};
 use ffi3_cif::Cif;
-use ffi3_configuration::Cifs;
+use ffi3_next_move::{Native, signature, signatures};
 use ffi3_place::Abi;
+use ffi3_run_state::Cifs;
 use ffi3_script::Script;
 use ffi3_types::{CheckedSig, NoMemory};
 use std::alloc::Global;

@@ -1,13 +1,13 @@
 //! Moves until a run ends.
 ghost use Rattle.std.specs.Prelude.{◌≡◌, List};
-ghost use Rattle.ffi3_place_rules.specs.Event.{Event};
-ghost use Rattle.ffi3_run_rules.specs.Trace.{TraceItem};
-ghost use Rattle.ffi3_turn_rules.specs.Remainder.{Remainder};
-ghost use Rattle.ffi3_turn_rules.specs.SoFar.{Base};
-ghost use Rattle.ffi3_turn_rules.specs.TracingOf.{IsTracingOf};
-ghost use Rattle.ffi3_ask.specs.Handed.{handed};
-ghost use Rattle.ffi3_configuration.specs.Between.{Beginning};
-ghost use Rattle.ffi3_configuration.specs.Turned.{StandsAt};
+ghost use Rattle.ffi3_place_spec.specs.Event.{Event};
+ghost use Rattle.ffi3_semantics_spec.specs.Trace.{TraceItem};
+ghost use Rattle.ffi3_small_step_spec.specs.Remainder.{Remainder};
+ghost use Rattle.ffi3_small_step_spec.specs.SoFar.{Base};
+ghost use Rattle.ffi3_small_step_spec.specs.TracingOf.{IsTracingOf};
+ghost use Rattle.ffi3_next_move.specs.Handed.{handed};
+ghost use Rattle.ffi3_run_state.specs.Between.{Beginning};
+ghost use Rattle.ffi3_run_state.specs.Turned.{StandsAt};
 ghost use Rattle.ffi3_runner.specs.Agreeing.{PositionsAgree};
 ghost use Rattle.ffi3_runner.specs.Ran.{Ran};
 ghost use Rattle.ffi3_runner.specs.Ready.{CanGoOnWith};
@@ -15,11 +15,11 @@ ghost use Rattle.ffi3_runner.specs.Serving.{end_of};
 ghost use Rattle.ffi3_runner.specs.Running.{IsPrepared, program};
 
 use crate::prepare::Prepared;
-use ffi3_ask::Standing;
-use ffi3_configuration::{Configuration, Stop, Turn};
 use ffi3_io::{IoError, Sink};
 use ffi3_machine::Machine;
+use ffi3_next_move::Standing;
 use ffi3_place::Abi;
+use ffi3_run_state::{Configuration, Stop, Turn};
 
 /// How a run ended.
 #[derive(Clone, Copy, Debug, PartialEq, Eq, Drop)]

@@ -1,25 +1,25 @@
 //! One move of a run.
 ghost use Rattle.std.specs.Prelude.{◌≡◌, List, suc};
-ghost use Rattle.ffi3_place_rules.specs.Event.{Event};
-ghost use Rattle.ffi3_run_rules.specs.Trace.{TraceItem};
-ghost use Rattle.ffi3_turn_rules.specs.Remainder.{Remainder};
-ghost use Rattle.ffi3_turn_rules.specs.SoFar.{Base};
-ghost use Rattle.ffi3_turn_rules.specs.TracingOf.{IsTracingOf};
-ghost use Rattle.ffi3_ask.specs.Handed.{handed};
-ghost use Rattle.ffi3_configuration.specs.Between.{Beginning};
-ghost use Rattle.ffi3_configuration.specs.Stack.{WritesInLast};
-ghost use Rattle.ffi3_configuration.specs.Turned.{HasFailed, StandsAt};
+ghost use Rattle.ffi3_place_spec.specs.Event.{Event};
+ghost use Rattle.ffi3_semantics_spec.specs.Trace.{TraceItem};
+ghost use Rattle.ffi3_small_step_spec.specs.Remainder.{Remainder};
+ghost use Rattle.ffi3_small_step_spec.specs.SoFar.{Base};
+ghost use Rattle.ffi3_small_step_spec.specs.TracingOf.{IsTracingOf};
+ghost use Rattle.ffi3_next_move.specs.Handed.{handed};
+ghost use Rattle.ffi3_run_state.specs.Between.{Beginning};
+ghost use Rattle.ffi3_run_state.specs.Stack.{WritesInLast};
+ghost use Rattle.ffi3_run_state.specs.Turned.{HasFailed, StandsAt};
 ghost use Rattle.ffi3_runner.specs.Agreeing.{PositionsAgree};
 ghost use Rattle.ffi3_runner.specs.Ran.{TurnSays};
 ghost use Rattle.ffi3_runner.specs.Ready.{CanGoOnWith, StillCanGoOn};
 ghost use Rattle.ffi3_runner.specs.Running.{IsPrepared, program};
 
 use crate::prepare::Prepared;
-use ffi3_ask::{Move, Standing, sig_of};
-use ffi3_configuration::{Configuration, Turn};
 use ffi3_io::Sink;
 use ffi3_machine::Machine;
+use ffi3_next_move::{Move, Standing, sig_of};
 use ffi3_place::Abi;
+use ffi3_run_state::{Configuration, Turn};
 
 impl<'a, A: Abi> Prepared<'a, A> {
     /// Does one move of the innermost activation, after which the next can be done.

@@ -1,12 +1,12 @@
 -- A run of main whose caller does its moves one at a time.
 use Rattle.std.proofs.Common.{◌≡◌, List, sym, subst}
-use Rattle.ffi3_type_rules.specs.Signature.{Signature}
-use Rattle.ffi3_place_rules.specs.Standard.{Standard}
+use Rattle.ffi3_type_spec.specs.Signature.{Signature}
+use Rattle.ffi3_place_spec.specs.Standard.{Standard}
 use Rattle.ffi3_machine.specs.State.{State}
-use Rattle.ffi3_script_rules.specs.Natives.{NamedNative}
+use Rattle.ffi3_script_spec.specs.Natives.{NamedNative}
 use Rattle.ffi3_script.specs.declared.script.Script.{Script}
-use Rattle.ffi3_ask.specs.declared.standing.Standing.{Standing}
-use Rattle.ffi3_configuration.specs.declared.configuration.Configuration.{Configuration}
+use Rattle.ffi3_next_move.specs.declared.standing.Standing.{Standing}
+use Rattle.ffi3_run_state.specs.declared.configuration.Configuration.{Configuration}
 use Rattle.ffi3_runner.specs.Agreeing.{PositionsAgree}
 use Rattle.ffi3_runner.specs.Ready.{CanGoOn, traced_or_not}
 use Rattle.ffi3_runner.specs.Running.{IsPrepared, program}

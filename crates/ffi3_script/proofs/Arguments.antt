@@ -3,11 +3,11 @@ use Rattle.std.proofs.Common.{◌≡◌, ℕ, ◌==◌, true, false, cond, List,
 use Rattle.std.proofs.lemmas.Bool.Decides.{nat_tests}
 use Rattle.serde_json.specs.Data.{Data, null, boolean, number, string, array, object, Items}
 use Rattle.serde_json.specs.Events.{items_len}
-use Rattle.ffi3_type_rules.specs.Tree.{Tree}
-use Rattle.ffi3_script_rules.specs.Language.{JsonPath, Reason, Read, read, fault, and_then, wrong_count}
-use Rattle.ffi3_script_rules.specs.Script.{Expressions}
-use Rattle.ffi3_script_rules.specs.Values.{Scope, read_values}
-use Rattle.ffi3_script_rules.specs.Bodies.{read_arguments, items_at}
+use Rattle.ffi3_type_spec.specs.Tree.{Tree}
+use Rattle.ffi3_script_spec.specs.Language.{JsonPath, Reason, Read, read, fault, and_then, wrong_count}
+use Rattle.ffi3_script_spec.specs.Script.{Expressions}
+use Rattle.ffi3_script_spec.specs.Values.{Scope, read_values}
+use Rattle.ffi3_script_spec.specs.Bodies.{read_arguments, items_at}
 use Rattle.ffi3_script.proofs.Steps.{then_fault, then_read}
 
 pub differ : (a b : ℕ) → (a ≡ b → ⊥) → (a == b) ≡ false

@@ -3,11 +3,11 @@ use Rattle.std.proofs.Common.{◌≡◌, ℕ, zero, suc, ◌+◌, ◌-◌, ◌==
 use Rattle.std.specs.Prelude.{if◌then◌else◌}
 use Rattle.serde_json.specs.Data.{Data, null, boolean, number, string, array, object, Items}
 use Rattle.serde_json.specs.Events.{items_len}
-use Rattle.ffi3_type_rules.specs.Tree.{Tree}
-use Rattle.ffi3_script_rules.specs.Language.{JsonPath, Reason, Read, read, fault, and_then, at_item, no_return_at_the_end}
-use Rattle.ffi3_script_rules.specs.Script as script
-use Rattle.ffi3_script_rules.specs.Values.{Given}
-use Rattle.ffi3_script_rules.specs.Bodies.{Surroundings, read_move, read_moves, read_body, if_ended, items_at, given_by, type_of_act, always_returns, ends}
+use Rattle.ffi3_type_spec.specs.Tree.{Tree}
+use Rattle.ffi3_script_spec.specs.Language.{JsonPath, Reason, Read, read, fault, and_then, at_item, no_return_at_the_end}
+use Rattle.ffi3_script_spec.specs.Script as script
+use Rattle.ffi3_script_spec.specs.Values.{Given}
+use Rattle.ffi3_script_spec.specs.Bodies.{Surroundings, read_move, read_moves, read_body, if_ended, items_at, given_by, type_of_act, always_returns, ends}
 use Rattle.ffi3_json.specs.Parts.{item_at, items_from}
 use Rattle.ffi3_script_body.specs.ExprOf.{act_of, script_move_of, script_moves_of}
 use Rattle.ffi3_script.specs.ScopeOf.{given_of}

@@ -2,12 +2,12 @@
 use Rattle.std.proofs.Common.{◌≡◌, ℕ, List, length, Option, Some, None, codes, refl, ap, sym, ◌∙◌}
 use Rattle.serde_json.specs.Data.{Data}
 use Rattle.serde_json.specs.Find.{get, as_str}
-use Rattle.ffi3_type_rules.specs.Tree.{scalar, pointer}
-use Rattle.ffi3_type_rules.specs.Signature.{signature_at}
-use Rattle.ffi3_script_rules.specs.Language.{JsonPath, Reason, Read, read, fault, and_then, read_map, under, value_under, check_object}
-use Rattle.ffi3_script_rules.specs.Script.{Expression, Expressions, Typed, Act, call, make, free, print, ScriptMove}
-use Rattle.ffi3_script_rules.specs.Values.{Given, Scope, read_value, read_typed}
-use Rattle.ffi3_script_rules.specs.Bodies.{Surroundings, Kind, call_kind, make_kind, free_kind, print_kind, return_kind, kind_of, keys_of, scope_of, unnamed, read_signature_number, read_arguments, read_name, read_function, read_user, read_result, read_condition, read_act, read_kind, read_move}
+use Rattle.ffi3_type_spec.specs.Tree.{scalar, pointer}
+use Rattle.ffi3_type_spec.specs.Signature.{signature_at}
+use Rattle.ffi3_script_spec.specs.Language.{JsonPath, Reason, Read, read, fault, and_then, read_map, under, value_under, check_object}
+use Rattle.ffi3_script_spec.specs.Script.{Expression, Expressions, Typed, Act, call, make, free, print, ScriptMove}
+use Rattle.ffi3_script_spec.specs.Values.{Given, Scope, read_value, read_typed}
+use Rattle.ffi3_script_spec.specs.Bodies.{Surroundings, Kind, call_kind, make_kind, free_kind, print_kind, return_kind, kind_of, keys_of, scope_of, unnamed, read_signature_number, read_arguments, read_name, read_function, read_user, read_result, read_condition, read_act, read_kind, read_move}
 use Rattle.ffi3_script.proofs.Steps.{then_read}
 
 abbrev pub under_condition : Option Typed → ScriptMove → ScriptMove

@@ -5,13 +5,13 @@ use Rattle.std.proofs.lemmas.List.Elements.{All-cons, All-nil}
 use Rattle.serde_json.specs.Data.{Data, null, boolean, number, string, array, object, Items, no_items, item}
 use Rattle.serde_json.specs.Find.{get, as_number, as_u64}
 use Rattle.serde_json.specs.Events.{items_len}
-use Rattle.ffi3_type_rules.specs.Signature.{Signature, signature_at}
-use Rattle.ffi3_run_rules.specs.Move.{no_signature}
-use Rattle.ffi3_script_rules.specs.Language.{JsonPath, read, read_signature, at_item, under, value_under, check_object, no_return_at_the_end}
-use Rattle.ffi3_script_rules.specs.Script.{ScriptMove, ScriptFunction, Script}
-use Rattle.ffi3_script_rules.specs.Values.{Given}
-use Rattle.ffi3_script_rules.specs.Bodies.{Surroundings, read_move, read_moves, given_by, read_body, if_ended, ends, Heading, read_bodies, names_of, read_rest, read_script, script_keys, version_of, items_at, read_signatures, read_headings}
-use Rattle.ffi3_script_rules.proofs.ReadParts.{first_was_read, part_was_read, same_read, test_held}
+use Rattle.ffi3_type_spec.specs.Signature.{Signature, signature_at}
+use Rattle.ffi3_semantics_spec.specs.Move.{no_signature}
+use Rattle.ffi3_script_spec.specs.Language.{JsonPath, read, read_signature, at_item, under, value_under, check_object, no_return_at_the_end}
+use Rattle.ffi3_script_spec.specs.Script.{ScriptMove, ScriptFunction, Script}
+use Rattle.ffi3_script_spec.specs.Values.{Given}
+use Rattle.ffi3_script_spec.specs.Bodies.{Surroundings, read_move, read_moves, given_by, read_body, if_ended, ends, Heading, read_bodies, names_of, read_rest, read_script, script_keys, version_of, items_at, read_signatures, read_headings}
+use Rattle.ffi3_script_spec.proofs.ReadParts.{first_was_read, part_was_read, same_read, test_held}
 use Rattle.ffi3_json.specs.Within.{HasArraysWithin, HaveArraysWithin}
 use Rattle.ffi3_script.proofs.RootParts.{within-get}
 

@@ -6,12 +6,12 @@ use Rattle.std.proofs.lemmas.List.{map-append}
 use Rattle.serde_json.specs.Data.{Data, Items, item}
 use Rattle.serde_json.specs.Events.{items_len}
 use Rattle.serde_json.specs.Find.{get, as_str}
-use Rattle.ffi3_type_rules.specs.Signature.{Signature, signature_at}
-use Rattle.ffi3_script_rules.specs.Language.{JsonPath, Reason, Read, read, fault, read_map, and_then, at_item, under, value_under}
-use Rattle.ffi3_script_rules.specs.Script as script
-use Rattle.ffi3_script_rules.specs.Values.{is_name_of}
-use Rattle.ffi3_script_rules.specs.Bodies as bodies
-use Rattle.ffi3_script_rules.specs.Bodies.{is_one_of, new_name, read_heading, read_headings, names_of, function_of, read_body, read_bodies}
+use Rattle.ffi3_type_spec.specs.Signature.{Signature, signature_at}
+use Rattle.ffi3_script_spec.specs.Language.{JsonPath, Reason, Read, read, fault, read_map, and_then, at_item, under, value_under}
+use Rattle.ffi3_script_spec.specs.Script as script
+use Rattle.ffi3_script_spec.specs.Values.{is_name_of}
+use Rattle.ffi3_script_spec.specs.Bodies as bodies
+use Rattle.ffi3_script_spec.specs.Bodies.{is_one_of, new_name, read_heading, read_headings, names_of, function_of, read_body, read_bodies}
 use Rattle.ffi3_json.specs.Parts.{item_at, items_from}
 use Rattle.ffi3_json.proofs.Objects.{next}
 use Rattle.ffi3_script.specs.Taken.{is_taken}

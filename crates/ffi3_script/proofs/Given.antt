@@ -5,10 +5,10 @@ use Rattle.std.specs.List.{list_any, prefix_len}
 use Rattle.std.proofs.lemmas.Bool.Decides.{nat_tests}
 use Rattle.serde_json.specs.Data.{Data}
 use Rattle.serde_json.specs.Find.{get, as_str}
-use Rattle.ffi3_type_rules.specs.Tree.{Tree}
-use Rattle.ffi3_script_rules.specs.Language.{JsonPath, Reason, read, fault, and_then, void_result, bad_name, name_twice}
-use Rattle.ffi3_script_rules.specs.Values.{is_name_of, has_name}
-use Rattle.ffi3_script_rules.specs.Bodies.{is_name, new_name, is_given, is_void_type, read_name, name_of_result}
+use Rattle.ffi3_type_spec.specs.Tree.{Tree}
+use Rattle.ffi3_script_spec.specs.Language.{JsonPath, Reason, read, fault, and_then, void_result, bad_name, name_twice}
+use Rattle.ffi3_script_spec.specs.Values.{is_name_of, has_name}
+use Rattle.ffi3_script_spec.specs.Bodies.{is_name, new_name, is_given, is_void_type, read_name, name_of_result}
 use Rattle.ffi3_types.specs.TreeOf.{tree_of}
 use Rattle.ffi3_types.specs.declared.FfiType.{FfiType}
 use Rattle.ffi3_types.specs.declared.FfiType.TheVariants.{Void, U8, S8, U16, S16, U32, S32, U64, S64, U128, S128, Float, Double, Pointer, Struct, Array, LongDouble, Complex, Vector, X87, Binary128}

@@ -5,7 +5,7 @@ use Rattle.serde_json.specs.Data.{Data, Items, no_items, item}
 use Rattle.serde_json.specs.Events.{items_len}
 use Rattle.ffi3_json.specs.Parts.{item_at, items_from}
 use Rattle.ffi3_json.proofs.Items.{item_next, items_none_left}
-use Rattle.ffi3_script_rules.specs.Language.{JsonPath, Reason, Read, read, fault, read_map, and_then}
+use Rattle.ffi3_script_spec.specs.Language.{JsonPath, Reason, Read, read, fault, read_map, and_then}
 
 pub next_item : (ds : Items) (i : ℕ) (x : Data) → i < items_len ds → x ≡ item_at ds i → items_from i ds ≡ item x (items_from (i + 1) ds)
 next_item ds i x below is = item_next ds i below ∙ ap (λ d. item d (items_from (i + 1) ds)) (sym is)

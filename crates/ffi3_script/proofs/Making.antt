@@ -5,11 +5,11 @@ use Rattle.std.specs.List.{list_all}
 use Rattle.std.proofs.lemmas.List.{length-map}
 use Rattle.std.proofs.lemmas.List.Folds.{list_all-map}
 use Rattle.std.proofs.lemmas.List.Sums.{AllPass-from_list_all}
-use Rattle.ffi3_type_rules.specs.Signature.{Signature}
-use Rattle.ffi3_run_rules.specs.Move.{no_signature}
-use Rattle.ffi3_script_rules.specs.Script as script
-use Rattle.ffi3_script_rules.specs.Typed.{script_is_typed, function_is_typed, body_is_typed, signature_is_right}
-use Rattle.ffi3_script_rules.proofs.Tests.{and_left, and_right}
+use Rattle.ffi3_type_spec.specs.Signature.{Signature}
+use Rattle.ffi3_semantics_spec.specs.Move.{no_signature}
+use Rattle.ffi3_script_spec.specs.Script as script
+use Rattle.ffi3_script_spec.specs.Typed.{script_is_typed, function_is_typed, body_is_typed, signature_is_right}
+use Rattle.ffi3_script_spec.proofs.Tests.{and_left, and_right}
 use Rattle.ffi3_script_body.specs.ExprOf.{script_move_of, script_moves_of}
 use Rattle.ffi3_script.specs.FunctionOf.{function_of}
 use Rattle.ffi3_script.specs.PartsOf.{part_of, script_in}

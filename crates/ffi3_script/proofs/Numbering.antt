@@ -9,7 +9,7 @@ use Rattle.std.proofs.lemmas.List.{length_push, length-map, map-append}
 use Rattle.std.proofs.lemmas.List.Sums.{prefix_len-le-length}
 use Rattle.std.proofs.lemmas.List.Folds.{position_or_len_push}
 use Rattle.std.proofs.lemmas.Bool.Decides.{nat_tests}
-use Rattle.ffi3_script_rules.specs.Values.{is_name_of}
+use Rattle.ffi3_script_spec.specs.Values.{is_name_of}
 use Rattle.ffi3_script.specs.Finds.{FindsFirst, first_or}
 
 push_cases : (k n : ℕ) (b : Bool) → k ≤ n

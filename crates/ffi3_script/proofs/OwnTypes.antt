@@ -3,7 +3,7 @@ use Rattle.std.proofs.Common.{◌≡◌, ℕ, ◌<◌, ◌≤◌, List, [], ◌�
 use Rattle.std.specs.Prelude.{slice_get, replicate}
 use Rattle.std.proofs.lemmas.List.{length-replicate, get_or-replicate}
 use Rattle.std.proofs.lemmas.Option.{slice_get-get_or, slice_get_past}
-use Rattle.ffi3_type_rules.specs.Tree.{Tree, void, array, struct_of, trees_of, tree_at, list_of-trees_of}
+use Rattle.ffi3_type_spec.specs.Tree.{Tree, void, array, struct_of, trees_of, tree_at, list_of-trees_of}
 use Rattle.ffi3_script.specs.OwnTypeOf.{element_at}
 
 pub struct_element : (ts : List Tree) (i : ℕ) → i < length ts → Some (tree_at ts i) ≡ element_at (struct_of ts) i

@@ -3,10 +3,10 @@ use Rattle.std.proofs.Common.{◌≡◌, ℕ, zero, suc, ◌+◌, ◌<◌, not, 
 use Rattle.std.specs.Prelude.{slice_get}
 use Rattle.std.specs.List.{position_or_len}
 use Rattle.std.proofs.lemmas.List.Quantifiers.{position-Some}
-use Rattle.ffi3_type_rules.specs.Tree.{Tree, tree_at}
-use Rattle.ffi3_script_rules.specs.Language.{JsonPath, read, fault, no_such_result}
-use Rattle.ffi3_script_rules.specs.Script.{outcome}
-use Rattle.ffi3_script_rules.specs.Values.{has_name, is_name_of, result_of, result_number, typed_result, typed}
+use Rattle.ffi3_type_spec.specs.Tree.{Tree, tree_at}
+use Rattle.ffi3_script_spec.specs.Language.{JsonPath, read, fault, no_such_result}
+use Rattle.ffi3_script_spec.specs.Script.{outcome}
+use Rattle.ffi3_script_spec.specs.Values.{has_name, is_name_of, result_of, result_number, typed_result, typed}
 use Rattle.ffi3_script.specs.ScopeOf.{given_of}
 
 count : (names : List (Option (List ℕ))) (types : List Tree) → length names ≡ length types → length (given_of names types) ≡ length names

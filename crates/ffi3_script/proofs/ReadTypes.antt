@@ -3,19 +3,19 @@ use Rattle.std.proofs.Common.{◌≡◌, ℕ, Bool, true, false, List, refl, sym
 use Rattle.std.specs.Prelude.{if◌then◌else◌}
 use Rattle.std.proofs.lemmas.Bool.{false≢true}
 use Rattle.serde_json.specs.Data.{Data}
-use Rattle.ffi3_type_rules.specs.declared.Role.TheVariants.{AsArgument}
-use Rattle.ffi3_type_rules.specs.Tree.{Tree}
-use Rattle.ffi3_type_rules.specs.Fault as type_fault
-use Rattle.ffi3_type_rules.specs.Fault.{IsFirstFault, IsArgumentType}
-use Rattle.ffi3_type_rules.specs.Same.{same_tree}
+use Rattle.ffi3_type_spec.specs.declared.Role.TheVariants.{AsArgument}
+use Rattle.ffi3_type_spec.specs.Tree.{Tree}
+use Rattle.ffi3_type_spec.specs.Fault as type_fault
+use Rattle.ffi3_type_spec.specs.Fault.{IsFirstFault, IsArgumentType}
+use Rattle.ffi3_type_spec.specs.Same.{same_tree}
 use Rattle.ffi3_types.specs.declared.FfiType.{FfiType}
 use Rattle.ffi3_types.specs.TreeOf.{tree_of}
 use Rattle.ffi3_types.proofs.Trees.{tree_of-inj}
-use Rattle.ffi3_script_rules.specs.Language.{JsonPath, Read, read, fault, and_then, read_type, inside_type, reason_of_type_fault, wrong_type}
-use Rattle.ffi3_script_rules.specs.Script.{Expression}
-use Rattle.ffi3_script_rules.specs.Values.{against, typed, read_right_type, right_type}
-use Rattle.ffi3_type_rules.proofs.FirstFaults.{found_by_first, none_found}
-use Rattle.ffi3_script_rules.proofs.Tests.{types_are_same, type_is_itself}
+use Rattle.ffi3_script_spec.specs.Language.{JsonPath, Read, read, fault, and_then, read_type, inside_type, reason_of_type_fault, wrong_type}
+use Rattle.ffi3_script_spec.specs.Script.{Expression}
+use Rattle.ffi3_script_spec.specs.Values.{against, typed, read_right_type, right_type}
+use Rattle.ffi3_type_spec.proofs.FirstFaults.{found_by_first, none_found}
+use Rattle.ffi3_script_spec.proofs.Tests.{types_are_same, type_is_itself}
 
 -- ---- one step after another
 

@@ -6,11 +6,11 @@ use Rattle.std.proofs.lemmas.List.{drop_more}
 use Rattle.serde_json.specs.Data.{Num, Data, null, boolean, number, string, array, object, Items, no_items, item, no_members, member}
 use Rattle.serde_json.specs.Find.{as_number, as_array, as_u64}
 use Rattle.serde_json.specs.Events.{items_len}
-use Rattle.ffi3_type_rules.specs.Tree.{Tree, void, tree_at, elements_of}
-use Rattle.ffi3_script_rules.specs.Language.{JsonPath, Reason, Read, read, fault, and_then, read_map, at_item, under, wrong_count, wrong_type}
-use Rattle.ffi3_script_rules.specs.Script.{Expression, composed, typed_as, Expressions, no_expressions, expression, expressions_of, Typed}
-use Rattle.ffi3_script_rules.specs.Values as values
-use Rattle.ffi3_script_rules.specs.Values.{Scope, Pair, is_integer_type, is_list_type, composed_of, form_named, own_by, read_number, read_value, read_values, read_typed, read_two, read_field, read_of, read_right_type, field_of, typed}
+use Rattle.ffi3_type_spec.specs.Tree.{Tree, void, tree_at, elements_of}
+use Rattle.ffi3_script_spec.specs.Language.{JsonPath, Reason, Read, read, fault, and_then, read_map, at_item, under, wrong_count, wrong_type}
+use Rattle.ffi3_script_spec.specs.Script.{Expression, composed, typed_as, Expressions, no_expressions, expression, expressions_of, Typed}
+use Rattle.ffi3_script_spec.specs.Values as values
+use Rattle.ffi3_script_spec.specs.Values.{Scope, Pair, is_integer_type, is_list_type, composed_of, form_named, own_by, read_number, read_value, read_values, read_typed, read_two, read_field, read_of, read_right_type, field_of, typed}
 use Rattle.ffi3_json.specs.Parts.{item_at, items_from, only_member}
 use Rattle.ffi3_json.proofs.Items.{items_none_left}
 use Rattle.ffi3_json.proofs.Objects.{array_is}

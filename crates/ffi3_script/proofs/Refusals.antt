@@ -1,11 +1,11 @@
 -- What a fault of reading tells of the bytes.
 use Rattle.std.proofs.Common.{◌≡◌, ℕ, List, Result, Ok, Err, IfErr, IsErrAnd, sym, subst}
 use Rattle.serde_json.specs.Data.{Data}
-use Rattle.ffi3_script_rules.specs.Language.{read, fault}
-use Rattle.ffi3_script_rules.specs.Script.{Script}
-use Rattle.ffi3_script_rules.specs.Bodies.{read_script}
-use Rattle.ffi3_script_rules.specs.Reading.{IsJson, IsTheReading, too_long, not_json, bad_script, script}
-use Rattle.ffi3_script_rules.proofs.Readings.{the_reading}
+use Rattle.ffi3_script_spec.specs.Language.{read, fault}
+use Rattle.ffi3_script_spec.specs.Script.{Script}
+use Rattle.ffi3_script_spec.specs.Bodies.{read_script}
+use Rattle.ffi3_script_spec.specs.Reading.{IsJson, IsTheReading, too_long, not_json, bad_script, script}
+use Rattle.ffi3_script_spec.proofs.Readings.{the_reading}
 use Rattle.ffi3_json.specs.ReasonOf.{reason_of}
 use Rattle.ffi3_json.specs.Reports.{Reports, IsCauseOf}
 use Rattle.ffi3_json.specs.declared.fault.ScriptFault.{ScriptFault}

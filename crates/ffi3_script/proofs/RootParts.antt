@@ -8,11 +8,11 @@ use Rattle.serde_json.specs.Events.{items_len}
 use Rattle.serde_json.specs.Find.{get, get_member, as_array, as_number, as_u64}
 use Rattle.std.specs.Ordering.{nat_cmp}
 use Rattle.std.specs.Cmp.Lexicographic.{slice_cmp}
-use Rattle.ffi3_type_rules.specs.Signature.{Signature}
-use Rattle.ffi3_script_rules.specs.Language.{JsonPath, Reason, Read, read, fault, and_then, read_map, under, value_under, at_item, check_object, read_signature}
-use Rattle.ffi3_script_rules.specs.Script.{Script, ScriptFunction, ScriptMove}
-use Rattle.ffi3_script_rules.specs.Bodies.{Heading, script_keys, version_of, items_at, read_signatures, read_headings, read_body, read_bodies, read_rest, read_script}
-use Rattle.ffi3_run_rules.specs.Move.{no_signature}
+use Rattle.ffi3_type_spec.specs.Signature.{Signature}
+use Rattle.ffi3_script_spec.specs.Language.{JsonPath, Reason, Read, read, fault, and_then, read_map, under, value_under, at_item, check_object, read_signature}
+use Rattle.ffi3_script_spec.specs.Script.{Script, ScriptFunction, ScriptMove}
+use Rattle.ffi3_script_spec.specs.Bodies.{Heading, script_keys, version_of, items_at, read_signatures, read_headings, read_body, read_bodies, read_rest, read_script}
+use Rattle.ffi3_semantics_spec.specs.Move.{no_signature}
 use Rattle.ffi3_script.specs.PartsOf.{bodies_and_main}
 use Rattle.ffi3_json.specs.Within.{HasArraysWithin, HaveMembersWithin}
 use Rattle.ffi3_json.specs.Parts.{item_at, items_from}

@@ -4,13 +4,13 @@ use Rattle.std.specs.Prelude.{nat_lt}
 use Rattle.std.specs.List.{list_all}
 use Rattle.std.proofs.lemmas.Bool.{ltb-true}
 use Rattle.std.proofs.lemmas.List.{get_or-map, length-map}
-use Rattle.ffi3_type_rules.specs.Signature.{Signature, signature_at, SignatureHasNoFault}
-use Rattle.ffi3_script_rules.specs.Script as script
-use Rattle.ffi3_type_rules.specs.FirstFault.{first_signature_fault}
-use Rattle.ffi3_script_rules.specs.Typed.{function_is_typed, signature_is_right}
-use Rattle.ffi3_script_rules.proofs.Tests.{and_left, and_right}
-use Rattle.ffi3_script_rules.proofs.RightTypes.{is_none-none}
-use Rattle.ffi3_type_rules.proofs.FirstSignatureFaults.{signature_right_by_none}
+use Rattle.ffi3_type_spec.specs.Signature.{Signature, signature_at, SignatureHasNoFault}
+use Rattle.ffi3_script_spec.specs.Script as script
+use Rattle.ffi3_type_spec.specs.FirstFault.{first_signature_fault}
+use Rattle.ffi3_script_spec.specs.Typed.{function_is_typed, signature_is_right}
+use Rattle.ffi3_script_spec.proofs.Tests.{and_left, and_right}
+use Rattle.ffi3_script_spec.proofs.RightTypes.{is_none-none}
+use Rattle.ffi3_type_spec.proofs.FirstSignatureFaults.{signature_right_by_none}
 use Rattle.ffi3_script.specs.FunctionOf.{function_of, StandsIn}
 use Rattle.ffi3_script.specs.declared.script.ScriptFunction.{ScriptFunction}
 

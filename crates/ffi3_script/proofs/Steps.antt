@@ -3,7 +3,7 @@ use Rattle.std.proofs.Common.{◌≡◌, ℕ, List, Some, sym, ap}
 use Rattle.std.specs.Prelude.{unwrap_or}
 use Rattle.serde_json.specs.Data.{Data, null}
 use Rattle.serde_json.specs.Find.{get}
-use Rattle.ffi3_script_rules.specs.Language.{JsonPath, Reason, Read, read, fault, and_then, value_under}
+use Rattle.ffi3_script_spec.specs.Language.{JsonPath, Reason, Read, read, fault, and_then, value_under}
 
 pub then_fault : {A B : Type 0} (f : A → Read B) (x : Read A) (p : JsonPath) (r : Reason) → x ≡ fault p r → and_then f x ≡ fault p r
 then_fault f x p r e = ap (and_then f) e

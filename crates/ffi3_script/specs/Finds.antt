@@ -1,7 +1,7 @@
 -- That a map has the first number of each name.
 use Rattle.std.specs.Prelude.{◌≡◌, ℕ, List, Bool, Option, Some, None, cond, position, String}
 use Rattle.std.specs.BTreeMap.{BTreeMap, get_by_text}
-use Rattle.ffi3_script_rules.specs.Values.{is_name_of}
+use Rattle.ffi3_script_spec.specs.Values.{is_name_of}
 
 abbrev pub FindsFirst : {A : Type 0} → BTreeMap (String A) ℕ → List (Option (List ℕ)) → Type 0
 FindsFirst numbers names =

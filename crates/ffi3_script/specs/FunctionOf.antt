@@ -1,7 +1,7 @@
 -- Which functions and which script those of the code are.
 use Rattle.std.specs.Prelude.{◌≡◌, ℕ, List, map, string_bytes}
-use Rattle.ffi3_type_rules.specs.Signature.{Signature}
-use Rattle.ffi3_script_rules.specs.Script as script
+use Rattle.ffi3_type_spec.specs.Signature.{Signature}
+use Rattle.ffi3_script_spec.specs.Script as script
 use Rattle.ffi3_script_body.specs.BodyOf.{moves_of, signatures_of, functions_of, signature_of}
 use Rattle.ffi3_script_body.specs.declared.body.ScriptBody.{ScriptBody}
 use Rattle.ffi3_script.specs.declared.script.ScriptFunction.{ScriptFunction}

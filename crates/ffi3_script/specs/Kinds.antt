@@ -1,5 +1,5 @@
 -- Which kind of moves one of the code is.
-use Rattle.ffi3_script_rules.specs.Bodies as bodies
+use Rattle.ffi3_script_spec.specs.Bodies as bodies
 use Rattle.ffi3_script.specs.declared.acts.Kind.{Kind}
 use Rattle.ffi3_script.specs.declared.acts.Kind.TheVariants.{Call, Make, Free, Print, Return}
 

@@ -1,6 +1,6 @@
 -- Which move it is that does a thing under a condition.
 use Rattle.std.specs.Prelude.{Option, option_map, string_bytes}
-use Rattle.ffi3_script_rules.specs.Script.{Typed, ScriptMove}
+use Rattle.ffi3_script_spec.specs.Script.{Typed, ScriptMove}
 use Rattle.ffi3_script_body.specs.ExprOf.{act_of}
 use Rattle.ffi3_script.specs.declared.acts.NamedAct.{NamedAct}
 

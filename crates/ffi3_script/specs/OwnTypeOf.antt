@@ -1,8 +1,8 @@
 -- Which type a value has of its own, and which typed value one of the code is.
 use Rattle.std.specs.Prelude.{ℕ, Option, option_and_then, slice_get}
-use Rattle.ffi3_type_rules.specs.Tree.{Tree}
+use Rattle.ffi3_type_spec.specs.Tree.{Tree}
 use Rattle.ffi3_types.specs.TreeOf.{tree_of}
-use Rattle.ffi3_script_rules.specs.Script.{Typed}
+use Rattle.ffi3_script_spec.specs.Script.{Typed}
 use Rattle.ffi3_script_body.specs.ExprOf.{expression_of}
 use Rattle.ffi3_script_body.specs.ListTypes.{element_types}
 use Rattle.ffi3_script.specs.declared.own_type.OwnType.{OwnType}

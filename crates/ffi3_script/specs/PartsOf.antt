@@ -1,12 +1,12 @@
 -- Which headings, functions and script those of the code are.
 use Rattle.std.specs.Prelude.{◌≡◌, ℕ, List, map, string_bytes, codes}
 use Rattle.serde_json.specs.Data.{Data, Items}
-use Rattle.ffi3_run_rules.specs.Move.{no_signature}
-use Rattle.ffi3_script_rules.specs.Language.{Read, JsonPath, and_then, read_map, under, value_under}
-use Rattle.ffi3_script_rules.specs.Bodies.{read_body, read_bodies}
-use Rattle.ffi3_type_rules.specs.Signature.{Signature}
-use Rattle.ffi3_script_rules.specs.Script as script
-use Rattle.ffi3_script_rules.specs.Bodies as bodies
+use Rattle.ffi3_semantics_spec.specs.Move.{no_signature}
+use Rattle.ffi3_script_spec.specs.Language.{Read, JsonPath, and_then, read_map, under, value_under}
+use Rattle.ffi3_script_spec.specs.Bodies.{read_body, read_bodies}
+use Rattle.ffi3_type_spec.specs.Signature.{Signature}
+use Rattle.ffi3_script_spec.specs.Script as script
+use Rattle.ffi3_script_spec.specs.Bodies as bodies
 use Rattle.ffi3_script_body.specs.ExprOf.{script_moves_of}
 use Rattle.ffi3_script_body.specs.declared.moves.ScriptMove.{ScriptMove}
 use Rattle.ffi3_script.specs.declared.functions.Heading.{Heading}

@@ -1,6 +1,6 @@
 -- Why bytes are not read as a script.
 use Rattle.std.specs.Prelude.{ℕ, List, ⊤}
-use Rattle.ffi3_script_rules.specs.Reading.{IsTheReading, too_long, not_json, bad_script}
+use Rattle.ffi3_script_spec.specs.Reading.{IsTheReading, too_long, not_json, bad_script}
 use Rattle.ffi3_json.specs.ReasonOf.{reason_of}
 use Rattle.ffi3_json.specs.declared.fault.ScriptFault.{ScriptFault}
 use Rattle.ffi3_json.specs.declared.fault.ScriptFault.TheVariants.{TooLong, BadJson, BadScript, NoMemory}

@@ -1,10 +1,10 @@
 -- Which scope and surroundings of a script those of the code are.
 use Rattle.std.specs.Prelude.{◌≡◌, ℕ, List, [], ◌∷◌, Option, length}
-use Rattle.ffi3_type_rules.specs.Tree.{Tree}
-use Rattle.ffi3_type_rules.specs.Signature.{Signature}
-use Rattle.ffi3_script_rules.specs.Values as values
-use Rattle.ffi3_script_rules.specs.Values.{Given}
-use Rattle.ffi3_script_rules.specs.Bodies.{Surroundings}
+use Rattle.ffi3_type_spec.specs.Tree.{Tree}
+use Rattle.ffi3_type_spec.specs.Signature.{Signature}
+use Rattle.ffi3_script_spec.specs.Values as values
+use Rattle.ffi3_script_spec.specs.Values.{Given}
+use Rattle.ffi3_script_spec.specs.Bodies.{Surroundings}
 use Rattle.ffi3_script.specs.declared.scope.Scope.{Scope}
 use Rattle.ffi3_script.specs.declared.scope.Globals.{Globals}
 

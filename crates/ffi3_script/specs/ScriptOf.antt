@@ -1,6 +1,6 @@
 -- Which script one of the code is.
 use Rattle.std.specs.Prelude.{ℕ, [], slice_index_or, Option, option_map, slice_get}
-use Rattle.ffi3_script_rules.specs.Script.{ScriptFunction, Script as RulesScript}
+use Rattle.ffi3_script_spec.specs.Script.{ScriptFunction, Script as RulesScript}
 use Rattle.ffi3_script_body.specs.declared.body.ScriptBody.{ScriptBody}
 use Rattle.ffi3_script.specs.FunctionOf.{script_from}
 use Rattle.ffi3_script.specs.declared.script.Script.{Script}

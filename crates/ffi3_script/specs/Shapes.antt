@@ -1,13 +1,13 @@
 -- Arrays of two items, and forms of values.
 use Rattle.std.specs.Prelude.{ℕ, List, Option, Some, None, Bool, true, false, if◌then◌else◌}
 use Rattle.serde_json.specs.Data.{Data, null, boolean, number, string, array, object, Items, no_items, item}
-use Rattle.ffi3_type_rules.specs.Tree.{Tree}
-use Rattle.ffi3_script_rules.specs.Language.{Read, fault, JsonPath, under, wrong_type}
-use Rattle.ffi3_script_rules.specs.Script.{Expression}
-use Rattle.ffi3_script_rules.specs.Script as script
-use Rattle.ffi3_script_rules.specs.Values as values
-use Rattle.ffi3_script_rules.specs.Values.{Scope, Pair, is_integer_type, typed_by, value_by, read_field, read_of}
-use Rattle.ffi3_script_rules.specs.Values.{read_two, read_typed}
+use Rattle.ffi3_type_spec.specs.Tree.{Tree}
+use Rattle.ffi3_script_spec.specs.Language.{Read, fault, JsonPath, under, wrong_type}
+use Rattle.ffi3_script_spec.specs.Script.{Expression}
+use Rattle.ffi3_script_spec.specs.Script as script
+use Rattle.ffi3_script_spec.specs.Values as values
+use Rattle.ffi3_script_spec.specs.Values.{Scope, Pair, is_integer_type, typed_by, value_by, read_field, read_of}
+use Rattle.ffi3_script_spec.specs.Values.{read_two, read_typed}
 use Rattle.ffi3_script.specs.declared.forms.TypedForm.{TypedForm}
 use Rattle.ffi3_script.specs.declared.forms.TypedForm.TheVariants.{Arg, Res, User, Field, Of}
 use Rattle.ffi3_script.specs.declared.forms.Form.{Form}

@@ -2,9 +2,9 @@
 ghost use Rattle.std.specs.Prelude.{◌≡◌, ◌<◌, ◌^◌, ◌∷◌, [], IfOk, IfErr, OnOk, None};
 ghost use Rattle.std.specs.Prelude.{true, false, length, map, codes, option_map};
 ghost use Rattle.serde_json.specs.Find.{get};
-ghost use Rattle.ffi3_script_rules.specs.Language as language;
-ghost use Rattle.ffi3_script_rules.specs.Language.{read};
-ghost use Rattle.ffi3_script_rules.specs.Bodies.{kind_of, keys_of, read_call, read_make, read_act, read_move};
+ghost use Rattle.ffi3_script_spec.specs.Language as language;
+ghost use Rattle.ffi3_script_spec.specs.Language.{read};
+ghost use Rattle.ffi3_script_spec.specs.Bodies.{kind_of, keys_of, read_call, read_make, read_act, read_move};
 ghost use Rattle.ffi3_json.specs.KeyOf.{key_of};
 ghost use Rattle.ffi3_json.specs.Reports.{Reports};
 ghost use Rattle.ffi3_script_body.specs.ExprOf.{script_move_of};

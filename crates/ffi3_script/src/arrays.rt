@@ -1,9 +1,9 @@
 // Arrays: the items of one under a key, and those of an array of two.
 ghost use Rattle.std.specs.Prelude.{◌≡◌, ℕ, ◌≤◌, IfOk, IfErr};
 ghost use Rattle.serde_json.specs.Events.{items_len};
-ghost use Rattle.ffi3_script_rules.specs.Language as language;
-ghost use Rattle.ffi3_script_rules.specs.Language.{read, value_under};
-ghost use Rattle.ffi3_script_rules.specs.Bodies.{items_at};
+ghost use Rattle.ffi3_script_spec.specs.Language as language;
+ghost use Rattle.ffi3_script_spec.specs.Language.{read, value_under};
+ghost use Rattle.ffi3_script_spec.specs.Bodies.{items_at};
 ghost use Rattle.ffi3_json.specs.Reports.{Reports};
 ghost use Rattle.ffi3_json.specs.Within.{HasArraysWithin};
 ghost use Rattle.ffi3_script.specs.Shapes.{two_items};

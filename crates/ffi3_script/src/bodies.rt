@@ -2,10 +2,10 @@
 ghost use Rattle.std.specs.Prelude.{◌≡◌, ◌+◌, ◌<◌, ◌^◌, ◌++◌, ◌∷◌, [], IfOk};
 ghost use Rattle.std.specs.Prelude.{IfErr, OnOk, length, option_map, string_bytes};
 ghost use Rattle.ffi3_types.specs.TreeOf.{tree_of};
-ghost use Rattle.ffi3_script_rules.specs.Language as language;
-ghost use Rattle.ffi3_script_rules.specs.Language.{read, under, value_under};
-ghost use Rattle.ffi3_script_rules.specs.Bodies.{type_of_act, is_return, always_returns, ends};
-ghost use Rattle.ffi3_script_rules.specs.Bodies.{read_move, read_moves, read_body};
+ghost use Rattle.ffi3_script_spec.specs.Language as language;
+ghost use Rattle.ffi3_script_spec.specs.Language.{read, under, value_under};
+ghost use Rattle.ffi3_script_spec.specs.Bodies.{type_of_act, is_return, always_returns, ends};
+ghost use Rattle.ffi3_script_spec.specs.Bodies.{read_move, read_moves, read_body};
 ghost use Rattle.ffi3_json.specs.Reports.{Reports};
 ghost use Rattle.ffi3_script_body.specs.ExprOf.{act_of, script_move_of, script_moves_of};
 ghost use Rattle.ffi3_script.specs.ScopeOf.{given_of, surroundings_in};

@@ -2,11 +2,11 @@
 ghost use Rattle.std.specs.Prelude.{◌≡◌, ℕ, IfOk, IfErr, codes, string_bytes, option_map};
 ghost use Rattle.serde_json.specs.Find.{get};
 ghost use Rattle.ffi3_types.specs.TreeOf.{tree_of};
-ghost use Rattle.ffi3_type_rules.specs.Tree.{scalar, pointer};
-ghost use Rattle.ffi3_script_rules.specs.Language as language;
-ghost use Rattle.ffi3_script_rules.specs.Language.{read, under, value_under};
-ghost use Rattle.ffi3_script_rules.specs.Values as values;
-ghost use Rattle.ffi3_script_rules.specs.Bodies.{read_name, read_condition, read_arguments, read_user, read_result};
+ghost use Rattle.ffi3_type_spec.specs.Tree.{scalar, pointer};
+ghost use Rattle.ffi3_script_spec.specs.Language as language;
+ghost use Rattle.ffi3_script_spec.specs.Language.{read, under, value_under};
+ghost use Rattle.ffi3_script_spec.specs.Values as values;
+ghost use Rattle.ffi3_script_spec.specs.Bodies.{read_name, read_condition, read_arguments, read_user, read_result};
 ghost use Rattle.ffi3_json.specs.Reports.{Reports};
 ghost use Rattle.ffi3_script_body.specs.ExprOf.{expression_of, expressions_in, typed_of, act_of};
 ghost use Rattle.ffi3_script.specs.Numbers.{CallsWithin};

@@ -1,6 +1,6 @@
 // Forms of values, each named by its key.
 ghost use Rattle.std.specs.Prelude.{◌≡◌};
-ghost use Rattle.ffi3_script_rules.specs.Values.{form_named};
+ghost use Rattle.ffi3_script_spec.specs.Values.{form_named};
 ghost use Rattle.ffi3_script.specs.Shapes.{is_untyped, form_of};
 
 use ffi3_json::Node;

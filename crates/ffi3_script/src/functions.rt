@@ -3,11 +3,11 @@ ghost use Rattle.std.specs.Prelude.{◌≡◌, ◌<◌, ◌^◌, ◌++◌, ◌�
 ghost use Rattle.std.specs.Prelude.{string_bytes};
 ghost use Rattle.serde_json.specs.Events.{items_len};
 ghost use Rattle.serde_json.specs.Find.{as_str};
-ghost use Rattle.ffi3_type_rules.specs.Signature.{signature_at};
-ghost use Rattle.ffi3_script_rules.specs.Language as language;
-ghost use Rattle.ffi3_script_rules.specs.Language.{read, under, value_under};
-ghost use Rattle.ffi3_script_rules.specs.Bodies.{is_one_of, new_name, function_keys, read_heading};
-ghost use Rattle.ffi3_script_rules.specs.Bodies.{read_headings, names_of, read_body, read_bodies};
+ghost use Rattle.ffi3_type_spec.specs.Signature.{signature_at};
+ghost use Rattle.ffi3_script_spec.specs.Language as language;
+ghost use Rattle.ffi3_script_spec.specs.Language.{read, under, value_under};
+ghost use Rattle.ffi3_script_spec.specs.Bodies.{is_one_of, new_name, function_keys, read_heading};
+ghost use Rattle.ffi3_script_spec.specs.Bodies.{read_headings, names_of, read_body, read_bodies};
 ghost use Rattle.ffi3_json.specs.KeyOf.{key_of};
 ghost use Rattle.ffi3_json.specs.Reports.{Reports};
 ghost use Rattle.ffi3_script_body.specs.ExprOf.{script_moves_of};

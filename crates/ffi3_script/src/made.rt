@@ -1,7 +1,7 @@
 // The script that the bench runs.
 ghost use Rattle.std.specs.Prelude.{◌≡◌, ◌<◌, ◌≤◌, ◌+◌, ◌++◌, ◌∷◌, [], All, IfOk, length, map, codes};
-ghost use Rattle.ffi3_type_rules.specs.declared.limits.TheConstants.{MOST_CALLS};
-ghost use Rattle.ffi3_script_rules.specs.Made.{made, made_function};
+ghost use Rattle.ffi3_type_spec.specs.declared.limits.TheConstants.{MOST_CALLS};
+ghost use Rattle.ffi3_script_spec.specs.Made.{made, made_function};
 ghost use Rattle.ffi3_bench_script.specs.ShapesOf.{types_in};
 ghost use Rattle.ffi3_script.specs.PartsOf.{part_of};
 ghost use Rattle.ffi3_script.specs.ScriptOf.{script_of, natives_of};

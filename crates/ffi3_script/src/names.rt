@@ -2,7 +2,7 @@
 ghost use Rattle.std.specs.Prelude.{◌≡◌, ℕ, ◌+◌, ◌<◌, ◌^◌, ◌++◌, ◌∷◌, [], List, OnOk, OnErr, length, map};
 ghost use Rattle.std.specs.Prelude.{slice_get, Some, None, position, bytes_eq, string_bytes};
 ghost use Rattle.std.specs.BTreeMap.{get_by_text};
-ghost use Rattle.ffi3_script_rules.specs.Values.{is_name_of};
+ghost use Rattle.ffi3_script_spec.specs.Values.{is_name_of};
 ghost use Rattle.ffi3_script.specs.Finds.{first_or};
 
 use crate::NoMemory;

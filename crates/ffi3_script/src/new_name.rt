@@ -2,9 +2,9 @@
 ghost use Rattle.std.specs.Prelude.{◌≡◌, IfOk, IfErr, string_bytes};
 ghost use Rattle.std.specs.List.{list_all};
 ghost use Rattle.serde_json.specs.Find.{as_str};
-ghost use Rattle.ffi3_script_rules.specs.Language as language;
-ghost use Rattle.ffi3_script_rules.specs.Language.{read};
-ghost use Rattle.ffi3_script_rules.specs.Bodies.{is_name_byte, is_name, new_name};
+ghost use Rattle.ffi3_script_spec.specs.Language as language;
+ghost use Rattle.ffi3_script_spec.specs.Language.{read};
+ghost use Rattle.ffi3_script_spec.specs.Bodies.{is_name_byte, is_name, new_name};
 ghost use Rattle.ffi3_json.specs.Reports.{Reports};
 ghost use Rattle.ffi3_script.specs.Taken.{is_taken};
 

@@ -1,13 +1,13 @@
 // What reading a value does besides reading the values inside it.
 ghost use Rattle.std.specs.Prelude.{◌≡◌, ◌++◌, ◌∷◌, [], IfOk, IfErr, OnOk, option_and_then, length};
 ghost use Rattle.serde_json.specs.Find.{as_number, as_u64, as_str};
-ghost use Rattle.ffi3_type_rules.specs.Integer.{scalar_of};
+ghost use Rattle.ffi3_type_spec.specs.Integer.{scalar_of};
 ghost use Rattle.ffi3_types.specs.TreeOf.{tree_of};
-ghost use Rattle.ffi3_script_rules.specs.Language.{read, fault};
-ghost use Rattle.ffi3_script_rules.specs.Script as script;
-ghost use Rattle.ffi3_script_rules.specs.Values.{typed};
-ghost use Rattle.ffi3_script_rules.specs.Values.{argument_of, result_of, user_of, field_of, against, cast_of};
-ghost use Rattle.ffi3_script_rules.specs.Values.{read_right_type};
+ghost use Rattle.ffi3_script_spec.specs.Language.{read, fault};
+ghost use Rattle.ffi3_script_spec.specs.Script as script;
+ghost use Rattle.ffi3_script_spec.specs.Values.{typed};
+ghost use Rattle.ffi3_script_spec.specs.Values.{argument_of, result_of, user_of, field_of, against, cast_of};
+ghost use Rattle.ffi3_script_spec.specs.Values.{read_right_type};
 ghost use Rattle.ffi3_json.specs.Reports.{Reports};
 ghost use Rattle.ffi3_script_body.specs.ExprOf.{expression_of};
 ghost use Rattle.ffi3_script.specs.ScopeOf.{scope_of};

@@ -2,9 +2,9 @@
 ghost use Rattle.std.specs.Prelude.{◌≡◌, ◌+◌, ◌<◌, ◌^◌, ◌++◌, ◌∷◌, [], All, IfOk};
 ghost use Rattle.std.specs.Prelude.{IfErr, OnOk, true, length, map};
 ghost use Rattle.std.specs.List.{list_all};
-ghost use Rattle.ffi3_type_rules.specs.Signature.{signature_at};
-ghost use Rattle.ffi3_script_rules.specs.Reading.{IsTheReading, script};
-ghost use Rattle.ffi3_script_rules.specs.Typed.{script_is_typed, function_is_typed, signature_is_right};
+ghost use Rattle.ffi3_type_spec.specs.Signature.{signature_at};
+ghost use Rattle.ffi3_script_spec.specs.Reading.{IsTheReading, script};
+ghost use Rattle.ffi3_script_spec.specs.Typed.{script_is_typed, function_is_typed, signature_is_right};
 ghost use Rattle.ffi3_script.specs.FunctionOf.{function_of, StandsIn};
 ghost use Rattle.ffi3_script.specs.PartsOf.{part_of, script_in};
 ghost use Rattle.ffi3_script.specs.Refusal.{IsScriptRefusal};

@@ -1,9 +1,9 @@
 // References: to a signature by its number, and to a function by its name.
 ghost use Rattle.std.specs.Prelude.{◌≡◌, ◌<◌, ◌^◌, IfOk, IfErr, length, codes};
 ghost use Rattle.serde_json.specs.Find.{as_str};
-ghost use Rattle.ffi3_script_rules.specs.Language as language;
-ghost use Rattle.ffi3_script_rules.specs.Language.{read, under, value_under};
-ghost use Rattle.ffi3_script_rules.specs.Bodies.{read_signature_number, read_function};
+ghost use Rattle.ffi3_script_spec.specs.Language as language;
+ghost use Rattle.ffi3_script_spec.specs.Language.{read, under, value_under};
+ghost use Rattle.ffi3_script_spec.specs.Bodies.{read_signature_number, read_function};
 ghost use Rattle.ffi3_json.specs.Reports.{Reports};
 
 use crate::names::FunctionNames;

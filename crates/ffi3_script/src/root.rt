@@ -3,11 +3,11 @@ ghost use Rattle.std.specs.Prelude.{◌≡◌, ◌+◌, ◌<◌, ◌≤◌, ◌^
 ghost use Rattle.std.specs.Prelude.{OnOk, length, map, codes, option_and_then};
 ghost use Rattle.serde_json.specs.Find.{as_number, as_u64};
 ghost use Rattle.serde_json.specs.Events.{items_len};
-ghost use Rattle.ffi3_script_rules.specs.Language as language;
-ghost use Rattle.ffi3_script_rules.specs.Language.{read, under, value_under};
-ghost use Rattle.ffi3_script_rules.specs.Bodies.{script_keys, version_of, read_signatures, read_headings};
-ghost use Rattle.ffi3_script_rules.specs.Bodies.{read_rest, read_script, names_of};
-ghost use Rattle.ffi3_script_rules.specs.Reading.{max_length};
+ghost use Rattle.ffi3_script_spec.specs.Language as language;
+ghost use Rattle.ffi3_script_spec.specs.Language.{read, under, value_under};
+ghost use Rattle.ffi3_script_spec.specs.Bodies.{script_keys, version_of, read_signatures, read_headings};
+ghost use Rattle.ffi3_script_spec.specs.Bodies.{read_rest, read_script, names_of};
+ghost use Rattle.ffi3_script_spec.specs.Reading.{max_length};
 ghost use Rattle.ffi3_json.specs.KeyOf.{key_of};
 ghost use Rattle.ffi3_json.specs.Reports.{Reports};
 ghost use Rattle.ffi3_json.specs.Within.{HasArraysWithin};

@@ -1,9 +1,9 @@
 // A script once it is read.
 ghost use Rattle.std.specs.Prelude.{◌≡◌, ◌<◌, ◌+◌, ◌^◌, length, true, All};
 ghost use Rattle.std.specs.List.{list_all};
-ghost use Rattle.ffi3_type_rules.specs.Signature.{signature_at};
-ghost use Rattle.ffi3_run_rules.specs.Move.{no_signature};
-ghost use Rattle.ffi3_script_rules.specs.Typed.{script_is_typed, signature_is_right};
+ghost use Rattle.ffi3_type_spec.specs.Signature.{signature_at};
+ghost use Rattle.ffi3_semantics_spec.specs.Move.{no_signature};
+ghost use Rattle.ffi3_script_spec.specs.Typed.{script_is_typed, signature_is_right};
 ghost use Rattle.ffi3_script.specs.FunctionOf.{script_from, StandsIn};
 
 use crate::ScriptBody;
@@ -43,9 +43,9 @@ pub struct Script {
 impl Script {
     ghost use Rattle.std.specs.Prelude.{◌≡◌, ◌<◌, ◌+◌, ◌^◌, length, true, All};
     ghost use Rattle.std.specs.List.{list_all};
-    ghost use Rattle.ffi3_type_rules.specs.Signature.{signature_at, SignatureHasNoFault};
-    ghost use Rattle.ffi3_run_rules.specs.Move.{no_signature};
-    ghost use Rattle.ffi3_script_rules.specs.Typed.{script_is_typed, signature_is_right};
+    ghost use Rattle.ffi3_type_spec.specs.Signature.{signature_at, SignatureHasNoFault};
+    ghost use Rattle.ffi3_semantics_spec.specs.Move.{no_signature};
+    ghost use Rattle.ffi3_script_spec.specs.Typed.{script_is_typed, signature_is_right};
     ghost use Rattle.ffi3_script_body.specs.BodyOf.{moves_of, signatures_of, functions_of, signature_of};
     ghost use Rattle.ffi3_script.specs.FunctionOf.{script_from, StandsIn};
     ghost use Rattle.std.specs.Prelude.{Some};

@@ -2,8 +2,8 @@
 ghost use Rattle.std.specs.Prelude.{◌≡◌, IfOk, IfErr, length};
 ghost use Rattle.serde_json.specs.Events.{items_len};
 ghost use Rattle.ffi3_types.specs.TreeOf.{tree_of};
-ghost use Rattle.ffi3_script_rules.specs.Language.{read, fault, under};
-ghost use Rattle.ffi3_script_rules.specs.Values.{read_value, read_values, read_typed, read_field, read_of, form_named};
+ghost use Rattle.ffi3_script_spec.specs.Language.{read, fault, under};
+ghost use Rattle.ffi3_script_spec.specs.Values.{read_value, read_values, read_typed, read_field, read_of, form_named};
 ghost use Rattle.ffi3_json.specs.Reports.{Reports};
 ghost use Rattle.ffi3_script_body.specs.ExprOf.{expression_of, expressions_in};
 ghost use Rattle.ffi3_script.specs.ScopeOf.{scope_of};

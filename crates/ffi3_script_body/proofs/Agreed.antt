@@ -4,18 +4,18 @@ use Rattle.std.specs.Prelude.{option_map}
 use Rattle.std.specs.List.{list_all}
 use Rattle.std.proofs.lemmas.Bool.{ltb-true, lt-ltb, both_ways}
 use Rattle.std.proofs.lemmas.List.{length-drop, take_all, get_or-drop, get_or_append_left, take-append-le}
-use Rattle.ffi3_type_rules.specs.Tree.{Tree, trees_of}
-use Rattle.ffi3_type_rules.specs.Signature.{Signature}
-use Rattle.ffi3_type_rules.specs.Value.{ValueTree, void_value, all_fit, values_of}
-use Rattle.ffi3_run_rules.specs.Move.{Move}
+use Rattle.ffi3_type_spec.specs.Tree.{Tree, trees_of}
+use Rattle.ffi3_type_spec.specs.Signature.{Signature}
+use Rattle.ffi3_type_spec.specs.Value.{ValueTree, void_value, all_fit, values_of}
+use Rattle.ffi3_semantics_spec.specs.Move.{Move}
 use Rattle.ffi3_body.specs.SeenActivation.{SeenActivation, arguments_of}
 use Rattle.ffi3_body.specs.Follow.{ResultsFollow}
-use Rattle.ffi3_script_rules.specs.Script as script
-use Rattle.ffi3_script_rules.specs.Meaning as meaning
-use Rattle.ffi3_script_rules.specs.Meaning.{is_done, next_of}
-use Rattle.ffi3_script_rules.specs.Typed.{Setting}
-use Rattle.ffi3_script_rules.proofs.Tests.{and_left, and_right, both}
-use Rattle.ffi3_script_rules.proofs.BodyRules.{is_next}
+use Rattle.ffi3_script_spec.specs.Script as script
+use Rattle.ffi3_script_spec.specs.Meaning as meaning
+use Rattle.ffi3_script_spec.specs.Meaning.{is_done, next_of}
+use Rattle.ffi3_script_spec.specs.Typed.{Setting}
+use Rattle.ffi3_script_spec.proofs.Tests.{and_left, and_right, both}
+use Rattle.ffi3_script_spec.proofs.BodyRules.{is_next}
 use Rattle.ffi3_script_body.specs.ExprOf.{act_of, typed_of, script_move_of}
 use Rattle.ffi3_script_body.specs.Own.{is_below}
 use Rattle.ffi3_script_body.specs.BodyOf.{moves_of, signature_of, signatures_of, setting_of, meaning_of}

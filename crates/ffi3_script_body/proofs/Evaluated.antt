@@ -2,17 +2,17 @@
 use Rattle.std.proofs.Common.{◌≡◌, ℕ, ◌<◌, Bool, true, false, List, length, replicate, ap, sym, ◌∙◌, subst, arith}
 use Rattle.std.specs.Prelude.{slice_index_or, nat_lt}
 use Rattle.std.proofs.lemmas.Bool.{ltb-true}
-use Rattle.ffi3_type_rules.specs.Tree.{Tree, void, scalar, left_out, structure, array, no_trees, tree, tree_at, list_of, elements_of, trees_of-list_of, pointer, Scalar}
-use Rattle.ffi3_type_rules.specs.Integer.{scalar_of, is_number, is_number_type}
-use Rattle.ffi3_type_rules.specs.Value.{ValueTree, struct_value, void_value, fits}
-use Rattle.ffi3_type_rules.specs.Value as values
-use Rattle.ffi3_type_rules.proofs.ValueElements.{fitting_lengths}
-use Rattle.ffi3_script_rules.specs.Script.{Expression, constant, composed, argument, outcome, user_data, element, typed_as, sum, difference, cast}
-use Rattle.ffi3_script_rules.specs.Meaning.{element_value}
-use Rattle.ffi3_script_rules.specs.Meaning as meaning
-use Rattle.ffi3_script_rules.specs.Typed.{Kinds, has_type, own_type, is_at, is_number_of, same_scalar}
-use Rattle.ffi3_script_rules.proofs.Tests.{and_left, and_right, types_are_same, scalars_are_same}
-use Rattle.ffi3_script_rules.proofs.Fits.{value_fits}
+use Rattle.ffi3_type_spec.specs.Tree.{Tree, void, scalar, left_out, structure, array, no_trees, tree, tree_at, list_of, elements_of, trees_of-list_of, pointer, Scalar}
+use Rattle.ffi3_type_spec.specs.Integer.{scalar_of, is_number, is_number_type}
+use Rattle.ffi3_type_spec.specs.Value.{ValueTree, struct_value, void_value, fits}
+use Rattle.ffi3_type_spec.specs.Value as values
+use Rattle.ffi3_type_spec.proofs.ValueElements.{fitting_lengths}
+use Rattle.ffi3_script_spec.specs.Script.{Expression, constant, composed, argument, outcome, user_data, element, typed_as, sum, difference, cast}
+use Rattle.ffi3_script_spec.specs.Meaning.{element_value}
+use Rattle.ffi3_script_spec.specs.Meaning as meaning
+use Rattle.ffi3_script_spec.specs.Typed.{Kinds, has_type, own_type, is_at, is_number_of, same_scalar}
+use Rattle.ffi3_script_spec.proofs.Tests.{and_left, and_right, types_are_same, scalars_are_same}
+use Rattle.ffi3_script_spec.proofs.Fits.{value_fits}
 use Rattle.ffi3_script_body.specs.KnownAt.{kinds_of, known_of}
 use Rattle.ffi3_script_body.specs.declared.known.Known.{Known}
 use Rattle.ffi3_script_body.proofs.Rows.{list_and_back}

@@ -1,8 +1,8 @@
 -- Types whose values are lists.
 use Rattle.std.proofs.Common.{◌≡◌, Bool, true, false, List, Some, None, refl, ap, sym}
 use Rattle.std.specs.Prelude.{if◌then◌else◌}
-use Rattle.ffi3_type_rules.specs.Tree.{Tree, struct_of, elements_of, list_of-trees_of}
-use Rattle.ffi3_script_rules.specs.Values.{is_list_type}
+use Rattle.ffi3_type_spec.specs.Tree.{Tree, struct_of, elements_of, list_of-trees_of}
+use Rattle.ffi3_script_spec.specs.Values.{is_list_type}
 use Rattle.ffi3_script_body.specs.ListTypes.{element_types}
 
 pub of_a_struct : (ts : List Tree) → Some ts ≡ element_types (struct_of ts)

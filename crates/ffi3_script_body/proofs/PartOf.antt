@@ -2,15 +2,15 @@
 use Rattle.std.proofs.Common.{◌≡◌, ℕ, ◌<◌, ◌≤◌, true, List, [], length, refl, ap, sym, ◌∙◌, subst, arith}
 use Rattle.std.specs.Prelude.{nat_lt}
 use Rattle.std.proofs.lemmas.Bool.{false≢true, ltb-true}
-use Rattle.ffi3_type_rules.specs.Tree.{Tree, void, scalar, left_out, structure, array, no_trees, tree, elements_of}
-use Rattle.ffi3_type_rules.specs.Value.{ValueTree, void_value, leaf_value, struct_value, list_of_values, fits}
-use Rattle.ffi3_type_rules.specs.Value as values
-use Rattle.ffi3_script_rules.specs.Script.{Expression, constant, composed, argument, outcome, user_data, element, typed_as, sum, difference, cast}
-use Rattle.ffi3_script_rules.specs.Meaning.{element_value, value_of}
-use Rattle.ffi3_script_rules.specs.Meaning as meaning
-use Rattle.ffi3_script_rules.specs.Typed.{Kinds, has_type, own_type, is_at}
-use Rattle.ffi3_script_rules.proofs.Tests.{and_left, and_right}
-use Rattle.ffi3_script_rules.proofs.Fits.{value_fits, values_of-list_of_values}
+use Rattle.ffi3_type_spec.specs.Tree.{Tree, void, scalar, left_out, structure, array, no_trees, tree, elements_of}
+use Rattle.ffi3_type_spec.specs.Value.{ValueTree, void_value, leaf_value, struct_value, list_of_values, fits}
+use Rattle.ffi3_type_spec.specs.Value as values
+use Rattle.ffi3_script_spec.specs.Script.{Expression, constant, composed, argument, outcome, user_data, element, typed_as, sum, difference, cast}
+use Rattle.ffi3_script_spec.specs.Meaning.{element_value, value_of}
+use Rattle.ffi3_script_spec.specs.Meaning as meaning
+use Rattle.ffi3_script_spec.specs.Typed.{Kinds, has_type, own_type, is_at}
+use Rattle.ffi3_script_spec.proofs.Tests.{and_left, and_right}
+use Rattle.ffi3_script_spec.proofs.Fits.{value_fits, values_of-list_of_values}
 use Rattle.ffi3_script_body.specs.declared.known.Known.{Known}
 use Rattle.ffi3_script_body.specs.KnownAt.{kinds_of, known_of}
 use Rattle.ffi3_script_body.specs.PartOf.{IsPart, part_of, whole_of}

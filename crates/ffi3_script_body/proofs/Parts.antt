@@ -1,19 +1,19 @@
 -- The parts of a value of the code: their types, and what the value is, given theirs.
 use Rattle.std.proofs.Common.{◌≡◌, ℕ, zero, suc, ◌+◌, ◌<◌, ◌≤◌, true, List, [], ◌∷◌, Some, None, length, Box, Vec, Global, ◌-ℤ◌, ◌≢◌, refl, ap, sym, ◌∙◌, subst, arith, get_or}
 use Rattle.std.proofs.lemmas.Bool.{false≢true}
-use Rattle.ffi3_type_rules.specs.Tree.{Tree, scalar, trees_of, elements_of}
-use Rattle.ffi3_type_rules.specs.Integer.{scalar_of, is_number, bytes_of_number, number_of, sum_of}
-use Rattle.ffi3_type_rules.specs.Value.{ValueTree, struct_value, leaf_value, bytes_of, list_of_values}
-use Rattle.ffi3_type_rules.specs.Value as values
+use Rattle.ffi3_type_spec.specs.Tree.{Tree, scalar, trees_of, elements_of}
+use Rattle.ffi3_type_spec.specs.Integer.{scalar_of, is_number, bytes_of_number, number_of, sum_of}
+use Rattle.ffi3_type_spec.specs.Value.{ValueTree, struct_value, leaf_value, bytes_of, list_of_values}
+use Rattle.ffi3_type_spec.specs.Value as values
 use Rattle.ffi3_types.specs.declared.FfiType.{FfiType}
 use Rattle.ffi3_types.specs.TreeOf.{tree_of}
-use Rattle.ffi3_script_rules.specs.Script as script
-use Rattle.ffi3_script_rules.specs.Meaning.{Known, value_of, values_of}
-use Rattle.ffi3_script_rules.specs.Typed.{Kinds, has_type, have_types, own_type, is_at, is_integer_of, is_number_of, trees_in}
-use Rattle.ffi3_script_rules.specs.Values.{is_list_type}
-use Rattle.ffi3_script_rules.proofs.TypedValues.{elements_in}
-use Rattle.ffi3_script_rules.proofs.Fits.{number_by_integer, values_of-list_of_values}
-use Rattle.ffi3_script_rules.proofs.Tests.{and_left, and_right}
+use Rattle.ffi3_script_spec.specs.Script as script
+use Rattle.ffi3_script_spec.specs.Meaning.{Known, value_of, values_of}
+use Rattle.ffi3_script_spec.specs.Typed.{Kinds, has_type, have_types, own_type, is_at, is_integer_of, is_number_of, trees_in}
+use Rattle.ffi3_script_spec.specs.Values.{is_list_type}
+use Rattle.ffi3_script_spec.proofs.TypedValues.{elements_in}
+use Rattle.ffi3_script_spec.proofs.Fits.{number_by_integer, values_of-list_of_values}
+use Rattle.ffi3_script_spec.proofs.Tests.{and_left, and_right}
 use Rattle.ffi3_script_body.specs.ExprOf.{expression_of, expressions_in}
 use Rattle.ffi3_script_body.specs.declared.expr.Expr.{Expr, Constant, Composed, Composed', Argument, Outcome, User, Element, Element', TypedAs, TypedAs', Sum, Sum', Difference, Difference', Cast, Cast', roll-Expr, roll-out-Expr}
 use Rattle.ffi3_script_body.specs.declared.expr.Expr.TheVariants.{rolls-Composed, outs-Composed'}

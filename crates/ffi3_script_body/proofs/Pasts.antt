@@ -2,7 +2,7 @@
 use Rattle.std.proofs.Common.{◌≡◌, ℕ, zero, suc, ◌+◌, ◌<◌, ◌≤◌, true, List, [], ◌∷◌, ◌++◌, length, Option, Some, Bool, ap, sym, ◌∙◌, arith, get_or}
 use Rattle.std.specs.Prelude.{slice_index_or}
 use Rattle.std.specs.List.{list_all}
-use Rattle.ffi3_script_rules.proofs.Tests.{and_left, and_right}
+use Rattle.ffi3_script_spec.proofs.Tests.{and_left, and_right}
 use Rattle.ffi3_script_body.specs.ExprOf.{act_of, script_moves_of}
 use Rattle.ffi3_script_body.specs.KnownOf.{Past, done_from, marked, pasts_of}
 use Rattle.ffi3_script_body.specs.declared.moves.ScriptMove.{ScriptMove}

@@ -1,13 +1,13 @@
 -- The elements of the value of a struct or an array, as a list.
 use Rattle.std.proofs.Common.{◌≡◌, ℕ, zero, suc, ◌+◌, ◌<◌, ◌≤◌, true, List, [], ◌∷◌, ◌++◌, Vec, Global, length, map, take, refl, ap, sym, ◌∙◌, subst, arith, get_or}
-use Rattle.ffi3_type_rules.specs.Tree.{Tree, trees_of, tree_at}
-use Rattle.ffi3_type_rules.specs.Value.{ValueTree, list_of_values}
-use Rattle.ffi3_type_rules.specs.Value as values
-use Rattle.ffi3_script_rules.specs.Script.{expression}
-use Rattle.ffi3_script_rules.specs.Script as script
-use Rattle.ffi3_script_rules.specs.Meaning.{Known, value_of, values_of}
-use Rattle.ffi3_script_rules.specs.Typed.{Kinds, has_type, have_types}
-use Rattle.ffi3_script_rules.proofs.Tests.{and_left, and_right}
+use Rattle.ffi3_type_spec.specs.Tree.{Tree, trees_of, tree_at}
+use Rattle.ffi3_type_spec.specs.Value.{ValueTree, list_of_values}
+use Rattle.ffi3_type_spec.specs.Value as values
+use Rattle.ffi3_script_spec.specs.Script.{expression}
+use Rattle.ffi3_script_spec.specs.Script as script
+use Rattle.ffi3_script_spec.specs.Meaning.{Known, value_of, values_of}
+use Rattle.ffi3_script_spec.specs.Typed.{Kinds, has_type, have_types}
+use Rattle.ffi3_script_spec.proofs.Tests.{and_left, and_right}
 use Rattle.ffi3_script_body.specs.ExprOf.{expression_of, row_of, expressions_in}
 use Rattle.ffi3_script_body.specs.declared.expr.Expr.{Expr, Composed, Composed', Row_of-Expr, end_of-Expr, more_of-Expr, items-the_row-Expr, items_hidden-the_row-Expr-0}
 

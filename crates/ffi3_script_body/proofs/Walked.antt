@@ -4,21 +4,21 @@ use Rattle.std.specs.Prelude.{slice_index_or, nat_lt, is_none, option_map}
 use Rattle.std.specs.List.{list_all}
 use Rattle.std.proofs.lemmas.Bool.{lt-ltb}
 use Rattle.std.proofs.lemmas.List.{map-append}
-use Rattle.ffi3_type_rules.specs.Tree.{trees_of}
-use Rattle.ffi3_type_rules.specs.Signature.{Signature}
-use Rattle.ffi3_type_rules.specs.Value.{ValueTree, void_value, fits, all_fit, values_of, zero_value}
-use Rattle.ffi3_run_rules.specs.Move.{Move, result_type_of}
+use Rattle.ffi3_type_spec.specs.Tree.{trees_of}
+use Rattle.ffi3_type_spec.specs.Signature.{Signature}
+use Rattle.ffi3_type_spec.specs.Value.{ValueTree, void_value, fits, all_fit, values_of, zero_value}
+use Rattle.ffi3_semantics_spec.specs.Move.{Move, result_type_of}
 use Rattle.ffi3_body.specs.SeenActivation.{SeenActivation, arguments_of}
-use Rattle.ffi3_script_rules.specs.Script as script
-use Rattle.ffi3_script_rules.specs.Script.{Act, call, make, free, print, return, return_void}
-use Rattle.ffi3_script_rules.specs.Bodies.{type_of_act, ends}
-use Rattle.ffi3_script_rules.specs.Meaning.{Known, is_done, knows_too, behaviour_of}
-use Rattle.ffi3_script_rules.specs.Typed.{Kinds, Setting, IsOfType, act_is_typed, moves_are_typed, body_is_typed, signature_is_right, gives_too}
-use Rattle.ffi3_script_rules.proofs.Tests.{and_left, and_right, both}
-use Rattle.ffi3_script_rules.proofs.RightTypes.{is_none-none}
-use Rattle.ffi3_script_rules.proofs.Fits.{one_more_fits, unfinished_fits}
+use Rattle.ffi3_script_spec.specs.Script as script
+use Rattle.ffi3_script_spec.specs.Script.{Act, call, make, free, print, return, return_void}
+use Rattle.ffi3_script_spec.specs.Bodies.{type_of_act, ends}
+use Rattle.ffi3_script_spec.specs.Meaning.{Known, is_done, knows_too, behaviour_of}
+use Rattle.ffi3_script_spec.specs.Typed.{Kinds, Setting, IsOfType, act_is_typed, moves_are_typed, body_is_typed, signature_is_right, gives_too}
+use Rattle.ffi3_script_spec.proofs.Tests.{and_left, and_right, both}
+use Rattle.ffi3_script_spec.proofs.RightTypes.{is_none-none}
+use Rattle.ffi3_script_spec.proofs.Fits.{one_more_fits, unfinished_fits}
 use Rattle.ffi3_script_body.specs.Walked.{Walked}
-use Rattle.ffi3_script_rules.proofs.BodyRules.{IsLeft, left_done, left_undone, taken_fits, ends_after_done, ends_after_undone, act_typed, later_typed}
+use Rattle.ffi3_script_spec.proofs.BodyRules.{IsLeft, left_done, left_undone, taken_fits, ends_after_done, ends_after_undone, act_typed, later_typed}
 use Rattle.ffi3_script_body.specs.ExprOf.{act_of, typed_of, script_move_of, script_moves_of}
 use Rattle.ffi3_script_body.specs.Own.{is_below}
 use Rattle.ffi3_script_body.specs.KnownOf.{Past, done_from, marked, pasts_of, value_by, past_type, past_value, calls_below, is_there, kinds_from, known_from}

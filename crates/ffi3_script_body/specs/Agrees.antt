@@ -1,10 +1,10 @@
 -- That a cursor of a body agrees with what an activation has seen.
 use Rattle.std.specs.Prelude.{◌≡◌, Bool, true, ℕ, ◌+◌, ◌<◌, List, [], ◌∷◌, ◌++◌, length, take, drop}
-use Rattle.ffi3_type_rules.specs.Value.{ValueTree}
+use Rattle.ffi3_type_spec.specs.Value.{ValueTree}
 use Rattle.ffi3_body.specs.SeenActivation.{SeenActivation, arguments_of}
-use Rattle.ffi3_script_rules.specs.Script.{ScriptMove}
-use Rattle.ffi3_script_rules.specs.Meaning.{Known, is_done}
-use Rattle.ffi3_script_rules.specs.Typed.{Kinds}
+use Rattle.ffi3_script_spec.specs.Script.{ScriptMove}
+use Rattle.ffi3_script_spec.specs.Meaning.{Known, is_done}
+use Rattle.ffi3_script_spec.specs.Typed.{Kinds}
 use Rattle.ffi3_script_body.specs.BodyOf.{moves_of, setting_of, meaning_of}
 use Rattle.ffi3_script_body.specs.KnownOf.{Past, pasts_of, kinds_from, known_from}
 use Rattle.ffi3_script_body.specs.Walked.{Walked}

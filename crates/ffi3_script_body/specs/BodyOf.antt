@@ -1,10 +1,10 @@
 -- What a body of the code is: its moves, and what they stand in.
 use Rattle.std.specs.Prelude.{ℕ, List}
-use Rattle.ffi3_type_rules.specs.Signature.{Signature}
-use Rattle.ffi3_run_rules.specs.Move.{Behaviour}
-use Rattle.ffi3_script_rules.specs.Script.{ScriptMove}
-use Rattle.ffi3_script_rules.specs.Meaning.{behaviour_of}
-use Rattle.ffi3_script_rules.specs.Typed.{Setting}
+use Rattle.ffi3_type_spec.specs.Signature.{Signature}
+use Rattle.ffi3_semantics_spec.specs.Move.{Behaviour}
+use Rattle.ffi3_script_spec.specs.Script.{ScriptMove}
+use Rattle.ffi3_script_spec.specs.Meaning.{behaviour_of}
+use Rattle.ffi3_script_spec.specs.Typed.{Setting}
 use Rattle.ffi3_script_body.specs.ExprOf.{script_moves_of}
 use Rattle.ffi3_script_body.specs.Own.{own_of}
 use Rattle.ffi3_script_body.specs.declared.body.ScriptBody.{ScriptBody}

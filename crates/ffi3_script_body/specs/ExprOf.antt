@@ -1,9 +1,9 @@
 -- Which value and move of a script one of the code is.
 use Rattle.std.specs.Prelude.{List, map, option_map, string_bytes}
-use Rattle.ffi3_type_rules.specs.Integer.{scalar_of}
+use Rattle.ffi3_type_spec.specs.Integer.{scalar_of}
 use Rattle.ffi3_types.specs.TreeOf.{tree_of}
-use Rattle.ffi3_script_rules.specs.Script as script
-use Rattle.ffi3_script_rules.specs.Script.{Expression, Expressions, no_expressions, expression, expressions_of, Typed}
+use Rattle.ffi3_script_spec.specs.Script as script
+use Rattle.ffi3_script_spec.specs.Script.{Expression, Expressions, no_expressions, expression, expressions_of, Typed}
 use Rattle.ffi3_script_body.specs.declared.expr.Expr.{Expr, Constant, Composed', Argument, Outcome, User, Element'}
 use Rattle.ffi3_script_body.specs.declared.expr.Expr.{TypedAs', Sum', Difference', Cast', Row_of-Expr, end_of-Expr}
 use Rattle.ffi3_script_body.specs.declared.expr.Expr.{more_of-Expr}

@@ -1,6 +1,6 @@
 -- Of which kind a move is.
 use Rattle.std.specs.Prelude.{ℕ, List, None, slice_index_or}
-use Rattle.ffi3_script_rules.specs.Script.{Act, call, make, free, print, return, return_void, ScriptMove}
+use Rattle.ffi3_script_spec.specs.Script.{Act, call, make, free, print, return, return_void, ScriptMove}
 use Rattle.ffi3_script_body.specs.declared.body.MoveKind.{MoveKind}
 use Rattle.ffi3_script_body.specs.declared.body.MoveKind.TheVariants.{Call, Make, Free, Print, Return}
 

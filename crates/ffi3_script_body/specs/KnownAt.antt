@@ -1,6 +1,6 @@
 -- What is known, and its types.
-use Rattle.ffi3_script_rules.specs.Meaning as meaning
-use Rattle.ffi3_script_rules.specs.Typed.{Kinds}
+use Rattle.ffi3_script_spec.specs.Meaning as meaning
+use Rattle.ffi3_script_spec.specs.Typed.{Kinds}
 use Rattle.ffi3_script_body.specs.KnownOf.{pasts_of, kinds_from, known_from}
 use Rattle.ffi3_script_body.specs.declared.known.Known.{Known}
 

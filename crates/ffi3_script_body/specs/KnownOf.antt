@@ -1,14 +1,14 @@
 -- What a body knows at one of its moves.
 use Rattle.std.specs.Prelude.{ℕ, ◌+◌, ◌&&◌, List, [], ◌∷◌, ◌++◌, map, Bool, true, Option, Some, None, nat_lt}
 use Rattle.std.specs.Prelude.{slice_index_or}
-use Rattle.ffi3_type_rules.specs.Tree.{Tree}
-use Rattle.ffi3_type_rules.specs.Signature.{Signature}
-use Rattle.ffi3_type_rules.specs.Value.{ValueTree, void_value, zero_value}
+use Rattle.ffi3_type_spec.specs.Tree.{Tree}
+use Rattle.ffi3_type_spec.specs.Signature.{Signature}
+use Rattle.ffi3_type_spec.specs.Value.{ValueTree, void_value, zero_value}
 use Rattle.ffi3_body.specs.SeenActivation.{SeenActivation, arguments_of}
-use Rattle.ffi3_script_rules.specs.Script.{Act, call, ScriptMove}
-use Rattle.ffi3_script_rules.specs.Bodies.{type_of_act}
-use Rattle.ffi3_script_rules.specs.Meaning as meaning
-use Rattle.ffi3_script_rules.specs.Typed.{Kinds}
+use Rattle.ffi3_script_spec.specs.Script.{Act, call, ScriptMove}
+use Rattle.ffi3_script_spec.specs.Bodies.{type_of_act}
+use Rattle.ffi3_script_spec.specs.Meaning as meaning
+use Rattle.ffi3_script_spec.specs.Typed.{Kinds}
 use Rattle.ffi3_script_body.specs.ExprOf.{act_of, script_moves_of}
 use Rattle.ffi3_script_body.specs.Own.{is_below}
 use Rattle.ffi3_script_body.specs.declared.known.Outcome.{Outcome}

@@ -1,7 +1,7 @@
 -- The signature by which a body is called.
 use Rattle.std.specs.Prelude.{ℕ, List, Bool, true, Option, Some, None, nat_lt}
-use Rattle.ffi3_type_rules.specs.Signature.{Signature, signature_at}
-use Rattle.ffi3_run_rules.specs.Move.{no_signature}
+use Rattle.ffi3_type_spec.specs.Signature.{Signature, signature_at}
+use Rattle.ffi3_semantics_spec.specs.Move.{no_signature}
 
 -- a function's is one of the script's, by its number; main has neither arguments nor result
 abbrev pub own_of : List Signature → Option ℕ → Signature

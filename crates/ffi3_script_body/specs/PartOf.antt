@@ -1,8 +1,8 @@
 -- An element of an element of a value: the whole that it is a part of, and the way down to it.
 use Rattle.std.specs.Prelude.{◌<◌, ⊤, length}
-use Rattle.ffi3_type_rules.specs.Value.{ValueTree, elements_of, list_of_values}
-use Rattle.ffi3_script_rules.specs.Script.{Expression, element}
-use Rattle.ffi3_script_rules.specs.Meaning.{element_value}
+use Rattle.ffi3_type_spec.specs.Value.{ValueTree, elements_of, list_of_values}
+use Rattle.ffi3_script_spec.specs.Script.{Expression, element}
+use Rattle.ffi3_script_spec.specs.Meaning.{element_value}
 
 -- the expression of whose value this is a part: itself where it is no element
 abbrev pub whole_of : Expression → Expression

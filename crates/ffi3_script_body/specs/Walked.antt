@@ -1,14 +1,14 @@
 -- A walk along the moves of a body, as far as some of them.
 use Rattle.std.specs.Prelude.{◌≡◌, ℕ, ◌≤◌, List, ◌++◌, length, map, take, true}
 use Rattle.std.specs.List.{list_all}
-use Rattle.ffi3_type_rules.specs.Tree.{trees_of}
-use Rattle.ffi3_type_rules.specs.Value.{ValueTree, all_fit, values_of}
-use Rattle.ffi3_run_rules.specs.Move.{Move}
+use Rattle.ffi3_type_spec.specs.Tree.{trees_of}
+use Rattle.ffi3_type_spec.specs.Value.{ValueTree, all_fit, values_of}
+use Rattle.ffi3_semantics_spec.specs.Move.{Move}
 use Rattle.ffi3_body.specs.SeenActivation.{SeenActivation}
-use Rattle.ffi3_script_rules.specs.Script.{ScriptMove}
-use Rattle.ffi3_script_rules.specs.Bodies.{ends}
-use Rattle.ffi3_script_rules.specs.Meaning.{next_of}
-use Rattle.ffi3_script_rules.specs.Typed.{Setting, moves_are_typed}
+use Rattle.ffi3_script_spec.specs.Script.{ScriptMove}
+use Rattle.ffi3_script_spec.specs.Bodies.{ends}
+use Rattle.ffi3_script_spec.specs.Meaning.{next_of}
+use Rattle.ffi3_script_spec.specs.Typed.{Setting, moves_are_typed}
 use Rattle.ffi3_script_body.specs.KnownOf.{Past, past_type, past_value, is_there, kinds_from, known_from}
 
 -- After these moves, which took so many results, these moves are left: whatever results follow those taken, the next move is the one that the moves left give.

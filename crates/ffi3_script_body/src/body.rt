@@ -1,7 +1,7 @@
 // A body of a script: the moves of a function, or of main.
 ghost use Rattle.std.specs.Prelude.{◌≡◌, ◌<◌, ◌≤◌, ◌^◌, length, take, true};
 ghost use Rattle.std.specs.List.{list_all};
-ghost use Rattle.ffi3_script_rules.specs.Typed.{body_is_typed, signature_is_right};
+ghost use Rattle.ffi3_script_spec.specs.Typed.{body_is_typed, signature_is_right};
 ghost use Rattle.ffi3_script_body.specs.ExprOf.{script_moves_of};
 ghost use Rattle.ffi3_script_body.specs.Own.{own_of, is_below};
 ghost use Rattle.ffi3_script_body.specs.Always.{is_unconditional};
@@ -67,20 +67,20 @@ fn unconditional(moves: &[ScriptMove]) -> u32
 impl ScriptBody {
     ghost use Rattle.std.specs.Prelude.{◌≡◌, ◌<◌, ◌^◌, get_or, length, true};
     ghost use Rattle.std.specs.List.{list_all};
-    ghost use Rattle.ffi3_script_rules.specs.Typed.{body_is_typed, signature_is_right};
+    ghost use Rattle.ffi3_script_spec.specs.Typed.{body_is_typed, signature_is_right};
     ghost use Rattle.ffi3_script_body.specs.ExprOf.{script_moves_of};
     ghost use Rattle.ffi3_script_body.specs.Own.{own_of, is_below};
     ghost use Rattle.ffi3_script_body.specs.KindOf.{kind_of_act, act_at};
     ghost use Rattle.ffi3_script_body.specs.BodyOf.{moves_of, signatures_of, functions_of, signature_of, setting_of, meaning_of};
     ghost use Rattle.ffi3_script_body.specs.Agrees.{Agrees, kinds_at, known_at, passed, taken_by, one_more};
     ghost use Rattle.std.specs.Prelude.{◌+◌, IfOk, IfSome, None};
-    ghost use Rattle.ffi3_type_rules.specs.Value.{ValueTree};
-    ghost use Rattle.ffi3_run_rules.specs.Move.{MoveFits};
+    ghost use Rattle.ffi3_type_spec.specs.Value.{ValueTree};
+    ghost use Rattle.ffi3_semantics_spec.specs.Move.{MoveFits};
     ghost use Rattle.ffi3_body.specs.SeenActivation.{SeenActivation, arguments_of};
     ghost use Rattle.ffi3_body.specs.Follow.{ResultsFollow};
     ghost use Rattle.ffi3_body.specs.MoveOf as code;
-    ghost use Rattle.ffi3_script_rules.specs.Meaning as meaning;
-    ghost use Rattle.ffi3_script_rules.specs.Typed.{act_is_typed};
+    ghost use Rattle.ffi3_script_spec.specs.Meaning as meaning;
+    ghost use Rattle.ffi3_script_spec.specs.Typed.{act_is_typed};
     ghost use Rattle.ffi3_script_body.specs.ExprOf.{act_of};
     ghost use Rattle.ffi3_script_body.specs.KnownAt.{kinds_of, known_of};
 

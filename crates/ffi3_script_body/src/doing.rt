@@ -1,8 +1,8 @@
 // Addresses and conditions of a body's moves.
 ghost use Rattle.std.specs.Prelude.{◌≡◌, true, IfOk, option_map};
-ghost use Rattle.ffi3_type_rules.specs.Tree.{scalar, pointer};
-ghost use Rattle.ffi3_script_rules.specs.Meaning as meaning;
-ghost use Rattle.ffi3_script_rules.specs.Typed.{has_type, is_condition};
+ghost use Rattle.ffi3_type_spec.specs.Tree.{scalar, pointer};
+ghost use Rattle.ffi3_script_spec.specs.Meaning as meaning;
+ghost use Rattle.ffi3_script_spec.specs.Typed.{has_type, is_condition};
 ghost use Rattle.ffi3_script_body.specs.ExprOf.{expression_of, typed_of};
 ghost use Rattle.ffi3_script_body.specs.KnownAt.{kinds_of, known_of};
 

@@ -1,12 +1,12 @@
 // The values that a body computes.
 ghost use Rattle.std.specs.Prelude.{◌≡◌, true, IfOk};
-ghost use Rattle.ffi3_type_rules.specs.Tree.{scalar, trees_of};
-ghost use Rattle.ffi3_type_rules.specs.Integer.{scalar_of};
-ghost use Rattle.ffi3_type_rules.specs.Value.{list_of_values, fits};
+ghost use Rattle.ffi3_type_spec.specs.Tree.{scalar, trees_of};
+ghost use Rattle.ffi3_type_spec.specs.Integer.{scalar_of};
+ghost use Rattle.ffi3_type_spec.specs.Value.{list_of_values, fits};
 ghost use Rattle.ffi3_types.specs.TreeOf.{tree_of};
 ghost use Rattle.ffi3_values.specs.ValueOf.{value_of};
-ghost use Rattle.ffi3_script_rules.specs.Meaning as meaning;
-ghost use Rattle.ffi3_script_rules.specs.Typed.{has_type, have_types, own_type};
+ghost use Rattle.ffi3_script_spec.specs.Meaning as meaning;
+ghost use Rattle.ffi3_script_spec.specs.Typed.{has_type, have_types, own_type};
 ghost use Rattle.ffi3_script_body.specs.ExprOf.{expression_of, expressions_in};
 ghost use Rattle.ffi3_script_body.specs.KnownAt.{kinds_of, known_of};
 ghost use Rattle.ffi3_script_body.specs.PartOf.{IsPart, part_of, whole_of};

@@ -32,7 +32,7 @@ pub enum Expr {
 
 impl Expr {
     ghost use Rattle.std.specs.Prelude.{◌≡◌};
-    ghost use Rattle.ffi3_script_rules.specs.Script as script;
+    ghost use Rattle.ffi3_script_spec.specs.Script as script;
     ghost use Rattle.ffi3_script_body.specs.ExprOf.{expression_of, expressions_in};
 
     /// A struct or an array of these elements.

@@ -1,10 +1,10 @@
 // What a body knows at one of its moves.
 ghost use Rattle.std.specs.Prelude.{◌≡◌, length, true, map};
 ghost use Rattle.std.specs.List.{list_all};
-ghost use Rattle.ffi3_type_rules.specs.Tree.{trees_of};
-ghost use Rattle.ffi3_type_rules.specs.Value.{all_fit, values_of};
+ghost use Rattle.ffi3_type_spec.specs.Tree.{trees_of};
+ghost use Rattle.ffi3_type_spec.specs.Value.{all_fit, values_of};
 ghost use Rattle.ffi3_body.specs.SeenActivation.{arguments_of};
-ghost use Rattle.ffi3_script_rules.specs.Typed.{signature_is_right};
+ghost use Rattle.ffi3_script_spec.specs.Typed.{signature_is_right};
 ghost use Rattle.ffi3_script_body.specs.KnownOf.{is_there, past_type, past_value, pasts_of};
 
 use crate::{Act, NoMemory, ScriptMove};
@@ -43,10 +43,10 @@ pub(crate) struct Known<'a, 'b, 'c> {
 impl<'a, 'b, 'c> Known<'a, 'b, 'c> {
     ghost use Rattle.std.specs.Prelude.{◌≡◌, ◌<◌, length, true, map, IfOk, slice_index_or};
     ghost use Rattle.std.specs.List.{list_all};
-    ghost use Rattle.ffi3_type_rules.specs.Tree.{trees_of};
-    ghost use Rattle.ffi3_type_rules.specs.Value.{all_fit, values_of, void_value};
+    ghost use Rattle.ffi3_type_spec.specs.Tree.{trees_of};
+    ghost use Rattle.ffi3_type_spec.specs.Value.{all_fit, values_of, void_value};
     ghost use Rattle.ffi3_values.specs.ValueOf.{value_of};
-    ghost use Rattle.ffi3_script_rules.specs.Typed.{signature_is_right};
+    ghost use Rattle.ffi3_script_spec.specs.Typed.{signature_is_right};
     ghost use Rattle.ffi3_script_body.specs.KnownOf.{is_there, past_of, past_type, past_value, pasts_of, kinds_from, known_from};
     ghost use Rattle.ffi3_script_body.specs.KnownAt.{kinds_of, known_of};
 

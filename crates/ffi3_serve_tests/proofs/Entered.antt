@@ -2,23 +2,23 @@
 use Rattle.std.proofs.Common.{◌≡◌, ℕ, ◌+◌, ◌<◌, ◌≤◌, true, List, ◌++◌, get_or, refl, ap, sym, ◌∙◌, subst, arith}
 use Rattle.std.specs.Prelude.{slice_index}
 use Rattle.std.specs.List.{AllByRecursion}
-use Rattle.ffi3_type_rules.specs.declared.limits.TheConstants.{STACK, STACK_TOP}
-use Rattle.ffi3_type_rules.specs.Isa.{isa_of}
-use Rattle.ffi3_type_rules.specs.Signature.{Signature}
-use Rattle.ffi3_type_rules.specs.Value.{ValueTree}
-use Rattle.ffi3_place_rules.specs.declared.Loc.{Loc}
-use Rattle.ffi3_place_rules.specs.declared.Loc.TheVariants.{G, S}
-use Rattle.ffi3_place_rules.specs.Isa.{closure_register, to_list}
-use Rattle.ffi3_place_rules.specs.Standard.{Standard, block_bytes, frame_of, need_of}
-use Rattle.ffi3_place_rules.specs.Agrees.{AgreesWithMachine}
-use Rattle.ffi3_place_rules.specs.Sound.{closed_to_arguments, closed_to_results}
+use Rattle.ffi3_type_spec.specs.declared.limits.TheConstants.{STACK, STACK_TOP}
+use Rattle.ffi3_type_spec.specs.TargetIsa.{isa_of}
+use Rattle.ffi3_type_spec.specs.Signature.{Signature}
+use Rattle.ffi3_type_spec.specs.Value.{ValueTree}
+use Rattle.ffi3_place_spec.specs.declared.Loc.{Loc}
+use Rattle.ffi3_place_spec.specs.declared.Loc.TheVariants.{G, S}
+use Rattle.ffi3_place_spec.specs.MachineRegisters.{closure_register, to_list}
+use Rattle.ffi3_place_spec.specs.Standard.{Standard, block_bytes, frame_of, need_of}
+use Rattle.ffi3_place_spec.specs.Agrees.{AgreesWithMachine}
+use Rattle.ffi3_place_spec.specs.Sound.{closed_to_arguments, closed_to_results}
 use Rattle.ffi3_machine.specs.State.{State, HasReturnAddress}
-use Rattle.ffi3_pieces.specs.Stored.{IsPlace, byte_of, stack_byte, word_in}
+use Rattle.ffi3_machine_transfer.specs.Stored.{IsPlace, byte_of, stack_byte, word_in}
 use Rattle.ffi3_marshal.proofs.Lawful.{each_first, each_rest}
 use Rattle.ffi3_callee.specs.Poison.{IsPoisoned, is_free}
 use Rattle.ffi3_callee.specs.Received.{OwnsAtEntry}
 use Rattle.ffi3_invoke.specs.Calls.{HasPassed, entered_closure}
-use Rattle.ffi3_configuration.specs.Served.{ShowsCall}
+use Rattle.ffi3_run_state.specs.Served.{ShowsCall}
 use Rattle.ffi3_serve_tests.specs.Shown.{IsOverwritten}
 
 -- no argument stands in the closure register

@@ -1,8 +1,8 @@
 -- One value for the arguments of a signature.
 use Rattle.std.proofs.Common.{◌≡◌, ℕ, Bool, true, false, ◌&&◌, nat_eq, List, [], ◌∷◌, length, refl, ap, sym, ◌∙◌}
 use Rattle.std.proofs.lemmas.Bool.{eqb-true}
-use Rattle.ffi3_type_rules.specs.Tree.{Tree, trees_of}
-use Rattle.ffi3_type_rules.specs.Value.{ValueTree, all_fit, fits, values_of}
+use Rattle.ffi3_type_spec.specs.Tree.{Tree, trees_of}
+use Rattle.ffi3_type_spec.specs.Value.{ValueTree, all_fit, fits, values_of}
 
 and_false : (b : Bool) → (b && false) ≡ false
 and_false true = refl

@@ -1,17 +1,17 @@
 -- A machine that shows a call of a live closure, in which a byte stands in everything that the callee must not look at.
 use Rattle.std.specs.Prelude.{◌≡◌, ℕ, ◌+◌, ◌<◌, true, List, length, Some}
-use Rattle.ffi3_type_rules.specs.Signature.{Signature, signature_at}
-use Rattle.ffi3_type_rules.specs.Value.{ValueTree}
-use Rattle.ffi3_place_rules.specs.declared.Loc.{Loc}
-use Rattle.ffi3_place_rules.specs.declared.Loc.TheVariants.{S}
-use Rattle.ffi3_place_rules.specs.Standard.{Standard}
-use Rattle.ffi3_run_rules.specs.declared.Closure.{Closure}
-use Rattle.ffi3_run_rules.specs.Closures.{Closures, closure_at}
+use Rattle.ffi3_type_spec.specs.Signature.{Signature, signature_at}
+use Rattle.ffi3_type_spec.specs.Value.{ValueTree}
+use Rattle.ffi3_place_spec.specs.declared.Loc.{Loc}
+use Rattle.ffi3_place_spec.specs.declared.Loc.TheVariants.{S}
+use Rattle.ffi3_place_spec.specs.Standard.{Standard}
+use Rattle.ffi3_semantics_spec.specs.declared.Closure.{Closure}
+use Rattle.ffi3_semantics_spec.specs.Closures.{Closures, closure_at}
 use Rattle.ffi3_machine.specs.State.{State}
-use Rattle.ffi3_pieces.specs.Stored.{IsPlace, byte_of, stack_byte}
+use Rattle.ffi3_machine_transfer.specs.Stored.{IsPlace, byte_of, stack_byte}
 use Rattle.ffi3_callee.specs.Poison.{is_free}
 use Rattle.ffi3_invoke.specs.Calls.{entered_closure}
-use Rattle.ffi3_configuration.specs.Served.{ShowsCall}
+use Rattle.ffi3_run_state.specs.Served.{ShowsCall}
 
 -- THE MACHINE STANDS AT THE ENTRY of a live closure by this signature, with these values.
 pub record IsShown (std : Standard) (signatures : List Signature) (closures : Closures) (arguments : List ValueTree)

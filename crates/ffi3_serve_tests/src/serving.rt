@@ -1,13 +1,13 @@
 //! A call that is served, and its result's text.
 ghost use Rattle.std.specs.Prelude.{◌≡◌, ◌+◌, ◌<◌, ◌≤◌, ◌^◌, IfOk, length};
-ghost use Rattle.ffi3_type_rules.specs.declared.limits.TheConstants.{RETURN, STACK, STACK_TOP};
-ghost use Rattle.ffi3_type_rules.specs.Value.{ValueTree};
-ghost use Rattle.ffi3_type_rules.specs.ValueText.{value_text_of};
-ghost use Rattle.ffi3_place_rules.specs.Holds.{OwnResult};
-ghost use Rattle.ffi3_place_rules.specs.Standard.{frame_of};
+ghost use Rattle.ffi3_type_spec.specs.declared.limits.TheConstants.{RETURN, STACK, STACK_TOP};
+ghost use Rattle.ffi3_type_spec.specs.Value.{ValueTree};
+ghost use Rattle.ffi3_type_spec.specs.ValueText.{value_text_of};
+ghost use Rattle.ffi3_place_spec.specs.Holds.{OwnResult};
+ghost use Rattle.ffi3_place_spec.specs.Standard.{frame_of};
 ghost use Rattle.ffi3_machine.specs.State.{image_of};
 ghost use Rattle.ffi3_script.specs.ScriptOf.{natives_of};
-ghost use Rattle.ffi3_ask.specs.Handed.{handed, signatures_in};
+ghost use Rattle.ffi3_next_move.specs.Handed.{handed, signatures_in};
 
 use crate::showing::show_at;
 use ffi3_body::Native;
@@ -18,7 +18,7 @@ use ffi3_machine::{Machine, RETURN};
 use ffi3_place::Abi;
 use ffi3_runner::{RunEnd, Runner};
 use ffi3_script::Script;
-use ffi3_type_rules::limits::LARGEST_TYPE;
+use ffi3_type_spec::limits::LARGEST_TYPE;
 use ffi3_types::{Bytes, NoMemory};
 use ffi3_values::{Value, value_from_bytes, value_text};
 use std::alloc::Global;

@@ -1,16 +1,16 @@
 //! A call from outside, up to the closure's entry.
 ghost use Rattle.std.specs.Prelude.{◌≡◌, ◌+◌, ◌≤◌, ◌∷◌, [], IfOk, IfSome, IsSome, true};
-ghost use Rattle.ffi3_type_rules.specs.declared.limits.TheConstants.{STACK, STACK_TOP};
-ghost use Rattle.ffi3_type_rules.specs.Signature.{SignatureHasNoFault, signature_at};
-ghost use Rattle.ffi3_type_rules.specs.Tree.{trees_of};
-ghost use Rattle.ffi3_type_rules.specs.Value.{all_fit, values_of};
+ghost use Rattle.ffi3_type_spec.specs.declared.limits.TheConstants.{STACK, STACK_TOP};
+ghost use Rattle.ffi3_type_spec.specs.Signature.{SignatureHasNoFault, signature_at};
+ghost use Rattle.ffi3_type_spec.specs.Tree.{trees_of};
+ghost use Rattle.ffi3_type_spec.specs.Value.{all_fit, values_of};
 ghost use Rattle.ffi3_values.specs.ValueOf.{value_of};
-ghost use Rattle.ffi3_place_rules.specs.Standard.{frame_of, need_of};
-ghost use Rattle.ffi3_run_rules.specs.Closures.{closure_at};
+ghost use Rattle.ffi3_place_spec.specs.Standard.{frame_of, need_of};
+ghost use Rattle.ffi3_semantics_spec.specs.Closures.{closure_at};
 ghost use Rattle.ffi3_machine.specs.State.{IsSlot};
 ghost use Rattle.ffi3_closures.specs.Slots.{HoldsMap};
 ghost use Rattle.ffi3_invoke.specs.Calls.{entered_closure};
-ghost use Rattle.ffi3_configuration.specs.Served.{ShowsCall};
+ghost use Rattle.ffi3_run_state.specs.Served.{ShowsCall};
 ghost use Rattle.ffi3_serve_tests.specs.Shown.{IsOverwritten, IsShown};
 
 use ffi3_callee::poison;

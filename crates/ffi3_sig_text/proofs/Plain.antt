@@ -1,10 +1,10 @@
--- Where nothing is left out, the text is that of ffi3_type_rules.
+-- Where nothing is left out, the text is that of ffi3_type_spec.
 use Rattle.std.proofs.Common.{◌≡◌, [], ◌∷◌, ◌++◌, refl, ap, ap₂}
 use Rattle.std.specs.Prelude.{codes, slice_index_or}
 use Rattle.std.specs.Fmt.{decimal}
 use Rattle.std.specs.List.{join_with_byte}
-use Rattle.ffi3_type_rules.specs.Tree.{Tree, void, scalar, left_out, structure, array, Trees, no_trees, tree}
-use Rattle.ffi3_type_rules.specs.Text.{text_of, texts_of}
+use Rattle.ffi3_type_spec.specs.Tree.{Tree, void, scalar, left_out, structure, array, Trees, no_trees, tree}
+use Rattle.ffi3_type_spec.specs.Text.{text_of, texts_of}
 use Rattle.ffi3_sig_text.specs.SigText.{told_text, told_texts}
 
 -- the type has nothing that is left out

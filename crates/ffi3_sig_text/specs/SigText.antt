@@ -1,12 +1,12 @@
--- The text of a signature whose long doubles have no format yet: that of ffi3_type_rules, and C's words for these.
+-- The text of a signature whose long doubles have no format yet: that of ffi3_type_spec, and C's words for these.
 use Rattle.std.specs.Prelude.{◌≡◌, ℕ, ◌<◌, ◌≤◌, List, [], ◌∷◌, ◌++◌, length, take, drop, slice_index_or, Option, Some, None}
 use Rattle.std.specs.Prelude.{codes}
 use Rattle.std.specs.Fmt.{decimal}
 use Rattle.std.specs.List.{join_with_byte}
-use Rattle.ffi3_type_rules.specs.Tree.{LeftOutKind, long_double, complex, vector}
-use Rattle.ffi3_type_rules.specs.Tree.{Tree, void, scalar, left_out, structure, Trees, no_trees, tree, trees_of, array}
-use Rattle.ffi3_type_rules.specs.Text.{scalar_name}
-use Rattle.ffi3_type_rules.specs.Signature.{Signature}
+use Rattle.ffi3_type_spec.specs.Tree.{LeftOutKind, long_double, complex, vector}
+use Rattle.ffi3_type_spec.specs.Tree.{Tree, void, scalar, left_out, structure, Trees, no_trees, tree, trees_of, array}
+use Rattle.ffi3_type_spec.specs.Text.{scalar_name}
+use Rattle.ffi3_type_spec.specs.Signature.{Signature}
 
 -- a vector has no text
 abbrev pub left_out_text : LeftOutKind → List ℕ

@@ -2,7 +2,7 @@
 use Rattle.std.specs.Prelude.{ℕ, List, codes}
 use Rattle.ffi3_io.specs.Sink.{AddsSome, Rose, SinkState}
 use Rattle.ffi3_io.specs.Written.{TookText}
-use Rattle.ffi3_run_rules.specs.Lines.{a_line}
+use Rattle.ffi3_semantics_spec.specs.Lines.{a_line}
 
 abbrev pub read_fault_line : List ℕ
 read_fault_line = a_line (codes "ffi3: read fault")

@@ -1,13 +1,13 @@
 -- What the four stubs of AMD64 leave, in readable words.
 use Rattle.std.proofs.Common.{◌≡◌, ◌+◌, ◌-◌, ◌≤◌, ◌++◌, false, length, refl, ap, ◌∙◌, arith, length-set, ◌⊎◌, inl, inr, ⊎_elim, ℕ, ◌*◌, ◌<◌, min}
 use Rattle.ffi3_memory.specs.Memory.{number_of}
-use Rattle.ffi3_type_rules.specs.declared.Isa.TheVariants.{Amd64}
-use Rattle.ffi3_type_rules.specs.declared.limits.TheConstants.{STACK, STACK_TOP}
-use Rattle.ffi3_place_rules.specs.declared.Loc.{Loc}
-use Rattle.ffi3_place_rules.specs.declared.Loc.TheVariants.{G}
+use Rattle.ffi3_type_spec.specs.declared.Isa.TheVariants.{Amd64}
+use Rattle.ffi3_type_spec.specs.declared.limits.TheConstants.{STACK, STACK_TOP}
+use Rattle.ffi3_place_spec.specs.declared.Loc.{Loc}
+use Rattle.ffi3_place_spec.specs.declared.Loc.TheVariants.{G}
 use Rattle.ffi3_machine.specs.declared.stub.TheConstants.{EXCHANGE}
 use Rattle.ffi3_machine.specs.State.{State, IsMachine, x_of, with_pc}
-use Rattle.ffi3_place_rules.specs.Isa.{call_loads, entry_stores, callee_saved_words, stub_area, result_loads}
+use Rattle.ffi3_place_spec.specs.StubRegisters.{call_loads, entry_stores, callee_saved_words, stub_area, result_loads}
 use Rattle.ffi3_stubs.specs.Effects.{held, addressed, with_sp_by, amd64_placed, amd64_called, amd64_saved, amd64_entered, amd64_restored, amd64_left, amd64_returned}
 use Rattle.ffi3_stubs.specs.Calls.{same_loc, is_in, HasCalled, HasEntered, HasLeft, HasReturned}
 use Rattle.ffi3_stubs.proofs.Reading.{are_apart, are_spread, are_disjoint, place, misses, neither, in_neither, addressed_other, exchange_others, area_others, came_from_exchange, came_from_area, came_still, area_lengths, exchange_beyond, went_from, went_to_exchange, went_to_area}

@@ -7,13 +7,13 @@ use Rattle.ffi3_isa.specs.declared.Instr.{Instr}
 use Rattle.ffi3_isa.specs.declared.Instr.TheVariants.{Ld, Sd, Fld, Fsd, Addi, Auipc, Jalr}
 use Rattle.ffi3_isa.specs.Fields.{sign_extend, first_word}
 use Rattle.ffi3_isa.specs.Riscv.{IsRiscvWord, auipc, ld, jalr, addi, sd, fld, fsd}
-use Rattle.ffi3_type_rules.specs.declared.Isa.TheVariants.{Riscv}
-use Rattle.ffi3_type_rules.specs.declared.limits.TheConstants.{STACK, STACK_TOP, CODE}
-use Rattle.ffi3_place_rules.specs.declared.Loc.TheVariants.{G, F}
+use Rattle.ffi3_type_spec.specs.declared.Isa.TheVariants.{Riscv}
+use Rattle.ffi3_type_spec.specs.declared.limits.TheConstants.{STACK, STACK_TOP, CODE}
+use Rattle.ffi3_place_spec.specs.declared.Loc.TheVariants.{G, F}
 use Rattle.ffi3_machine.specs.declared.stub.TheConstants.{EXCHANGE}
 use Rattle.ffi3_machine.specs.State.{State}
 use Rattle.ffi3_machine.specs.Stubs.{load, store, sum, jump, calls, returns, riscv_row, riscv_i, riscv_s, word}
-use Rattle.ffi3_machine.specs.Step.{StepsBy, IsInstructionAt, loaded, moved, next, even, base, sets, sums, floats, stores, changed}
+use Rattle.ffi3_machine.specs.MachineStep.{StepsBy, IsInstructionAt, loaded, moved, next, even, base, sets, sums, floats, stores, changed}
 use Rattle.ffi3_stubs.specs.Effects.{counted, received, with_sp_by, exchanged, saved, linked, jumped, addressed_twice}
 use Rattle.ffi3_stubs.proofs.Standing.{Stands, plain, unmoved, wraps, TakesBy, one_step, and_then, onward}
 use Rattle.ffi3_stubs.proofs.Places.{along, word_first, in_exchange, in_stack, takes_exchange, takes_stack, unequal}

@@ -3,14 +3,14 @@ use Rattle.std.proofs.Common.{◌^◌, ◌≡◌, ◌≢◌, ℕ, ◌+◌, ◌-�
 use Rattle.std.proofs.lemmas.List.{get_or-set_same}
 use Rattle.std.specs.Prelude.{slice_index, slice_set, pos, negsuc}
 use Rattle.ffi3_isa.specs.Fields.{sign_extend}
-use Rattle.ffi3_type_rules.specs.declared.Isa.TheVariants.{Riscv}
-use Rattle.ffi3_type_rules.specs.declared.limits.TheConstants.{STACK, STACK_TOP}
-use Rattle.ffi3_place_rules.specs.declared.Loc.{Loc}
-use Rattle.ffi3_place_rules.specs.declared.Loc.TheVariants.{G}
+use Rattle.ffi3_type_spec.specs.declared.Isa.TheVariants.{Riscv}
+use Rattle.ffi3_type_spec.specs.declared.limits.TheConstants.{STACK, STACK_TOP}
+use Rattle.ffi3_place_spec.specs.declared.Loc.{Loc}
+use Rattle.ffi3_place_spec.specs.declared.Loc.TheVariants.{G}
 use Rattle.ffi3_machine.specs.declared.stub.TheConstants.{EXCHANGE}
 use Rattle.ffi3_machine.specs.State.{State, x_of}
-use Rattle.ffi3_machine.specs.Step.{StepsBy, even, moved}
-use Rattle.ffi3_place_rules.specs.Isa.{call_loads, stub_area, callee_saved_words, entry_stores, result_loads}
+use Rattle.ffi3_machine.specs.MachineStep.{StepsBy, even, moved}
+use Rattle.ffi3_place_spec.specs.StubRegisters.{call_loads, stub_area, callee_saved_words, entry_stores, result_loads}
 use Rattle.ffi3_machine.specs.Stubs.{Entry, Exit, Call, Return, rows, bytes_of, stub_bytes, riscv_row, address, load, sum, jump, calls, returns, exchange_loads, exchange_stores, area_loads, area_stores}
 use Rattle.ffi3_machine.proofs.Stubs.{lengths}
 use Rattle.ffi3_stubs.specs.Effects.{held, addressed_twice, received, saved, to_area, with_sp_by, linked, riscv_placed, riscv_loaded, riscv_called, riscv_saved, riscv_passed, riscv_entered, riscv_restored, riscv_given, riscv_left, riscv_taken, riscv_returned}

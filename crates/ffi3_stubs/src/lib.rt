@@ -2,11 +2,12 @@
 #![tactic(auto)]
 
 ghost use Rattle.std.specs.Prelude.{◌≡◌, ◌≤◌, ◌+◌, ◌%◌, ◌^◌};
-ghost use Rattle.ffi3_type_rules.specs.Isa.{isa_of};
-ghost use Rattle.ffi3_place_rules.specs.Isa.{pushed_bytes, area_bytes};
+ghost use Rattle.ffi3_type_spec.specs.TargetIsa.{isa_of};
+ghost use Rattle.ffi3_place_spec.specs.MachineRegisters.{pushed_bytes};
+ghost use Rattle.ffi3_place_spec.specs.StubRegisters.{area_bytes};
 ghost use Rattle.ffi3_machine.specs.State.{State, IsSlot, with_pc, x_of};
 ghost use Rattle.ffi3_machine.specs.Stubs.{Call, Entry, Exit, Return, stub_at};
-ghost use Rattle.ffi3_machine.specs.Step.{TakesSteps};
+ghost use Rattle.ffi3_machine.specs.MachineStep.{TakesSteps};
 ghost use Rattle.ffi3_stubs.specs.Calls.{
   HasCalled,
   HasEntered,
@@ -20,7 +21,7 @@ ghost use Rattle.ffi3_stubs.specs.Calls.{
 };
 
 use ffi3_machine::{ENTRY, Machine, RETURN, STACK, STACK_TOP, Stub};
-use ffi3_type_rules::Isa;
+use ffi3_type_spec::Isa;
 
 // How many instructions Call does.
 fn call_steps(isa: Isa) -> u8

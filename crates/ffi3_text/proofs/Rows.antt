@@ -1,18 +1,18 @@
 -- Worked lines, computed.
 use Rattle.std.specs.Prelude.{◌≡◌, ℕ, List, [], ◌∷◌, ◌++◌, refl, Some, None, codes}
 use Rattle.std.specs.Fmt.{digits}
-use Rattle.ffi3_type_rules.specs.declared.Isa.TheVariants.{Amd64, Aarch64, Riscv}
-use Rattle.ffi3_type_rules.specs.Tree.{Tree, void, scalar, struct_of, array_of, u8, s8, u16, s16, u32, s32, float, double, pointer}
-use Rattle.ffi3_type_rules.specs.Layout.{least_multiple}
-use Rattle.ffi3_type_rules.specs.Signature.{Signature, at_result, at_argument}
-use Rattle.ffi3_type_rules.specs.Value.{leaf_value, struct_value, no_values, value}
-use Rattle.ffi3_place_rules.specs.Event.{Event, enters}
-use Rattle.ffi3_place_rules.specs.declared.Loc.{Loc}
-use Rattle.ffi3_place_rules.specs.declared.Loc.TheVariants.{G, F, S}
-use Rattle.ffi3_place_rules.specs.declared.Ext.TheVariants.{Free}
-use Rattle.ffi3_place_rules.specs.declared.Piece.{Piece}
-use Rattle.ffi3_place_rules.specs.declared.Place.TheVariants.{Direct, ByRef}
-use Rattle.ffi3_place_rules.specs.declared.Res.TheVariants.{Direct as DirectRes, Hidden}
+use Rattle.ffi3_type_spec.specs.declared.Isa.TheVariants.{Amd64, Aarch64, Riscv}
+use Rattle.ffi3_type_spec.specs.Tree.{Tree, void, scalar, struct_of, array_of, u8, s8, u16, s16, u32, s32, float, double, pointer}
+use Rattle.ffi3_type_spec.specs.Layout.{least_multiple}
+use Rattle.ffi3_type_spec.specs.Signature.{Signature, at_result, at_argument}
+use Rattle.ffi3_type_spec.specs.Value.{leaf_value, struct_value, no_values, value}
+use Rattle.ffi3_place_spec.specs.Event.{Event, enters}
+use Rattle.ffi3_place_spec.specs.declared.Loc.{Loc}
+use Rattle.ffi3_place_spec.specs.declared.Loc.TheVariants.{G, F, S}
+use Rattle.ffi3_place_spec.specs.declared.Ext.TheVariants.{Free}
+use Rattle.ffi3_place_spec.specs.declared.Piece.{Piece}
+use Rattle.ffi3_place_spec.specs.declared.Place.TheVariants.{Direct, ByRef}
+use Rattle.ffi3_place_spec.specs.declared.Res.TheVariants.{Direct as DirectRes, Hidden}
 use Rattle.ffi3_text.specs.LayoutLines.{layout_text_of}
 use Rattle.ffi3_text.specs.PlaceLines.{argument_text, result_text, vectors_text}
 use Rattle.ffi3_text.specs.TraceLines.{enter_text_of, leave_text_of, register_text}

@@ -2,10 +2,10 @@
 use Rattle.std.specs.Prelude.{ℕ, ◌<◌, ⊤, List, [], ◌∷◌, ◌++◌, length, codes}
 use Rattle.std.specs.List.{flat_map}
 use Rattle.std.specs.Fmt.{decimal}
-use Rattle.ffi3_type_rules.specs.Tree.{Tree, void, scalar, tree_at}
-use Rattle.ffi3_type_rules.specs.Layout.{Leaf, size_of, align_of, leaves_of}
-use Rattle.ffi3_type_rules.specs.Signature.{Signature, Position, at_result, at_argument}
-use Rattle.ffi3_type_rules.specs.Text.{text_of}
+use Rattle.ffi3_type_spec.specs.Tree.{Tree, void, scalar, tree_at}
+use Rattle.ffi3_type_spec.specs.Layout.{Leaf, size_of, align_of, leaves_of}
+use Rattle.ffi3_type_spec.specs.Signature.{Signature, Position, at_result, at_argument}
+use Rattle.ffi3_type_spec.specs.Text.{text_of}
 
 -- the signature has this type
 abbrev pub IsIn : Signature → Position → Type 0

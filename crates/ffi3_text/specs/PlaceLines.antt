@@ -3,18 +3,18 @@ use Rattle.std.specs.Prelude.{ℕ, ◌+◌, ◌==◌, Bool, true, false, cond, L
 use Rattle.std.specs.Prelude.{slice_index_or}
 use Rattle.std.specs.List.{flat_map, find, sum_by}
 use Rattle.std.specs.Fmt.{decimal}
-use Rattle.ffi3_type_rules.specs.declared.Isa.{Isa}
-use Rattle.ffi3_type_rules.specs.Isa.{isa_of}
-use Rattle.ffi3_type_rules.specs.Signature.{Signature, Position, at_result, at_argument}
-use Rattle.ffi3_place_rules.specs.declared.Loc.{Loc}
-use Rattle.ffi3_place_rules.specs.declared.Loc.TheVariants.{F, S}
-use Rattle.ffi3_place_rules.specs.Isa.{word_below}
-use Rattle.ffi3_place_rules.specs.declared.Piece.{Piece}
-use Rattle.ffi3_place_rules.specs.declared.Place.{Place}
-use Rattle.ffi3_place_rules.specs.declared.Place.TheVariants.{Direct, ByRef}
-use Rattle.ffi3_place_rules.specs.declared.Res.{Res}
-use Rattle.ffi3_place_rules.specs.declared.Res.TheVariants.{Nothing, Direct as DirectRes, Hidden}
-use Rattle.ffi3_place_rules.specs.Standard.{Standard, plan_of}
+use Rattle.ffi3_type_spec.specs.declared.Isa.{Isa}
+use Rattle.ffi3_type_spec.specs.TargetIsa.{isa_of}
+use Rattle.ffi3_type_spec.specs.Signature.{Signature, Position, at_result, at_argument}
+use Rattle.ffi3_place_spec.specs.declared.Loc.{Loc}
+use Rattle.ffi3_place_spec.specs.declared.Loc.TheVariants.{F, S}
+use Rattle.ffi3_place_spec.specs.MachineRegisters.{word_below}
+use Rattle.ffi3_place_spec.specs.declared.Piece.{Piece}
+use Rattle.ffi3_place_spec.specs.declared.Place.{Place}
+use Rattle.ffi3_place_spec.specs.declared.Place.TheVariants.{Direct, ByRef}
+use Rattle.ffi3_place_spec.specs.declared.Res.{Res}
+use Rattle.ffi3_place_spec.specs.declared.Res.TheVariants.{Nothing, Direct as DirectRes, Hidden}
+use Rattle.ffi3_place_spec.specs.Standard.{Standard, plan_of}
 use Rattle.ffi3_text.specs.Registers.{loc_name}
 use Rattle.ffi3_text.specs.declared.place.Part.{Part}
 

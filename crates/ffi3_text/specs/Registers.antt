@@ -1,11 +1,11 @@
 -- The text of a place: a register's name, or where it is on the stack. Where the names of all registers of a kind are a label and the number, as x7, any number is written so.
 use Rattle.std.specs.Prelude.{ℕ, ◌-◌, ◌/◌, cond, nat_lt, List, [], ◌++◌, codes, slice_index_or}
 use Rattle.std.specs.Fmt.{decimal}
-use Rattle.ffi3_type_rules.specs.declared.Isa.{Isa}
-use Rattle.ffi3_type_rules.specs.declared.Isa.TheVariants.{Amd64, Aarch64, Riscv}
-use Rattle.ffi3_place_rules.specs.declared.Loc.{Loc}
-use Rattle.ffi3_place_rules.specs.declared.Loc.TheVariants.{G, F, S}
-use Rattle.ffi3_place_rules.specs.RegisterNames.{general_names, floating_names}
+use Rattle.ffi3_type_spec.specs.declared.Isa.{Isa}
+use Rattle.ffi3_type_spec.specs.declared.Isa.TheVariants.{Amd64, Aarch64, Riscv}
+use Rattle.ffi3_place_spec.specs.declared.Loc.{Loc}
+use Rattle.ffi3_place_spec.specs.declared.Loc.TheVariants.{G, F, S}
+use Rattle.ffi3_place_spec.specs.RegisterNames.{general_names, floating_names}
 
 -- where there is no such label, a number past the last register has no name
 abbrev pub general_text : Isa → ℕ → List ℕ

@@ -1,16 +1,16 @@
 -- Lines of a trace, as a recorded event tells them.
 use Rattle.std.specs.Prelude.{ℕ, ◌<◌, List, ◌++◌, map, codes}
 use Rattle.std.specs.List.{concat, join_with_byte}
-use Rattle.ffi3_type_rules.specs.Tree.{trees_of}
-use Rattle.ffi3_type_rules.specs.Signature.{Signature}
-use Rattle.ffi3_type_rules.specs.Value.{ValueTree, values_of}
-use Rattle.ffi3_type_rules.specs.ValueText.{value_text_of, value_texts_of}
-use Rattle.ffi3_place_rules.specs.declared.Loc.{Loc}
-use Rattle.ffi3_place_rules.specs.declared.Loc.TheVariants.{G, F, S}
-use Rattle.ffi3_place_rules.specs.Image.{register}
-use Rattle.ffi3_place_rules.specs.Standard.{Standard}
-use Rattle.ffi3_place_rules.specs.Event.{Event}
-use Rattle.ffi3_run_rules.specs.Lines.{a_line, address_text, word_text}
+use Rattle.ffi3_type_spec.specs.Tree.{trees_of}
+use Rattle.ffi3_type_spec.specs.Signature.{Signature}
+use Rattle.ffi3_type_spec.specs.Value.{ValueTree, values_of}
+use Rattle.ffi3_type_spec.specs.ValueText.{value_text_of, value_texts_of}
+use Rattle.ffi3_place_spec.specs.declared.Loc.{Loc}
+use Rattle.ffi3_place_spec.specs.declared.Loc.TheVariants.{G, F, S}
+use Rattle.ffi3_place_spec.specs.Image.{register}
+use Rattle.ffi3_place_spec.specs.Standard.{Standard}
+use Rattle.ffi3_place_spec.specs.Event.{Event}
+use Rattle.ffi3_semantics_spec.specs.Lines.{a_line, address_text, word_text}
 
 -- one of the machine's 32 general and 32 floating registers
 abbrev pub IsRegister : Loc → Type 0

@@ -1,7 +1,7 @@
 // Lines of layout.
 ghost use Rattle.std.specs.Prelude.{◌≡◌, ◌<◌, ◌++◌, IfOk, OnOk, length};
-ghost use Rattle.ffi3_type_rules.specs.Fault.{IsLaidOut};
-ghost use Rattle.ffi3_type_rules.specs.Signature.{SignatureHasNoFault, at_result, at_argument};
+ghost use Rattle.ffi3_type_spec.specs.Fault.{IsLaidOut};
+ghost use Rattle.ffi3_type_spec.specs.Signature.{SignatureHasNoFault, at_result, at_argument};
 ghost use Rattle.ffi3_types.specs.TreeOf.{tree_of};
 ghost use Rattle.ffi3_types.specs.SignatureFaultOf.{position_of};
 ghost use Rattle.ffi3_text.specs.LayoutLines.{IsIn, at_text, sized_text, type_layout_text, layout_text_of};

@@ -1,12 +1,12 @@
 // The text of a place: a register's name, or its offset on the stack.
 ghost use Rattle.std.specs.Prelude.{◌≡◌, ◌++◌, OnOk};
-ghost use Rattle.ffi3_type_rules.specs.declared.Isa.TheVariants.{Amd64};
+ghost use Rattle.ffi3_type_spec.specs.declared.Isa.TheVariants.{Amd64};
 ghost use Rattle.ffi3_text.specs.Registers.{general_text, floating_text, loc_name};
 
 use crate::numbers::write_labelled;
 use ffi3_place::Loc;
 use ffi3_place::names::{floating_name, general_name};
-use ffi3_type_rules::Isa;
+use ffi3_type_spec::Isa;
 use ffi3_types::{Bytes, NoMemory};
 
 fn write_general(isa: Isa, r: u8, text: &mut Bytes) -> Result<(), NoMemory>

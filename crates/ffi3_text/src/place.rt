@@ -1,18 +1,18 @@
 // Lines of place.
 ghost use Rattle.std.specs.Prelude.{◌≡◌, ◌+◌, ◌<◌, ◌≤◌, ◌^◌, ◌++◌, IfOk, OnOk, length};
 ghost use Rattle.std.specs.Fmt.{decimal};
-ghost use Rattle.ffi3_type_rules.specs.Signature.{at_result, at_argument};
-ghost use Rattle.ffi3_type_rules.specs.Isa.{isa_of};
+ghost use Rattle.ffi3_type_spec.specs.Signature.{at_result, at_argument};
+ghost use Rattle.ffi3_type_spec.specs.TargetIsa.{isa_of};
 ghost use Rattle.ffi3_types.specs.SignatureFaultOf.{position_of};
 ghost use Rattle.ffi3_text.specs.LayoutLines.{IsIn};
-ghost use Rattle.ffi3_place_rules.specs.Isa.{word_below};
+ghost use Rattle.ffi3_place_spec.specs.MachineRegisters.{word_below};
 ghost use Rattle.ffi3_text.specs.PlaceLines.{is_on_stack, is_numbered, longer, part_of, piece_text, stands_above, register_part_text, register_texts, first_on_stack, stack_length, bytes_on_stack, stack_text, pieces_text, argument_text, result_text, place_text_of, vectors_text, sig_text_of};
 
 use crate::names::write_loc;
 use crate::numbers::write_labelled;
 use ffi3_cif::Placed;
 use ffi3_place::{Abi, Loc, Piece, Pieces, Place, Res};
-use ffi3_type_rules::Isa;
+use ffi3_type_spec::Isa;
 use ffi3_types::{At, Bytes, NoMemory};
 use itoa::Buffer;
 use std::alloc::Global;

@@ -1,14 +1,14 @@
 // Lines of a trace.
 ghost use Rattle.std.specs.Prelude.{◌≡◌, ℕ, ◌++◌, List, IfOk, OnOk, codes, map, true};
 ghost use Rattle.std.specs.List.{concat, join_with_byte};
-ghost use Rattle.ffi3_type_rules.specs.Tree.{trees_of};
-ghost use Rattle.ffi3_type_rules.specs.Value.{fits, all_fit, values_of};
-ghost use Rattle.ffi3_type_rules.specs.ValueText.{value_text_of, value_texts_of};
+ghost use Rattle.ffi3_type_spec.specs.Tree.{trees_of};
+ghost use Rattle.ffi3_type_spec.specs.Value.{fits, all_fit, values_of};
+ghost use Rattle.ffi3_type_spec.specs.ValueText.{value_text_of, value_texts_of};
 ghost use Rattle.ffi3_types.specs.TreeOf.{tree_of};
 ghost use Rattle.ffi3_values.specs.ValueOf.{value_of};
-ghost use Rattle.ffi3_place_rules.specs.Image.{register};
+ghost use Rattle.ffi3_place_spec.specs.Image.{register};
 ghost use Rattle.ffi3_machine.specs.Entries.{event_of};
-ghost use Rattle.ffi3_run_rules.specs.Lines.{address_text, word_text};
+ghost use Rattle.ffi3_semantics_spec.specs.Lines.{address_text, word_text};
 ghost use Rattle.ffi3_text.specs.TraceLines.{IsRegister, enter_text_of, leave_text_of, keep_text_of, register_text};
 
 use ffi3_cif::Cif;

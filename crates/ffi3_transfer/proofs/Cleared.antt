@@ -3,15 +3,15 @@ use Rattle.std.proofs.Common.{◌≡◌, ◌⊎◌, inl, inr, ℕ, suc, ◌+◌,
 use Rattle.std.specs.Prelude.{slice_index_or}
 use Rattle.std.proofs.lemmas.Bool.{cases_lt}
 use Rattle.std.proofs.lemmas.List.{get_or-take, length-take-le}
-use Rattle.ffi3_type_rules.specs.Tree.{Tree, u8}
-use Rattle.ffi3_type_rules.specs.Fault.{IsLaidOut}
-use Rattle.ffi3_type_rules.specs.Layout.{Leaf, leaf_at, leaves_of, scalar_size, size_of}
-use Rattle.ffi3_type_rules.specs.LayoutLaws.{leaf_end}
-use Rattle.ffi3_type_rules.specs.Value.{IsPadding, value_in}
-use Rattle.ffi3_type_rules.proofs.Fitting.{value_fits}
-use Rattle.ffi3_type_rules.proofs.LayoutLaws.{well_laid_out}
-use Rattle.ffi3_place_rules.specs.Holds.{leaf_bytes}
-use Rattle.ffi3_place_rules.proofs.Reading.{LeavesRead, leaves_read, reads}
+use Rattle.ffi3_type_spec.specs.Tree.{Tree, u8}
+use Rattle.ffi3_type_spec.specs.Fault.{IsLaidOut}
+use Rattle.ffi3_type_spec.specs.Layout.{Leaf, leaf_at, leaves_of, scalar_size, size_of}
+use Rattle.ffi3_type_spec.specs.LayoutLaws.{leaf_end}
+use Rattle.ffi3_type_spec.specs.Value.{IsPadding, value_in}
+use Rattle.ffi3_type_spec.proofs.Fitting.{value_fits}
+use Rattle.ffi3_type_spec.proofs.LayoutLaws.{well_laid_out}
+use Rattle.ffi3_place_spec.specs.Holds.{leaf_bytes}
+use Rattle.ffi3_place_spec.proofs.Reading.{LeavesRead, leaves_read, reads}
 use Rattle.ffi3_transfer.specs.Packed.{IsCleared, first_in}
 
 abbrev no_leaf : Leaf

@@ -4,32 +4,32 @@ use Rattle.std.proofs.Common.{◌≡◌, ◌⊎◌, inl, inr, ℕ, ◌+◌, ◌-
 use Rattle.std.specs.List.{AllByRecursion}
 use Rattle.std.proofs.lemmas.Bool.{cases_lt}
 use Rattle.std.proofs.lemmas.List.{ext_get_or, drop-drop}
-use Rattle.ffi3_type_rules.specs.Tree.{Tree}
-use Rattle.ffi3_type_rules.specs.Layout.{size_of}
-use Rattle.ffi3_type_rules.specs.Signature.{Signature, SignatureIsPlaced}
-use Rattle.ffi3_type_rules.specs.Value.{part, value_in}
-use Rattle.ffi3_type_rules.specs.declared.Isa.{Isa}
-use Rattle.ffi3_type_rules.specs.declared.Isa.TheVariants.{Amd64, Aarch64, Riscv}
-use Rattle.ffi3_type_rules.specs.Isa.{isa_of}
-use Rattle.ffi3_type_rules.proofs.Fitting.{value_fits}
-use Rattle.ffi3_type_rules.proofs.Placed.{placed_result_is_laid_out}
-use Rattle.ffi3_place_rules.specs.declared.Loc.{Loc}
-use Rattle.ffi3_place_rules.specs.declared.Loc.TheVariants.{G, F, S}
-use Rattle.ffi3_place_rules.specs.declared.Piece.{Piece}
-use Rattle.ffi3_place_rules.specs.declared.Res.{Res}
-use Rattle.ffi3_place_rules.specs.declared.Res.TheVariants.{Nothing, Direct as DirectRes, Hidden}
-use Rattle.ffi3_place_rules.specs.Isa.{to_list, reserved_places}
-use Rattle.ffi3_place_rules.specs.Image.{Image, byte_at, word_at}
-use Rattle.ffi3_place_rules.specs.Agrees.{AgreesWithMachine, given_back}
-use Rattle.ffi3_place_rules.specs.Standard.{Standard, plan_of}
-use Rattle.ffi3_place_rules.specs.Holds.{FillsAs, FillsResult, Kept, OwnsHidden, OwnsResult, RegisterHolds, SameIn}
-use Rattle.ffi3_place_rules.specs.Sound.{Apart, IsNoneOf, IsSound, LiesIn, closed_to_results, piece_locs, result_locs}
+use Rattle.ffi3_type_spec.specs.Tree.{Tree}
+use Rattle.ffi3_type_spec.specs.Layout.{size_of}
+use Rattle.ffi3_type_spec.specs.Signature.{Signature, SignatureIsPlaced}
+use Rattle.ffi3_type_spec.specs.Value.{part, value_in}
+use Rattle.ffi3_type_spec.specs.declared.Isa.{Isa}
+use Rattle.ffi3_type_spec.specs.declared.Isa.TheVariants.{Amd64, Aarch64, Riscv}
+use Rattle.ffi3_type_spec.specs.TargetIsa.{isa_of}
+use Rattle.ffi3_type_spec.proofs.Fitting.{value_fits}
+use Rattle.ffi3_type_spec.proofs.Placed.{placed_result_is_laid_out}
+use Rattle.ffi3_place_spec.specs.declared.Loc.{Loc}
+use Rattle.ffi3_place_spec.specs.declared.Loc.TheVariants.{G, F, S}
+use Rattle.ffi3_place_spec.specs.declared.Piece.{Piece}
+use Rattle.ffi3_place_spec.specs.declared.Res.{Res}
+use Rattle.ffi3_place_spec.specs.declared.Res.TheVariants.{Nothing, Direct as DirectRes, Hidden}
+use Rattle.ffi3_place_spec.specs.MachineRegisters.{to_list, reserved_places}
+use Rattle.ffi3_place_spec.specs.Image.{Image, byte_at, word_at}
+use Rattle.ffi3_place_spec.specs.Agrees.{AgreesWithMachine, given_back}
+use Rattle.ffi3_place_spec.specs.Standard.{Standard, plan_of}
+use Rattle.ffi3_place_spec.specs.Holds.{FillsAs, FillsResult, Kept, OwnsHidden, OwnsResult, RegisterHolds, SameIn}
+use Rattle.ffi3_place_spec.specs.Sound.{Apart, IsNoneOf, IsSound, LiesIn, closed_to_results, piece_locs, result_locs}
 use Rattle.ffi3_marshal.specs.Stored.{KeepsAbove, PieceStands, SameAt, Stays}
 use Rattle.ffi3_transfer.specs.Places.{IsPlace}
 use Rattle.ffi3_marshal.proofs.Composing.{same_word_at}
 use Rattle.ffi3_marshal.proofs.Owning.{pieces_filled, pieces_stand}
 use Rattle.ffi3_marshal.proofs.Lawful.{across_none, each_first, each_map, each_rest, any_places}
-use Rattle.ffi3_explain_rules.specs.Arguments.{is_in_image}
+use Rattle.ffi3_explain_spec.specs.Arguments.{is_in_image}
 use Rattle.ffi3_transfer.proofs.Ready.{registers_lie}
 use Rattle.ffi3_transfer.specs.Calls.{IsBeside, IsGiven, IsGivenBy, ResultKeeps, at_return, given_locs, giving_bytes}
 

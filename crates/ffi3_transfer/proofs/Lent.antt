@@ -2,13 +2,13 @@
 use Rattle.std.specs.Prelude.{⊤}
 use Rattle.std.proofs.Common.{◌≡◌, ℕ, ◌-◌, List, length, sym, subst}
 use Rattle.std.specs.List.{AllByRecursion}
-use Rattle.ffi3_place_rules.specs.declared.Loc.{Loc}
-use Rattle.ffi3_place_rules.specs.declared.Loc.TheVariants.{G, F, S}
-use Rattle.ffi3_place_rules.specs.declared.Piece.{Piece}
-use Rattle.ffi3_place_rules.specs.declared.Res.{Res}
-use Rattle.ffi3_place_rules.specs.declared.Res.TheVariants.{Nothing, Direct as DirectRes, Hidden}
-use Rattle.ffi3_place_rules.specs.Sound.{hidden_locs}
-use Rattle.ffi3_place_rules.specs.Image.{Image}
+use Rattle.ffi3_place_spec.specs.declared.Loc.{Loc}
+use Rattle.ffi3_place_spec.specs.declared.Loc.TheVariants.{G, F, S}
+use Rattle.ffi3_place_spec.specs.declared.Piece.{Piece}
+use Rattle.ffi3_place_spec.specs.declared.Res.{Res}
+use Rattle.ffi3_place_spec.specs.declared.Res.TheVariants.{Nothing, Direct as DirectRes, Hidden}
+use Rattle.ffi3_place_spec.specs.Sound.{hidden_locs}
+use Rattle.ffi3_place_spec.specs.Image.{Image}
 use Rattle.ffi3_explain.specs.Places.{IsPieceRead}
 use Rattle.ffi3_marshal.specs.Read.{HiddenLiesIn, IsPieceRead as IsRead}
 use Rattle.ffi3_marshal.specs.Stored.{TakesAt}

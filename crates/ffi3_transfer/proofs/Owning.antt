@@ -1,19 +1,19 @@
 -- Arguments that stand at their places are owned by the image, and what fills the rest of their places is right.
 use Rattle.std.proofs.Common.{◌≡◌, ℕ, suc, ◌<◌, ◌≤◌, List, [], ◌∷◌, length, sym, ◌∙◌, arith, length-drop}
 use Rattle.std.proofs.lemmas.List.{length-take-le}
-use Rattle.ffi3_type_rules.specs.Tree.{Tree, tree_at}
-use Rattle.ffi3_type_rules.specs.Fault.{IsLaidOut}
-use Rattle.ffi3_type_rules.specs.Layout.{size_of}
-use Rattle.ffi3_type_rules.proofs.Fitting.{value_fits}
-use Rattle.ffi3_place_rules.specs.declared.Place.{Place}
-use Rattle.ffi3_place_rules.specs.Standard.{Standard, round8}
-use Rattle.ffi3_place_rules.specs.Image.{Image}
-use Rattle.ffi3_place_rules.specs.Holds.{Own, OwnsArguments, FillArguments}
-use Rattle.ffi3_place_rules.specs.Sound.{IsSound}
-use Rattle.ffi3_type_rules.specs.Signature.{Signature, SignatureIsPlaced}
-use Rattle.ffi3_type_rules.specs.Value.{ValueTree}
-use Rattle.ffi3_explain_rules.specs.Arguments.{are_values, held_by_standard}
-use Rattle.ffi3_explain_rules.proofs.Arguments.{placed_is_owned}
+use Rattle.ffi3_type_spec.specs.Tree.{Tree, tree_at}
+use Rattle.ffi3_type_spec.specs.Fault.{IsLaidOut}
+use Rattle.ffi3_type_spec.specs.Layout.{size_of}
+use Rattle.ffi3_type_spec.proofs.Fitting.{value_fits}
+use Rattle.ffi3_place_spec.specs.declared.Place.{Place}
+use Rattle.ffi3_place_spec.specs.Standard.{Standard, round8}
+use Rattle.ffi3_place_spec.specs.Image.{Image}
+use Rattle.ffi3_place_spec.specs.Holds.{Own, OwnsArguments, FillArguments}
+use Rattle.ffi3_place_spec.specs.Sound.{IsSound}
+use Rattle.ffi3_type_spec.specs.Signature.{Signature, SignatureIsPlaced}
+use Rattle.ffi3_type_spec.specs.Value.{ValueTree}
+use Rattle.ffi3_explain_spec.specs.Arguments.{are_values, held_by_standard}
+use Rattle.ffi3_explain_spec.proofs.Arguments.{placed_is_owned}
 use Rattle.ffi3_marshal.proofs.Owning.{argument_filled, argument_owned}
 use Rattle.ffi3_transfer.specs.Packed.{packed_size, values_packed, first_in, behind}
 use Rattle.ffi3_transfer.specs.Standing.{AllStand}

@@ -2,22 +2,22 @@
 use Rattle.std.specs.Prelude.{◌^◌}
 use Rattle.std.proofs.Common.{◌≡◌, ℕ, ◌+◌, ◌<◌, ◌≤◌, List, [], ◌∷◌, ◌++◌, length, refl, arith}
 use Rattle.std.specs.List.{AllByRecursion, flat_map}
-use Rattle.ffi3_type_rules.specs.declared.Isa.{Isa}
-use Rattle.ffi3_type_rules.specs.Isa.{isa_of}
-use Rattle.ffi3_type_rules.specs.Tree.{Tree}
-use Rattle.ffi3_type_rules.specs.Signature.{Signature}
-use Rattle.ffi3_type_rules.proofs.Layouts.{least_multiple-above}
-use Rattle.ffi3_place_rules.specs.declared.Loc.{Loc}
-use Rattle.ffi3_place_rules.specs.declared.Loc.TheVariants.{G, F, S}
-use Rattle.ffi3_place_rules.specs.declared.Piece.{Piece}
-use Rattle.ffi3_place_rules.specs.declared.Place.{Place}
-use Rattle.ffi3_place_rules.specs.declared.Place.TheVariants.{Direct, ByRef}
-use Rattle.ffi3_place_rules.specs.Image.{Image}
-use Rattle.ffi3_place_rules.specs.Standard.{Standard, plan_of, frame_of, ResultSpot, no_result, in_result_pieces, in_buffer, result_at, buffer_end, frame_copies_end}
-use Rattle.ffi3_place_rules.specs.Sound.{IsSound, IsWhole, LiesIn, StandsIn, IsPieceOf, PlacesHaveAll, place_locs, piece_locs, copy_locs, argument_locs, hidden_locs, buffer_locs}
-use Rattle.ffi3_place_rules.proofs.Further.{each_stands}
+use Rattle.ffi3_type_spec.specs.declared.Isa.{Isa}
+use Rattle.ffi3_type_spec.specs.TargetIsa.{isa_of}
+use Rattle.ffi3_type_spec.specs.Tree.{Tree}
+use Rattle.ffi3_type_spec.specs.Signature.{Signature}
+use Rattle.ffi3_type_spec.proofs.Layouts.{least_multiple-above}
+use Rattle.ffi3_place_spec.specs.declared.Loc.{Loc}
+use Rattle.ffi3_place_spec.specs.declared.Loc.TheVariants.{G, F, S}
+use Rattle.ffi3_place_spec.specs.declared.Piece.{Piece}
+use Rattle.ffi3_place_spec.specs.declared.Place.{Place}
+use Rattle.ffi3_place_spec.specs.declared.Place.TheVariants.{Direct, ByRef}
+use Rattle.ffi3_place_spec.specs.Image.{Image}
+use Rattle.ffi3_place_spec.specs.Standard.{Standard, plan_of, frame_of, ResultSpot, no_result, in_result_pieces, in_buffer, result_at, buffer_end, frame_copies_end}
+use Rattle.ffi3_place_spec.specs.Sound.{IsSound, IsWhole, LiesIn, StandsIn, IsPieceOf, PlacesHaveAll, place_locs, piece_locs, copy_locs, argument_locs, hidden_locs, buffer_locs}
+use Rattle.ffi3_place_spec.proofs.Further.{each_stands}
 use Rattle.ffi3_marshal.proofs.Lawful.{any_place, any_places, each_first, each_rest}
-use Rattle.ffi3_explain_rules.specs.Arguments.{stack_end, least_stack}
+use Rattle.ffi3_explain_spec.specs.Arguments.{stack_end, least_stack}
 use Rattle.ffi3_transfer.specs.Places.{IsPlace, HasPlace, CanBeRead, ArgumentsAreReady, HiddenIsThere}
 
 -- registers that the machine has

@@ -2,21 +2,21 @@
 use Rattle.std.specs.Prelude.{true}
 use Rattle.std.proofs.Common.{◌≡◌, ℕ, ◌+◌, ◌≤◌, List, [], length, refl, ap, sym, ◌∙◌, subst, arith}
 use Rattle.std.specs.List.{AllByRecursion}
-use Rattle.ffi3_type_rules.specs.Tree.{Tree, void}
-use Rattle.ffi3_type_rules.specs.Layout.{size_of}
-use Rattle.ffi3_type_rules.specs.Signature.{Signature}
-use Rattle.ffi3_type_rules.specs.Value.{ValueTree, void_value, leaf_value, struct_value, value_in, fits, part}
-use Rattle.ffi3_type_rules.specs.Isa.{isa_of}
-use Rattle.ffi3_type_rules.proofs.Layouts.{least_multiple-above}
-use Rattle.ffi3_place_rules.specs.declared.Loc.{Loc}
-use Rattle.ffi3_place_rules.specs.declared.Piece.{Piece}
-use Rattle.ffi3_place_rules.specs.declared.Res.{Res}
-use Rattle.ffi3_place_rules.specs.declared.Res.TheVariants.{Nothing, Direct as DirectRes, Hidden}
-use Rattle.ffi3_place_rules.specs.Image.{Image}
-use Rattle.ffi3_place_rules.specs.Standard.{Standard, ResultSpot, no_result, in_result_pieces, in_buffer, plan_of, frame_of, result_at, buffer_end, frame_copies_end, round8}
-use Rattle.ffi3_place_rules.specs.Holds.{OwnsResult}
-use Rattle.ffi3_place_rules.specs.Sound.{IsSound, IsWithin, StandsIn, ResultHasAll, piece_locs, result_locs}
-use Rattle.ffi3_explain_rules.proofs.Pieces.{stood_is_read}
+use Rattle.ffi3_type_spec.specs.Tree.{Tree, void}
+use Rattle.ffi3_type_spec.specs.Layout.{size_of}
+use Rattle.ffi3_type_spec.specs.Signature.{Signature}
+use Rattle.ffi3_type_spec.specs.Value.{ValueTree, void_value, leaf_value, struct_value, value_in, fits, part}
+use Rattle.ffi3_type_spec.specs.TargetIsa.{isa_of}
+use Rattle.ffi3_type_spec.proofs.Layouts.{least_multiple-above}
+use Rattle.ffi3_place_spec.specs.declared.Loc.{Loc}
+use Rattle.ffi3_place_spec.specs.declared.Piece.{Piece}
+use Rattle.ffi3_place_spec.specs.declared.Res.{Res}
+use Rattle.ffi3_place_spec.specs.declared.Res.TheVariants.{Nothing, Direct as DirectRes, Hidden}
+use Rattle.ffi3_place_spec.specs.Image.{Image}
+use Rattle.ffi3_place_spec.specs.Standard.{Standard, ResultSpot, no_result, in_result_pieces, in_buffer, plan_of, frame_of, result_at, buffer_end, frame_copies_end, round8}
+use Rattle.ffi3_place_spec.specs.Holds.{OwnsResult}
+use Rattle.ffi3_place_spec.specs.Sound.{IsSound, IsWithin, StandsIn, ResultHasAll, piece_locs, result_locs}
+use Rattle.ffi3_explain_spec.proofs.Pieces.{stood_is_read}
 use Rattle.ffi3_transfer.specs.Places.{CanBeRead}
 use Rattle.ffi3_transfer.proofs.Ready.{pieces_there, places_there}
 use Rattle.ffi3_explain.proofs.Loops.{all_within}

@@ -2,19 +2,19 @@
 use Rattle.std.specs.Prelude.{slice_get, Option, Some, None, true, false, cond}
 use Rattle.std.proofs.Common.{◌≡◌, Bool, ℕ, suc, zero, ◌+◌, ◌<◌, ◌≤◌, List, [], ◌∷◌, ◌++◌, take, drop, get_or, length, refl, ap, sym, ◌∙◌, subst, arith, length-drop}
 use Rattle.std.proofs.lemmas.List.{drop_all, ext_get_or, get_or-drop, get_or-take, length-append, length-take-le}
-use Rattle.ffi3_type_rules.specs.Tree.{Tree, tree_at}
-use Rattle.ffi3_type_rules.specs.Layout.{size_of}
-use Rattle.ffi3_type_rules.specs.Value.{part, value_in}
-use Rattle.ffi3_type_rules.proofs.Parts.{length_part, inside_part, above_part}
-use Rattle.ffi3_place_rules.specs.declared.Place.{Place}
-use Rattle.ffi3_place_rules.specs.declared.Place.TheVariants.{Direct, ByRef}
-use Rattle.ffi3_place_rules.specs.Image.{Image, word_at}
-use Rattle.ffi3_place_rules.specs.Standard.{round8}
-use Rattle.ffi3_place_rules.specs.Sound.{PlaceHasAll}
-use Rattle.ffi3_place_rules.proofs.Elements.{argument_read}
+use Rattle.ffi3_type_spec.specs.Tree.{Tree, tree_at}
+use Rattle.ffi3_type_spec.specs.Layout.{size_of}
+use Rattle.ffi3_type_spec.specs.Value.{part, value_in}
+use Rattle.ffi3_type_spec.proofs.Parts.{length_part, inside_part, above_part}
+use Rattle.ffi3_place_spec.specs.declared.Place.{Place}
+use Rattle.ffi3_place_spec.specs.declared.Place.TheVariants.{Direct, ByRef}
+use Rattle.ffi3_place_spec.specs.Image.{Image, word_at}
+use Rattle.ffi3_place_spec.specs.Standard.{round8}
+use Rattle.ffi3_place_spec.specs.Sound.{PlaceHasAll}
+use Rattle.ffi3_place_spec.proofs.Elements.{argument_read}
 use Rattle.ffi3_marshal.proofs.Arguments.{place_read}
-use Rattle.ffi3_explain_rules.specs.declared.Outside.{Outside}
-use Rattle.ffi3_explain_rules.specs.Arguments.{first_outside, is_in_image, or_later, outside_of, value_by_standard, values_by_standard}
+use Rattle.ffi3_explain_spec.specs.declared.Outside.{Outside}
+use Rattle.ffi3_explain_spec.specs.Arguments.{first_outside, is_in_image, or_later, outside_of, value_by_standard, values_by_standard}
 use Rattle.ffi3_transfer.specs.Places.{ArgumentIsThere, ArgumentsAreReady}
 use Rattle.ffi3_transfer.specs.Packed.{HasZeroPadding, HaveZeroPadding, packed_size, values_packed, first_in, behind}
 use Rattle.ffi3_transfer.proofs.Packing.{packed_open, behind_drop}

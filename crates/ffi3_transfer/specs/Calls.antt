@@ -1,22 +1,22 @@
 -- What the transfers of a call leave, and why one is refused.
 use Rattle.std.specs.Prelude.{◌≡◌, ◌≢◌, ℕ, ◌+◌, ◌-◌, ◌^◌, ◌<◌, ◌≤◌, ◌⊎◌, ⊤, true, false, List, [], ◌++◌, drop, get_or, length}
 use Rattle.std.specs.List.{AllByRecursion}
-use Rattle.ffi3_type_rules.specs.Tree.{Tree}
-use Rattle.ffi3_type_rules.specs.Layout.{size_of}
-use Rattle.ffi3_type_rules.specs.Signature.{Signature}
-use Rattle.ffi3_type_rules.specs.Value.{ValueTree, part, value_in}
-use Rattle.ffi3_place_rules.specs.declared.Loc.{Loc}
-use Rattle.ffi3_place_rules.specs.declared.Res.{Res}
-use Rattle.ffi3_place_rules.specs.declared.Res.TheVariants.{Nothing, Direct as DirectRes, Hidden}
-use Rattle.ffi3_place_rules.specs.Isa.{to_list}
-use Rattle.ffi3_place_rules.specs.Image.{Image, word_at}
-use Rattle.ffi3_place_rules.specs.Standard.{Standard, frame_of, plan_of}
-use Rattle.ffi3_place_rules.specs.Holds.{Holds, HoldsResult, Kept, OwnResult, OwnsHidden, OwnsResult, FillsResult, RegisterHolds}
-use Rattle.ffi3_place_rules.specs.Sound.{IsNoneOf, hidden_locs, result_locs}
+use Rattle.ffi3_type_spec.specs.Tree.{Tree}
+use Rattle.ffi3_type_spec.specs.Layout.{size_of}
+use Rattle.ffi3_type_spec.specs.Signature.{Signature}
+use Rattle.ffi3_type_spec.specs.Value.{ValueTree, part, value_in}
+use Rattle.ffi3_place_spec.specs.declared.Loc.{Loc}
+use Rattle.ffi3_place_spec.specs.declared.Res.{Res}
+use Rattle.ffi3_place_spec.specs.declared.Res.TheVariants.{Nothing, Direct as DirectRes, Hidden}
+use Rattle.ffi3_place_spec.specs.MachineRegisters.{to_list}
+use Rattle.ffi3_place_spec.specs.Image.{Image, word_at}
+use Rattle.ffi3_place_spec.specs.Standard.{Standard, frame_of, plan_of}
+use Rattle.ffi3_place_spec.specs.Holds.{Holds, HoldsResult, Kept, OwnResult, OwnsHidden, OwnsResult, FillsResult, RegisterHolds}
+use Rattle.ffi3_place_spec.specs.Sound.{IsNoneOf, hidden_locs, result_locs}
 use Rattle.ffi3_marshal.specs.Stored.{KeepsAbove, SameAt, Stays}
 use Rattle.ffi3_marshal.specs.Standing.{PlacesKeep, all_uses}
-use Rattle.ffi3_explain_rules.specs.Explain.{first_bytes}
-use Rattle.ffi3_explain_rules.specs.Arguments.{is_in_image, stack_end}
+use Rattle.ffi3_explain_spec.specs.Explain.{first_bytes}
+use Rattle.ffi3_explain_spec.specs.Arguments.{is_in_image, stack_end}
 use Rattle.ffi3_transfer.specs.declared.Ungiven.{Ungiven}
 use Rattle.ffi3_transfer.specs.declared.Ungiven.TheVariants.{WrongSize as WrongValue, ShortStack as ShortEntry, HighStack as HighEntry, NotInStack}
 use Rattle.ffi3_transfer.specs.declared.Unstored.{Unstored}

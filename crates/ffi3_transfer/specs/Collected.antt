@@ -1,11 +1,11 @@
 -- The arguments that a callee collects from registers and stack. (System V psABI AMD64 3.2.3, "Parameter Passing"; AAPCS64, "Parameter passing"; RISC-V ELF psABI, "Integer Calling Convention" and "Hardware Floating-point Calling Convention"; Microsoft, "Parameter passing": `Own` has them)
 use Rattle.std.specs.Prelude.{◌≡◌, ◌≢◌, ℕ, ◌<◌, ◌≤◌, List, length}
-use Rattle.ffi3_type_rules.specs.Signature.{Signature}
-use Rattle.ffi3_type_rules.specs.Value.{ValueTree}
-use Rattle.ffi3_place_rules.specs.Image.{Image}
-use Rattle.ffi3_place_rules.specs.Standard.{Standard}
-use Rattle.ffi3_place_rules.specs.Holds.{Own}
-use Rattle.ffi3_explain_rules.specs.Arguments.{are_values, points_outside, held_by_standard, least_stack}
+use Rattle.ffi3_type_spec.specs.Signature.{Signature}
+use Rattle.ffi3_type_spec.specs.Value.{ValueTree}
+use Rattle.ffi3_place_spec.specs.Image.{Image}
+use Rattle.ffi3_place_spec.specs.Standard.{Standard}
+use Rattle.ffi3_place_spec.specs.Holds.{Own}
+use Rattle.ffi3_explain_spec.specs.Arguments.{are_values, points_outside, held_by_standard, least_stack}
 use Rattle.ffi3_transfer.specs.declared.Uncollected.{Uncollected}
 use Rattle.ffi3_transfer.specs.declared.Uncollected.TheVariants.{WrongSize, ShortStack, NotInStack}
 use Rattle.ffi3_transfer.specs.Packed.{packed_size, values_packed, HaveZeroPadding}

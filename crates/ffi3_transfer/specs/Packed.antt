@@ -1,9 +1,9 @@
 -- Values in one buffer, argument after argument, each from a multiple of 8 on. (No standard has such a buffer: it is this library's.)
 use Rattle.std.specs.Prelude.{◌≡◌, ℕ, ◌+◌, ◌<◌, ⊤, List, [], ◌∷◌, take, drop, get_or, length}
-use Rattle.ffi3_type_rules.specs.Tree.{Tree}
-use Rattle.ffi3_type_rules.specs.Layout.{size_of}
-use Rattle.ffi3_type_rules.specs.Value.{ValueTree, IsPadding, value_in}
-use Rattle.ffi3_place_rules.specs.Standard.{round8}
+use Rattle.ffi3_type_spec.specs.Tree.{Tree}
+use Rattle.ffi3_type_spec.specs.Layout.{size_of}
+use Rattle.ffi3_type_spec.specs.Value.{ValueTree, IsPadding, value_in}
+use Rattle.ffi3_place_spec.specs.Standard.{round8}
 
 -- how many bytes they take
 abbrev pub packed_size : List Tree → ℕ

@@ -1,15 +1,15 @@
 -- Places that registers and memory have, and what must be there for arguments and a hidden result to be read.
 use Rattle.std.specs.Prelude.{ℕ, ◌+◌, ◌<◌, ◌≤◌, ◌^◌, ⊤, List, [], ◌∷◌}
 use Rattle.std.specs.List.{AllByRecursion}
-use Rattle.ffi3_type_rules.specs.Tree.{Tree}
-use Rattle.ffi3_place_rules.specs.declared.Loc.{Loc}
-use Rattle.ffi3_place_rules.specs.declared.Piece.{Piece}
-use Rattle.ffi3_place_rules.specs.declared.Place.{Place}
-use Rattle.ffi3_place_rules.specs.declared.Place.TheVariants.{Direct, ByRef}
-use Rattle.ffi3_place_rules.specs.declared.Res.{Res}
-use Rattle.ffi3_place_rules.specs.declared.Res.TheVariants.{Hidden}
-use Rattle.ffi3_place_rules.specs.Image.{Image}
-use Rattle.ffi3_place_rules.specs.Sound.{PlaceHasAll}
+use Rattle.ffi3_type_spec.specs.Tree.{Tree}
+use Rattle.ffi3_place_spec.specs.declared.Loc.{Loc}
+use Rattle.ffi3_place_spec.specs.declared.Piece.{Piece}
+use Rattle.ffi3_place_spec.specs.declared.Place.{Place}
+use Rattle.ffi3_place_spec.specs.declared.Place.TheVariants.{Direct, ByRef}
+use Rattle.ffi3_place_spec.specs.declared.Res.{Res}
+use Rattle.ffi3_place_spec.specs.declared.Res.TheVariants.{Hidden}
+use Rattle.ffi3_place_spec.specs.Image.{Image}
+use Rattle.ffi3_place_spec.specs.Sound.{PlaceHasAll}
 use Rattle.ffi3_marshal.specs.Stored.{IsPlaceIn}
 use Rattle.ffi3_marshal.specs.Read.{IsThereIn}
 use Rattle.ffi3_transfer.specs.Stored.{floating_words}

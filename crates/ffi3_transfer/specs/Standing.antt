@@ -1,8 +1,8 @@
 -- The arguments of a buffer, whose bytes stand at their places in an image, as a step towards `Holds`, which says it in the standards' words.
 use Rattle.std.specs.Prelude.{ℕ, ⊤, List, [], ◌∷◌}
-use Rattle.ffi3_type_rules.specs.Tree.{Tree}
-use Rattle.ffi3_place_rules.specs.declared.Place.{Place}
-use Rattle.ffi3_place_rules.specs.Image.{Image}
+use Rattle.ffi3_type_spec.specs.Tree.{Tree}
+use Rattle.ffi3_place_spec.specs.declared.Place.{Place}
+use Rattle.ffi3_place_spec.specs.Image.{Image}
 use Rattle.ffi3_marshal.specs.Standing.{PlaceStands}
 use Rattle.ffi3_transfer.specs.Packed.{first_in, behind}
 

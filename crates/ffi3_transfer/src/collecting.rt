@@ -1,11 +1,11 @@
 // The arguments of a call, as its callee finds them.
 ghost use Rattle.std.specs.Prelude.{◌≡◌, ◌≤◌, length, None, IfErr, OnErr, OnOk};
-ghost use Rattle.ffi3_type_rules.specs.Layout.{size_of};
-ghost use Rattle.ffi3_type_rules.specs.Value.{value_in};
-ghost use Rattle.ffi3_place_rules.specs.Standard.{plan_of, round8};
-ghost use Rattle.ffi3_place_rules.specs.Sound.{PlaceHasAll};
+ghost use Rattle.ffi3_type_spec.specs.Layout.{size_of};
+ghost use Rattle.ffi3_type_spec.specs.Value.{value_in};
+ghost use Rattle.ffi3_place_spec.specs.Standard.{plan_of, round8};
+ghost use Rattle.ffi3_place_spec.specs.Sound.{PlaceHasAll};
 ghost use Rattle.ffi3_transfer.specs.Places.{ArgumentIsThere};
-ghost use Rattle.ffi3_explain_rules.specs.Arguments.{first_outside, least_stack, outside_of, value_by_standard, values_by_standard};
+ghost use Rattle.ffi3_explain_spec.specs.Arguments.{first_outside, least_stack, outside_of, value_by_standard, values_by_standard};
 ghost use Rattle.ffi3_transfer.specs.Stored.{image_in};
 ghost use Rattle.ffi3_transfer.specs.Packed.{HasZeroPadding, HaveZeroPadding, first_in, packed_size, values_packed};
 ghost use Rattle.ffi3_transfer.specs.Collected.{IsCollected, IsNotCollected};
@@ -18,7 +18,7 @@ use crate::{Registers, Uncollected};
 use ffi3_cif::Placed;
 use ffi3_explain::{Outside, least_stack_of};
 use ffi3_place::{Abi, Place};
-use ffi3_type_rules::round_up;
+use ffi3_type_spec::round_up;
 use ffi3_types::CheckedType;
 
 /// Argument `i`, where its address points outside the stack's bytes.

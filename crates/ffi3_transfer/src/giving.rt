@@ -1,12 +1,12 @@
 // The result that a callee gives.
 ghost use Rattle.std.specs.Prelude.{◌≡◌, ℕ, ◌+◌, ◌<◌, ◌≤◌, ◌⊎◌, ◌^◌, length, get_or, IfErr, OnErr, OnOk};
 ghost use Rattle.std.specs.List.{AllByRecursion};
-ghost use Rattle.ffi3_type_rules.specs.Value.{part};
-ghost use Rattle.ffi3_place_rules.specs.Isa.{to_list};
-ghost use Rattle.ffi3_place_rules.specs.Holds.{RegisterHolds};
-ghost use Rattle.ffi3_place_rules.specs.Sound.{hidden_locs};
+ghost use Rattle.ffi3_type_spec.specs.Value.{part};
+ghost use Rattle.ffi3_place_spec.specs.MachineRegisters.{to_list};
+ghost use Rattle.ffi3_place_spec.specs.Holds.{RegisterHolds};
+ghost use Rattle.ffi3_place_spec.specs.Sound.{hidden_locs};
 ghost use Rattle.ffi3_marshal.specs.Stored.{Stays};
-ghost use Rattle.ffi3_explain_rules.specs.Arguments.{offset_in, stack_end};
+ghost use Rattle.ffi3_explain_spec.specs.Arguments.{offset_in, stack_end};
 ghost use Rattle.ffi3_transfer.specs.Stored.{image_in};
 ghost use Rattle.ffi3_transfer.specs.Places.{IsPlace};
 ghost use Rattle.ffi3_transfer.specs.Calls.{IsGiven, IsNotGiven};

@@ -1,6 +1,6 @@
 // The bytes of a value that lie in none of its leaves.
 ghost use Rattle.std.specs.Prelude.{◌≡◌, ℕ, ◌<◌, ◌≤◌, ◌⊎◌, get_or, length};
-ghost use Rattle.ffi3_type_rules.specs.Layout.{size_of};
+ghost use Rattle.ffi3_type_spec.specs.Layout.{size_of};
 ghost use Rattle.ffi3_transfer.specs.Packed.{IsCleared};
 
 use ffi3_types::CheckedType;

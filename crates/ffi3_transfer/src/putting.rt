@@ -1,7 +1,7 @@
 // Bytes and words at places of registers and stack.
 ghost use Rattle.std.specs.Prelude.{◌≡◌, ◌-◌, ◌≤◌, length};
-ghost use Rattle.ffi3_type_rules.specs.Layout.{size_of};
-ghost use Rattle.ffi3_place_rules.specs.Sound.{IsPieceOf, IsWhole, IsWithin, place_size};
+ghost use Rattle.ffi3_type_spec.specs.Layout.{size_of};
+ghost use Rattle.ffi3_place_spec.specs.Sound.{IsPieceOf, IsWhole, IsWithin, place_size};
 ghost use Rattle.ffi3_marshal.specs.Stored.{IsPut, IsSet, IsStored, IsWordPut};
 ghost use Rattle.ffi3_transfer.specs.Stored.{image_in};
 ghost use Rattle.ffi3_transfer.specs.Places.{IsPlace};

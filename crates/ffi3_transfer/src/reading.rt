@@ -1,9 +1,9 @@
 // Bytes that stand at places, read from registers and stack.
 ghost use Rattle.std.specs.Prelude.{◌≡◌, length};
 ghost use Rattle.std.specs.List.{AllByRecursion};
-ghost use Rattle.ffi3_place_rules.specs.Image.{word_at};
-ghost use Rattle.ffi3_place_rules.specs.Sound.{IsWithin};
-ghost use Rattle.ffi3_explain_rules.specs.Explain.{first_bytes};
+ghost use Rattle.ffi3_place_spec.specs.Image.{word_at};
+ghost use Rattle.ffi3_place_spec.specs.Sound.{IsWithin};
+ghost use Rattle.ffi3_explain_spec.specs.Explain.{first_bytes};
 ghost use Rattle.ffi3_transfer.specs.Places.{CanBeRead, HasPlace};
 ghost use Rattle.ffi3_transfer.specs.Stored.{image_in};
 

@@ -1,11 +1,11 @@
 // Values at their places: what a caller stores for its callee.
 ghost use Rattle.std.specs.Prelude.{◌≡◌, ◌+◌, ◌-◌, ◌^◌, ◌<◌, ◌≤◌, length, IfErr, OnErr, OnOk};
 ghost use Rattle.std.specs.List.{AllByRecursion};
-ghost use Rattle.ffi3_type_rules.specs.Layout.{size_of};
-ghost use Rattle.ffi3_place_rules.specs.Isa.{to_list};
-ghost use Rattle.ffi3_place_rules.specs.Standard.{plan_of};
-ghost use Rattle.ffi3_place_rules.specs.Holds.{OwnsHidden, RegisterHolds};
-ghost use Rattle.ffi3_place_rules.specs.Sound.{AreApart, hidden_locs, IsPieceOf, IsWhole, PlaceHasAll, piece_locs};
+ghost use Rattle.ffi3_type_spec.specs.Layout.{size_of};
+ghost use Rattle.ffi3_place_spec.specs.MachineRegisters.{to_list};
+ghost use Rattle.ffi3_place_spec.specs.Standard.{plan_of};
+ghost use Rattle.ffi3_place_spec.specs.Holds.{OwnsHidden, RegisterHolds};
+ghost use Rattle.ffi3_place_spec.specs.Sound.{AreApart, hidden_locs, IsPieceOf, IsWhole, PlaceHasAll, piece_locs};
 ghost use Rattle.ffi3_marshal.specs.Stored.{KeepsAbove, Stays};
 ghost use Rattle.ffi3_marshal.specs.Standing.{PiecesStand, PlaceKeeps, PlaceLiesIn, PlaceStands, PlacesKeep, all_uses, place_uses};
 ghost use Rattle.ffi3_transfer.specs.Places.{HiddenIsThere, IsPlace};
@@ -19,7 +19,7 @@ use crate::putting::put_word;
 use crate::{Registers, Unstored};
 use ffi3_cif::Placed;
 use ffi3_place::{Abi, Loc, Pieces, Place, Res};
-use ffi3_type_rules::round_up;
+use ffi3_type_spec::round_up;
 use ffi3_types::CheckedType;
 
 /// Stores all pieces of a value.

@@ -1,8 +1,8 @@
 -- Long doubles among the elements of a struct and of an array, one by one; and a complex one.
 use Rattle.std.proofs.Common.{◌≡◌, ℕ, ◌+◌, ◌<◌, true, false, ◌||◌, List, [], ◌∷◌, length, drop, refl, ap, sym, ◌∙◌, ◌≢◌}
 use Rattle.std.proofs.lemmas.List.{drop_more}
-use Rattle.ffi3_type_rules.specs.Tree.{Tree, void, scalar, x87, trees_of, tree_at, is_complex}
-use Rattle.ffi3_type_rules.specs.Layout.{has_long_double, have_long_double}
+use Rattle.ffi3_type_spec.specs.Tree.{Tree, void, scalar, x87, trees_of, tree_at, is_complex}
+use Rattle.ffi3_type_spec.specs.Layout.{has_long_double, have_long_double}
 
 module _ (ts : List Tree) where
   -- so far there was none: what is left decides

@@ -1,10 +1,10 @@
 -- One more element's leaves behind those before it.
 use Rattle.std.proofs.Common.{◌≡◌, ℕ, ◌+◌, ◌*◌, List, ◌++◌, map, length, ap, sym, ◌∙◌, add-one}
 use Rattle.std.proofs.lemmas.List.{append_assoc}
-use Rattle.ffi3_type_rules.specs.Tree.{Tree, struct_of, trees_of, tree_at}
-use Rattle.ffi3_type_rules.specs.Layout.{Leaf, layouts, element, start_of, size_of, leaves_of, leaves_before, repeated, moved}
-use Rattle.ffi3_type_rules.proofs.Layouts.{layout_here, length-layouts}
-use Rattle.ffi3_type_rules.proofs.Arrays.{moved_twice, moved_append}
+use Rattle.ffi3_type_spec.specs.Tree.{Tree, struct_of, trees_of, tree_at}
+use Rattle.ffi3_type_spec.specs.Layout.{Leaf, layouts, element, start_of, size_of, leaves_of, leaves_before, repeated, moved}
+use Rattle.ffi3_type_spec.proofs.Layouts.{layout_here, length-layouts}
+use Rattle.ffi3_type_spec.proofs.Arrays.{moved_twice, moved_append}
 
 -- leaves of an element at `by`, in a type at `from`, where ls are behind xs
 one_more : (old xs ls now new : List Leaf) (from by : ℕ) → now ≡ old ++ map (moved from) xs → new ≡ now ++ map (moved (from + by)) ls → new ≡ old ++ map (moved from) (xs ++ map (moved by) ls)

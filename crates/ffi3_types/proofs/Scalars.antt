@@ -1,6 +1,6 @@
 -- Types that are one of the scalars.
 use Rattle.std.proofs.Common.{◌≡◌, ◌⊎◌, inl, inr, refl, ap}
-use Rattle.ffi3_type_rules.specs.Tree.{Tree, void, left_out, structure, array, Scalar, scalar, u8, s8, u16, s16, u32, s32, u64, s64, u128, s128, float, double, pointer, x87, binary128}
+use Rattle.ffi3_type_spec.specs.Tree.{Tree, void, left_out, structure, array, Scalar, scalar, u8, s8, u16, s16, u32, s32, u64, s64, u128, s128, float, double, pointer, x87, binary128}
 use Rattle.ffi3_types.specs.ScalarSize.{scalar_size_of}
 use Rattle.ffi3_types.specs.TreeOf.{tree_of}
 use Rattle.ffi3_types.specs.declared.FfiType.{FfiType}

@@ -1,6 +1,6 @@
 -- A type and its tree tell each other apart.
 use Rattle.std.proofs.Common.{◌≡◌, refl, ap, sym, ◌∙◌}
-use Rattle.ffi3_type_rules.specs.Tree.{Tree, void, scalar, left_out, structure, list_of, list_of-trees_of, u8, s8, u16, s16, u32, s32, u64, s64, u128, s128, float, double, pointer, x87, binary128, long_double, complex, vector, array}
+use Rattle.ffi3_type_spec.specs.Tree.{Tree, void, scalar, left_out, structure, list_of, list_of-trees_of, u8, s8, u16, s16, u32, s32, u64, s64, u128, s128, float, double, pointer, x87, binary128, long_double, complex, vector, array}
 use Rattle.ffi3_types.specs.TreeOf.{tree_of}
 use Rattle.ffi3_types.specs.declared.FfiType.{FfiType}
 use Rattle.ffi3_types.specs.declared.FfiType.TheVariants.{Void, U8, S8, U16, S16, U32, S32, U64, S64, U128, S128, Float, Double, Pointer, Struct, LongDouble, Complex, Vector, Array, X87, Binary128}

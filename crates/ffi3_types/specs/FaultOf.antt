@@ -1,6 +1,6 @@
 -- Which fault, at which path, an error of the code tells.
 use Rattle.std.specs.Prelude.{ℕ, List}
-use Rattle.ffi3_type_rules.specs.Fault.{Fault, bad_typedef, left_out_type, too_large, too_deep}
+use Rattle.ffi3_type_spec.specs.Fault.{Fault, bad_typedef, left_out_type, too_large, too_deep}
 use Rattle.ffi3_types.specs.TreeOf.{tree_of}
 use Rattle.ffi3_types.specs.declared.fault.TypeFault.{TypeFault}
 use Rattle.ffi3_types.specs.declared.fault.TypeFault.TheVariants.{BadTypedef, LeftOut, TooLarge, TooDeep}

@@ -1,10 +1,10 @@
 -- The first fault among the elements of a struct, or of the element type of an array; and the role of a whole type.
 use Rattle.std.specs.Prelude.{◌≡◌, ℕ, ◌<◌, List, ◌∷◌, length, Bool, true, false}
-use Rattle.ffi3_type_rules.specs.declared.Role.{Role}
-use Rattle.ffi3_type_rules.specs.declared.Role.TheVariants.{AsResult, AsArgument, AsElement}
-use Rattle.ffi3_type_rules.specs.Tree.{Tree, tree_at}
-use Rattle.ffi3_type_rules.specs.Fault.{Fault, HasNoFault, IsFirstFault}
-use Rattle.ffi3_type_rules.specs.Signature.{Purpose, for_calls, for_places, result_role, argument_role}
+use Rattle.ffi3_type_spec.specs.declared.Role.{Role}
+use Rattle.ffi3_type_spec.specs.declared.Role.TheVariants.{AsResult, AsArgument, AsElement}
+use Rattle.ffi3_type_spec.specs.Tree.{Tree, tree_at}
+use Rattle.ffi3_type_spec.specs.Fault.{Fault, HasNoFault, IsFirstFault}
+use Rattle.ffi3_type_spec.specs.Signature.{Purpose, for_calls, for_places, result_role, argument_role}
 
 -- none of the first n types has a fault
 abbrev pub NoElementHasFault : ℕ → List Tree → ℕ → Type 0

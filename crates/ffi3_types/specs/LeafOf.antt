@@ -1,9 +1,9 @@
 -- Which leaf of the definitions a leaf of the code is.
 use Rattle.std.specs.Prelude.{◌≡◌, ℕ, List, slice_index_or, refl}
 use Rattle.std.specs.Coded.{Coded, code_by, coded×, coded_list, coded_ℕ}
-use Rattle.ffi3_type_rules.specs.Tree.{Tree, scalar, u8, tree_code}
-use Rattle.ffi3_type_rules.specs.Layout.{Leaf}
-use Rattle.ffi3_type_rules.specs.Integer.{scalar_of}
+use Rattle.ffi3_type_spec.specs.Tree.{Tree, scalar, u8, tree_code}
+use Rattle.ffi3_type_spec.specs.Layout.{Leaf}
+use Rattle.ffi3_type_spec.specs.Integer.{scalar_of}
 use Rattle.ffi3_types.specs.TreeOf.{tree_of}
 use Rattle.ffi3_types.specs.declared.leaves.Leaf as code
 

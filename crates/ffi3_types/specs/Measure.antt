@@ -2,7 +2,7 @@
 use Rattle.std.specs.Prelude.{◌≤◌, max, List, [], ◌∷◌, map}
 use Rattle.std.proofs.Common.{arith}
 use denote.Param.Weighed.{most}
-use Rattle.ffi3_type_rules.specs.Tree.{nodes, all_nodes, trees_of}
+use Rattle.ffi3_type_spec.specs.Tree.{nodes, all_nodes, trees_of}
 use Rattle.ffi3_types.specs.TreeOf.{tree_of}
 use Rattle.ffi3_types.specs.declared.Fields.TheDeep.{deep-FfiType}
 use Rattle.ffi3_types.specs.declared.FfiType.{FfiType}

@@ -1,6 +1,6 @@
 -- The elements of a struct or an array, from a list of types.
 use Rattle.std.specs.Prelude.{ℕ, ◌<◌, ◌^◌, ⊤, List, length, replicate, Option, Some, None}
-use Rattle.ffi3_type_rules.specs.Tree.{Tree, tree_at}
+use Rattle.ffi3_type_spec.specs.Tree.{Tree, tree_at}
 
 -- all of the list, or so many of its first
 abbrev pub members_of : List Tree → Option ℕ → List Tree

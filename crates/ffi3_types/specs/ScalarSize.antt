@@ -1,7 +1,7 @@
 -- The bytes that a scalar takes, which are its alignment too.
 use Rattle.std.specs.Prelude.{ℕ}
-use Rattle.ffi3_type_rules.specs.Tree.{Tree, void, scalar, left_out, structure, array}
-use Rattle.ffi3_type_rules.specs.Layout.{scalar_size, scalar_room}
+use Rattle.ffi3_type_spec.specs.Tree.{Tree, void, scalar, left_out, structure, array}
+use Rattle.ffi3_type_spec.specs.Layout.{scalar_size, scalar_room}
 
 -- 0 of any other type
 abbrev pub scalar_size_of : Tree → ℕ

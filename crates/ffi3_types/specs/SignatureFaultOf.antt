@@ -1,6 +1,6 @@
 -- Which fault of a signature an error of the code tells.
-use Rattle.ffi3_type_rules.specs.Signature.{Position, at_result, at_argument, SignatureFault, too_many, bad_type}
-use Rattle.ffi3_type_rules.specs.Signature.{bad_fixed, bad_argument_type}
+use Rattle.ffi3_type_spec.specs.Signature.{Position, at_result, at_argument, SignatureFault, too_many, bad_type}
+use Rattle.ffi3_type_spec.specs.Signature.{bad_fixed, bad_argument_type}
 use Rattle.ffi3_types.specs.FaultOf.{path_of, fault_of}
 use Rattle.ffi3_types.specs.declared.sig.At.{At}
 use Rattle.ffi3_types.specs.declared.sig.At.TheVariants.{Ret, Arg}

@@ -1,7 +1,7 @@
 -- Which tree a type of the code is.
-use Rattle.ffi3_type_rules.specs.Tree.{Tree, void, scalar, left_out, struct_of, u8, s8, u16, s16, u32, s32, u64, s64}
-use Rattle.ffi3_type_rules.specs.Tree.{u128, s128, float, double, pointer, long_double, complex, vector, array}
-use Rattle.ffi3_type_rules.specs.Tree.{trees_of, x87, binary128}
+use Rattle.ffi3_type_spec.specs.Tree.{Tree, void, scalar, left_out, struct_of, u8, s8, u16, s16, u32, s32, u64, s64}
+use Rattle.ffi3_type_spec.specs.Tree.{u128, s128, float, double, pointer, long_double, complex, vector, array}
+use Rattle.ffi3_type_spec.specs.Tree.{trees_of, x87, binary128}
 use Rattle.ffi3_types.specs.declared.FfiType.{FfiType}
 use Rattle.ffi3_types.specs.declared.FfiType.TheVariants.{Void, U8, S8, U16, S16, U32, S32, U64, S64, U128, S128, Float}
 use Rattle.ffi3_types.specs.declared.FfiType.TheVariants.{Double, Pointer, Struct, LongDouble, Complex, Vector, Array}

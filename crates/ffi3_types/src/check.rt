@@ -1,10 +1,10 @@
 // The first fault of a type.
 ghost use Rattle.std.specs.Prelude.{◌≡◌, ◌+◌, ◌<◌, ◌≤◌, length, true, false, OnOk, IfOk, IfErr};
-ghost use Rattle.ffi3_type_rules.specs.declared.limits.TheConstants.{DEEPEST_NESTING};
-ghost use Rattle.ffi3_type_rules.specs.Tree.{struct_of, array, trees_of};
-ghost use Rattle.ffi3_type_rules.specs.Layout.{size_of, align_of, has_long_double};
-ghost use Rattle.ffi3_type_rules.specs.Fault.{HasNoFault, IsFirstFault, takes};
-ghost use Rattle.ffi3_type_rules.specs.Signature.{IsFoundFault};
+ghost use Rattle.ffi3_type_spec.specs.declared.limits.TheConstants.{DEEPEST_NESTING};
+ghost use Rattle.ffi3_type_spec.specs.Tree.{struct_of, array, trees_of};
+ghost use Rattle.ffi3_type_spec.specs.Layout.{size_of, align_of, has_long_double};
+ghost use Rattle.ffi3_type_spec.specs.Fault.{HasNoFault, IsFirstFault, takes};
+ghost use Rattle.ffi3_type_spec.specs.Signature.{IsFoundFault};
 ghost use Rattle.ffi3_types.specs.ScalarSize.{scalar_size_of};
 ghost use Rattle.ffi3_types.specs.TreeOf.{tree_of};
 ghost use Rattle.ffi3_types.specs.FaultOf.{path_of, fault_of};
@@ -12,8 +12,8 @@ ghost use Rattle.ffi3_types.specs.FirstElement.{NoElementHasFault, IsFirstInElem
 
 use crate::layout::Extent;
 use crate::{FfiType, Fields, Path, TypeFault};
-use ffi3_type_rules::limits::{DEEPEST_NESTING, LARGEST_TYPE};
-use ffi3_type_rules::{Role, round_up};
+use ffi3_type_spec::limits::{DEEPEST_NESTING, LARGEST_TYPE};
+use ffi3_type_spec::{Role, round_up};
 
 /// Whether the type can be an argument or, `as_result`, a result; otherwise its first fault,
 /// going through the tree from the front: a node's own fault comes before those of its

@@ -1,11 +1,11 @@
 // Types and signatures that are known to have no fault: what is known of them is an invariant, and no caller repeats it.
 ghost use Rattle.std.specs.Prelude.{◌≡◌, ◌<◌, ◌≤◌, length, IfOk, IfErr, OnOk};
-ghost use Rattle.ffi3_type_rules.specs.declared.limits.TheConstants.{LARGEST_TYPE, MOST_ARGUMENTS};
-ghost use Rattle.ffi3_type_rules.specs.Tree.{tree_at, scalar};
-ghost use Rattle.ffi3_type_rules.specs.Layout.{size_of, align_of, leaves_of, leaf_at};
-ghost use Rattle.ffi3_type_rules.specs.Fault.{HasNoFault, IsFirstFault, IsLaidOut};
-ghost use Rattle.ffi3_type_rules.specs.Signature.{SignatureHasNoFault, IsFirstSignatureFault};
-ghost use Rattle.ffi3_type_rules.specs.Signature.{SignatureIsPlaced, for_places, IsFirstFaultFor};
+ghost use Rattle.ffi3_type_spec.specs.declared.limits.TheConstants.{LARGEST_TYPE, MOST_ARGUMENTS};
+ghost use Rattle.ffi3_type_spec.specs.Tree.{tree_at, scalar};
+ghost use Rattle.ffi3_type_spec.specs.Layout.{size_of, align_of, leaves_of, leaf_at};
+ghost use Rattle.ffi3_type_spec.specs.Fault.{HasNoFault, IsFirstFault, IsLaidOut};
+ghost use Rattle.ffi3_type_spec.specs.Signature.{SignatureHasNoFault, IsFirstSignatureFault};
+ghost use Rattle.ffi3_type_spec.specs.Signature.{SignatureIsPlaced, for_places, IsFirstFaultFor};
 ghost use Rattle.ffi3_types.specs.TreeOf.{tree_of};
 ghost use Rattle.ffi3_types.specs.FaultOf.{path_of, fault_of};
 ghost use Rattle.ffi3_types.specs.FirstElement.{role_of};
@@ -21,8 +21,8 @@ pub struct CheckedType<'a> {
 }
 
 impl<'a> Model for CheckedType<'a> {
-    ghost use Rattle.ffi3_type_rules.specs.Tree.{Tree, tree_code};
-    ghost use Rattle.ffi3_type_rules.specs.Fault.{IsLaidOut};
+    ghost use Rattle.ffi3_type_spec.specs.Tree.{Tree, tree_code};
+    ghost use Rattle.ffi3_type_spec.specs.Fault.{IsLaidOut};
     ghost use Rattle.ffi3_types.specs.TreeOf.{tree_of};
 
     ghost Value = { Tree };
@@ -109,7 +109,7 @@ pub struct CheckedSig<'a> {
 }
 
 impl<'a> Model for CheckedSig<'a> {
-    ghost use Rattle.ffi3_type_rules.specs.Signature.{Signature, signature_code, SignatureHasNoFault};
+    ghost use Rattle.ffi3_type_spec.specs.Signature.{Signature, signature_code, SignatureHasNoFault};
 
     ghost Value = { Signature };
 
@@ -194,7 +194,7 @@ pub struct PlacedSig<'a> {
 }
 
 impl<'a> Model for PlacedSig<'a> {
-    ghost use Rattle.ffi3_type_rules.specs.Signature.{Signature, signature_code, SignatureIsPlaced};
+    ghost use Rattle.ffi3_type_spec.specs.Signature.{Signature, signature_code, SignatureIsPlaced};
 
     ghost Value = { Signature };
 

@@ -1,5 +1,5 @@
 // What every layout keeps, for callers to cite.
-ghost use Rattle.ffi3_type_rules.specs.LayoutLaws.{IsWellLaidOut, ArrayIsStruct, ArrayIsItsElements};
+ghost use Rattle.ffi3_type_spec.specs.LayoutLaws.{IsWellLaidOut, ArrayIsStruct, ArrayIsItsElements};
 ghost use Rattle.ffi3_types.specs.TreeOf.{tree_of};
 
 use crate::FfiType;

@@ -1,13 +1,13 @@
 // Size, alignment and the elements' offsets.
 ghost use Rattle.std.specs.Prelude.{◌≡◌, ◌+◌, ◌<◌, ◌≤◌, All, length};
-ghost use Rattle.ffi3_type_rules.specs.Tree.{struct_of, array, tree_at, trees_of, elements_of};
-ghost use Rattle.ffi3_type_rules.specs.Layout.{size_of, align_of, offset_of, layouts, end_before, align_before};
-ghost use Rattle.ffi3_type_rules.specs.Fault.{IsLaidOut};
+ghost use Rattle.ffi3_type_spec.specs.Tree.{struct_of, array, tree_at, trees_of, elements_of};
+ghost use Rattle.ffi3_type_spec.specs.Layout.{size_of, align_of, offset_of, layouts, end_before, align_before};
+ghost use Rattle.ffi3_type_spec.specs.Fault.{IsLaidOut};
 ghost use Rattle.ffi3_types.specs.ScalarSize.{scalar_size_of, value_size_of};
 ghost use Rattle.ffi3_types.specs.TreeOf.{tree_of};
 
 use crate::{FfiType, Fields};
-use ffi3_type_rules::round_up;
+use ffi3_type_spec::round_up;
 
 /// Size and alignment in bytes.
 #[derive(Clone, Copy)]

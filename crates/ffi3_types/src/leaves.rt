@@ -1,14 +1,14 @@
 // The scalars of a type, one of them or all.
 ghost use Rattle.std.specs.Prelude.{◌≡◌, ◌<◌, ◌≤◌, ◌+◌, ◌++◌, ◌∷◌, [], IfOk, OnOk, length, map};
-ghost use Rattle.ffi3_type_rules.specs.declared.limits.TheConstants.{LARGEST_TYPE};
-ghost use Rattle.ffi3_type_rules.specs.Tree.{struct_of, array, trees_of, scalar};
-ghost use Rattle.ffi3_type_rules.specs.Layout.{size_of, leaves_of, leaf_at, moved};
-ghost use Rattle.ffi3_type_rules.specs.Fault.{IsLaidOut};
+ghost use Rattle.ffi3_type_spec.specs.declared.limits.TheConstants.{LARGEST_TYPE};
+ghost use Rattle.ffi3_type_spec.specs.Tree.{struct_of, array, trees_of, scalar};
+ghost use Rattle.ffi3_type_spec.specs.Layout.{size_of, leaves_of, leaf_at, moved};
+ghost use Rattle.ffi3_type_spec.specs.Fault.{IsLaidOut};
 ghost use Rattle.ffi3_types.specs.TreeOf.{tree_of};
 ghost use Rattle.ffi3_types.specs.LeafOf.{IsLeaf, leaf_of, leaf_in};
 
 use crate::{FfiType, Fields, NoMemory};
-use ffi3_type_rules::round_up;
+use ffi3_type_spec::round_up;
 use std::alloc::Global;
 use std::marker::Model;
 
@@ -27,7 +27,7 @@ pub struct Leaves {
 
 impl Model for Leaves {
     ghost use Rattle.std.specs.Prelude.{List, All, map};
-    ghost use Rattle.ffi3_type_rules.specs.Layout.{Leaf};
+    ghost use Rattle.ffi3_type_spec.specs.Layout.{Leaf};
     ghost use Rattle.ffi3_types.specs.LeafOf.{IsLeaf, leaf_of, leaf_list_code};
 
     ghost Value = { List Leaf };

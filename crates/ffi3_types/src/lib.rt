@@ -3,7 +3,7 @@
 
 ghost use Rattle.std.specs.Prelude.{◌≡◌, ◌+◌, ◌<◌, ◌^◌, ◌++◌, ◌∷◌, [], length, OnErr, OnOk};
 ghost use Rattle.std.specs.Prelude.{◌≤◌, IfOk, IsOk};
-ghost use Rattle.ffi3_type_rules.specs.Tree.{tree_at, trees_of, nodes, all_nodes};
+ghost use Rattle.ffi3_type_spec.specs.Tree.{tree_at, trees_of, nodes, all_nodes};
 ghost use Rattle.ffi3_types.specs.TreeOf.{tree_of};
 
 mod bytes;
@@ -28,7 +28,7 @@ pub use bytes::Bytes;
 pub use check::check_type;
 pub use checked::{CheckedSig, CheckedType, PlacedSig};
 pub use fault::TypeFault;
-pub use ffi3_type_rules::Target;
+pub use ffi3_type_spec::Target;
 pub use laws::layout_laws;
 pub use layout::Extent;
 pub use leaves::{Leaf, Leaves};
@@ -89,14 +89,14 @@ pub struct Fields {
 
 impl Model for Fields {
     ghost use Rattle.std.specs.Prelude.{List, map, length, ◌<◌, ◌^◌};
-    ghost use Rattle.ffi3_type_rules.specs.Tree.{Tree, tree_list_code, trees_of, all_nodes};
+    ghost use Rattle.ffi3_type_spec.specs.Tree.{Tree, tree_list_code, trees_of, all_nodes};
 
     ghost Value = { List Tree };
 
     ghost coded = { tree_list_code };
 
     ghost use Rattle.std.specs.Prelude.{◌≤◌, IfOk};
-    ghost use Rattle.ffi3_type_rules.specs.Tree.{tree_at, trees_of, nodes, all_nodes};
+    ghost use Rattle.ffi3_type_spec.specs.Tree.{tree_at, trees_of, nodes, all_nodes};
     ghost use Rattle.ffi3_types.specs.TreeOf.{tree_of};
 
     ghost view = { λ a. map tree_of a.types.items };

@@ -1,7 +1,7 @@
 // Long doubles of 16 bytes, which can be placed and are no part of a call on the machine.
 ghost use Rattle.std.specs.Prelude.{◌≡◌};
-ghost use Rattle.ffi3_type_rules.specs.Tree.{trees_of, is_complex};
-ghost use Rattle.ffi3_type_rules.specs.Layout.{has_long_double, have_long_double};
+ghost use Rattle.ffi3_type_spec.specs.Tree.{trees_of, is_complex};
+ghost use Rattle.ffi3_type_spec.specs.Layout.{has_long_double, have_long_double};
 ghost use Rattle.ffi3_types.specs.TreeOf.{tree_of};
 
 use crate::{FfiType, Fields};

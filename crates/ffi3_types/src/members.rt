@@ -1,6 +1,6 @@
 // The elements of a struct or an array, one after another.
 ghost use Rattle.std.specs.Prelude.{◌≡◌, ◌<◌, ◌≤◌, ◌^◌, length, replicate};
-ghost use Rattle.ffi3_type_rules.specs.Tree.{tree_at, trees_of, nodes, all_nodes};
+ghost use Rattle.ffi3_type_spec.specs.Tree.{tree_at, trees_of, nodes, all_nodes};
 ghost use Rattle.ffi3_types.specs.TreeOf.{tree_of};
 
 use crate::{FfiType, Fields};
@@ -16,7 +16,7 @@ pub struct Members<'a> {
 
 impl<'a> Model for Members<'a> {
     ghost use Rattle.std.specs.Prelude.{List};
-    ghost use Rattle.ffi3_type_rules.specs.Tree.{Tree, tree_list_code};
+    ghost use Rattle.ffi3_type_spec.specs.Tree.{Tree, tree_list_code};
     ghost use Rattle.ffi3_types.specs.Members.{members_of, HasMembers};
 
     ghost Value = { List Tree };

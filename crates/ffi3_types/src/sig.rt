@@ -1,15 +1,15 @@
 // Signatures and their first fault.
 ghost use Rattle.std.specs.Prelude.{◌≡◌, ◌<◌, ◌↔◌, length, IsTrue, IfOk, OnOk, IfErr, Some};
-ghost use Rattle.ffi3_type_rules.specs.Tree.{tree_at};
-ghost use Rattle.ffi3_type_rules.specs.Signature.{SignatureHasNoFault, IsFirstSignatureFault, is_promoted};
-ghost use Rattle.ffi3_type_rules.specs.Signature.{SignatureIsPlaced, for_places, HasNoFaultFor, IsFirstFaultFor};
+ghost use Rattle.ffi3_type_spec.specs.Tree.{tree_at};
+ghost use Rattle.ffi3_type_spec.specs.Signature.{SignatureHasNoFault, IsFirstSignatureFault, is_promoted};
+ghost use Rattle.ffi3_type_spec.specs.Signature.{SignatureIsPlaced, for_places, HasNoFaultFor, IsFirstFaultFor};
 ghost use Rattle.ffi3_types.specs.FirstElement.{purpose_of};
 ghost use Rattle.ffi3_types.specs.TreeOf.{tree_of};
 ghost use Rattle.ffi3_types.specs.SignatureFaultOf.{signature_fault_of};
 
 use crate::check::check_in;
 use crate::{FfiType, Fields, NoMemory, TypeFault, same_fields, same_type};
-use ffi3_type_rules::limits::MOST_ARGUMENTS;
+use ffi3_type_spec::limits::MOST_ARGUMENTS;
 use std::alloc::Global;
 use std::marker::Model;
 use thiserror::Error;
@@ -24,7 +24,7 @@ pub struct Sig {
 }
 
 impl Model for Sig {
-    ghost use Rattle.ffi3_type_rules.specs.Signature.{Signature, signature_code};
+    ghost use Rattle.ffi3_type_spec.specs.Signature.{Signature, signature_code};
     ghost use Rattle.ffi3_types.specs.TreeOf.{tree_of};
 
     ghost Value = { Signature };

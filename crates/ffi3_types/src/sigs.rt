@@ -1,6 +1,6 @@
 // Lists of signatures.
 ghost use Rattle.std.specs.Prelude.{◌≡◌, ◌+◌, ◌<◌, ◌^◌, ◌++◌, ◌∷◌, [], length, OnErr, OnOk};
-ghost use Rattle.ffi3_type_rules.specs.Signature.{signature_at};
+ghost use Rattle.ffi3_type_spec.specs.Signature.{signature_at};
 
 use crate::{NoMemory, Sig};
 use std::alloc::Global;
@@ -14,7 +14,7 @@ pub struct Sigs {
 
 impl Model for Sigs {
     ghost use Rattle.std.specs.Prelude.{List, length, ◌<◌, ◌^◌};
-    ghost use Rattle.ffi3_type_rules.specs.Signature.{Signature, signature_list_code};
+    ghost use Rattle.ffi3_type_spec.specs.Signature.{Signature, signature_list_code};
 
     ghost Value = { List Signature };
 

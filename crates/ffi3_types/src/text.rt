@@ -1,9 +1,9 @@
 // Types and signatures as text.
 ghost use Rattle.std.specs.Prelude.{◌≡◌, ◌++◌, ◌≤◌, [], OnOk, IfOk, length, slice_index_or, slice_range};
-ghost use Rattle.ffi3_type_rules.specs.Tree.{array, trees_of};
-ghost use Rattle.ffi3_type_rules.specs.Text.{text_of, texts_of, list_text, arguments_text, signature_text};
-ghost use Rattle.ffi3_type_rules.specs.Fault.{IsLaidOut};
-ghost use Rattle.ffi3_type_rules.specs.Signature.{SignatureHasNoFault};
+ghost use Rattle.ffi3_type_spec.specs.Tree.{array, trees_of};
+ghost use Rattle.ffi3_type_spec.specs.Text.{text_of, texts_of, list_text, arguments_text, signature_text};
+ghost use Rattle.ffi3_type_spec.specs.Fault.{IsLaidOut};
+ghost use Rattle.ffi3_type_spec.specs.Signature.{SignatureHasNoFault};
 ghost use Rattle.ffi3_types.specs.TreeOf.{tree_of};
 
 use crate::{Bytes, CheckedSig, FfiType, Fields, NoMemory, Sig};

@@ -2,7 +2,7 @@
 use Rattle.std.proofs.Common.{◌≡◌, ℕ, zero, suc, ◌/◌, ◌%◌, ◌<◌, false, List, [], ◌∷◌, slice_index, refl, ap₂, arith}
 use Rattle.std.specs.Fmt.{digit_glyph}
 use Rattle.hex.specs.Hex.{encode_with, encode_lower, lower_digits}
-use Rattle.ffi3_type_rules.specs.ValueText.{hexadecimal}
+use Rattle.ffi3_type_spec.specs.ValueText.{hexadecimal}
 
 digit_is : (n : ℕ) → n < 16 → slice_index lower_digits n ≡ digit_glyph false n
 digit_is zero below = refl

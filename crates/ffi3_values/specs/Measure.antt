@@ -2,7 +2,7 @@
 use Rattle.std.specs.Prelude.{◌≤◌, max, List, [], ◌∷◌, map}
 use Rattle.std.proofs.Common.{arith}
 use denote.Param.Weighed.{most}
-use Rattle.ffi3_type_rules.specs.Value.{value_nodes, all_value_nodes, values_of}
+use Rattle.ffi3_type_spec.specs.Value.{value_nodes, all_value_nodes, values_of}
 use Rattle.ffi3_values.specs.ValueOf.{value_of}
 use Rattle.ffi3_values.specs.declared.Values.TheDeep.{deep-Value}
 use Rattle.ffi3_values.specs.declared.Value.{Value}

@@ -1,5 +1,5 @@
 -- Which value a value of the code is.
-use Rattle.ffi3_type_rules.specs.Value.{ValueTree, void_value, leaf_value, struct_value, values_of}
+use Rattle.ffi3_type_spec.specs.Value.{ValueTree, void_value, leaf_value, struct_value, values_of}
 use Rattle.ffi3_values.specs.declared.Value.{Value}
 use Rattle.ffi3_values.specs.declared.Value.TheVariants.{Void, Leaf, List as Elements}
 

@@ -1,15 +1,15 @@
 // Values of bytes, and what bytes of one value have in common.
 ghost use Rattle.std.specs.Prelude.{◌≡◌, ℕ, List, IfOk, length, true};
-ghost use Rattle.ffi3_type_rules.specs.Tree.{Tree, trees_of, struct_of};
-ghost use Rattle.ffi3_type_rules.specs.Layout.{layouts, size_of};
-ghost use Rattle.ffi3_type_rules.specs.Fault.{IsLaidOut};
-ghost use Rattle.ffi3_type_rules.specs.Value.{value_in, values_in, values_of, zero_value, fits, all_fit};
-ghost use Rattle.ffi3_type_rules.specs.Value.{DifferInPaddingAlone};
+ghost use Rattle.ffi3_type_spec.specs.Tree.{Tree, trees_of, struct_of};
+ghost use Rattle.ffi3_type_spec.specs.Layout.{layouts, size_of};
+ghost use Rattle.ffi3_type_spec.specs.Fault.{IsLaidOut};
+ghost use Rattle.ffi3_type_spec.specs.Value.{value_in, values_in, values_of, zero_value, fits, all_fit};
+ghost use Rattle.ffi3_type_spec.specs.Value.{DifferInPaddingAlone};
 ghost use Rattle.ffi3_types.specs.TreeOf.{tree_of};
 ghost use Rattle.ffi3_values.specs.ValueOf.{value_of};
 
 use crate::{Bytes, NoMemory, Value, Values};
-use ffi3_type_rules::round_up;
+use ffi3_type_spec::round_up;
 use ffi3_types::{FfiType, Members};
 use std::alloc::Global;
 

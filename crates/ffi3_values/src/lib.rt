@@ -2,7 +2,7 @@
 #![tactic(auto)]
 
 ghost use Rattle.std.specs.Prelude.{◌≡◌, ◌+◌, ◌<◌, ◌≤◌, ◌^◌, ◌++◌, ◌∷◌, [], length, OnErr, OnOk, slice_index_or};
-ghost use Rattle.ffi3_type_rules.specs.Value.{values_of, value_nodes, all_value_nodes, void_value};
+ghost use Rattle.ffi3_type_spec.specs.Value.{values_of, value_nodes, all_value_nodes, void_value};
 ghost use Rattle.ffi3_values.specs.ValueOf.{value_of};
 
 mod copy;
@@ -40,7 +40,7 @@ pub struct Values {
 
 impl Model for Values {
     ghost use Rattle.std.specs.Prelude.{List, map, length, ◌<◌, ◌^◌};
-    ghost use Rattle.ffi3_type_rules.specs.Value.{ValueTree, value_list_code, values_of, all_value_nodes};
+    ghost use Rattle.ffi3_type_spec.specs.Value.{ValueTree, value_list_code, values_of, all_value_nodes};
 
     ghost Value = { List ValueTree };
 

@@ -1,9 +1,9 @@
 // The numbers of integers and pointers.
 ghost use Rattle.std.specs.Prelude.{◌≡◌, ◌%◌, ◌^◌, ◌<◌, ◌≤◌, ◌↔◌, IfOk, length, true, pos, negsuc, ◌-◌, ◌-ℤ◌, ◌≤ℤ◌, ◌<ℤ◌};
 ghost use Rattle.std.specs.Int.{w16, w32, w64, w128, to_le_bytes, from_le_bytes};
-ghost use Rattle.ffi3_type_rules.specs.Integer.{is_number_type, scalar_of, number_of, bytes_of_number, sum_of, widened, widened_from_32, width_of, bit_count, modulo};
-ghost use Rattle.ffi3_type_rules.specs.Layout.{size_of};
-ghost use Rattle.ffi3_type_rules.specs.Value.{fits, bytes_of, leaf_value};
+ghost use Rattle.ffi3_type_spec.specs.Integer.{is_number_type, scalar_of, number_of, bytes_of_number, sum_of, widened, widened_from_32, width_of, bit_count, modulo};
+ghost use Rattle.ffi3_type_spec.specs.Layout.{size_of};
+ghost use Rattle.ffi3_type_spec.specs.Value.{fits, bytes_of, leaf_value};
 ghost use Rattle.ffi3_types.specs.TreeOf.{tree_of};
 ghost use Rattle.ffi3_values.specs.ValueOf.{value_of};
 

@@ -1,9 +1,9 @@
 // Values as text.
 ghost use Rattle.std.specs.Prelude.{◌≡◌, ◌++◌, ◌<◌, OnOk, IfOk, true};
 ghost use Rattle.std.specs.List.{join_with_byte};
-ghost use Rattle.ffi3_type_rules.specs.Tree.{trees_of};
-ghost use Rattle.ffi3_type_rules.specs.Value.{fits, all_fit, values_of};
-ghost use Rattle.ffi3_type_rules.specs.ValueText.{value_text_of, value_texts_of, hexadecimal};
+ghost use Rattle.ffi3_type_spec.specs.Tree.{trees_of};
+ghost use Rattle.ffi3_type_spec.specs.Value.{fits, all_fit, values_of};
+ghost use Rattle.ffi3_type_spec.specs.ValueText.{value_text_of, value_texts_of, hexadecimal};
 ghost use Rattle.ffi3_types.specs.TreeOf.{tree_of};
 ghost use Rattle.ffi3_values.specs.ValueOf.{value_of};
 

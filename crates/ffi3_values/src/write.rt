@@ -1,14 +1,14 @@
 // The bytes of values.
 ghost use Rattle.std.specs.Prelude.{◌≡◌, length, true};
-ghost use Rattle.ffi3_type_rules.specs.Tree.{trees_of, struct_of};
-ghost use Rattle.ffi3_type_rules.specs.Layout.{size_of};
-ghost use Rattle.ffi3_type_rules.specs.Fault.{IsLaidOut};
-ghost use Rattle.ffi3_type_rules.specs.Value.{IsWritten, fits, all_fit, values_of, struct_value};
+ghost use Rattle.ffi3_type_spec.specs.Tree.{trees_of, struct_of};
+ghost use Rattle.ffi3_type_spec.specs.Layout.{size_of};
+ghost use Rattle.ffi3_type_spec.specs.Fault.{IsLaidOut};
+ghost use Rattle.ffi3_type_spec.specs.Value.{IsWritten, fits, all_fit, values_of, struct_value};
 ghost use Rattle.ffi3_types.specs.TreeOf.{tree_of};
 ghost use Rattle.ffi3_values.specs.ValueOf.{value_of};
 
 use crate::{Value, Values};
-use ffi3_type_rules::round_up;
+use ffi3_type_spec::round_up;
 use ffi3_types::{FfiType, Members};
 
 /// Writes the bytes of the value's scalars where the type has them. Padding keeps what stood there.

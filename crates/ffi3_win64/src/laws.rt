@@ -1,7 +1,7 @@
 // What the places of every call keep, for callers to cite.
-ghost use Rattle.ffi3_place_rules.specs.Alike.{GoesByLayout, PlacesArraysAsElements};
-ghost use Rattle.ffi3_win64_rules.specs.Win64.{win64};
-ghost use Rattle.ffi3_win64_rules.specs.Positions.{IsPlacedByPosition};
+ghost use Rattle.ffi3_place_spec.specs.Alike.{GoesByLayout, PlacesArraysAsElements};
+ghost use Rattle.ffi3_win64_spec.specs.Win64.{win64};
+ghost use Rattle.ffi3_win64_spec.specs.Positions.{IsPlacedByPosition};
 
 use ffi3_types::Sig;
 

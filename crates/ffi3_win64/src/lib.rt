@@ -2,18 +2,18 @@
 #![tactic(auto)]
 
 ghost use Rattle.std.specs.Prelude.{◌≡◌, ◌<◌, ◌≤◌, ◌+◌, ◌*◌, length, IfOk, is_some, false};
-ghost use Rattle.ffi3_type_rules.specs.declared.limits.TheConstants.{ARGUMENT_BYTES, MOST_ARGUMENTS};
-ghost use Rattle.ffi3_type_rules.specs.Tree.{Tree};
+ghost use Rattle.ffi3_type_spec.specs.declared.limits.TheConstants.{ARGUMENT_BYTES, MOST_ARGUMENTS};
+ghost use Rattle.ffi3_type_spec.specs.Tree.{Tree};
 ghost use Rattle.ffi3_types.specs.TreeOf.{tree_of};
-ghost use Rattle.ffi3_place_rules.specs.Standard.{places_from, place_at, copies_end, result_at, plan_of};
-ghost use Rattle.ffi3_win64_rules.specs.Win64.{win64, is_whole_size, is_copied, position_place, floating_places, whole, whole_in, argument_pieces, spot_at, spots_from, first_position, result_place, result_spot_of, stack_of, copy_start};
+ghost use Rattle.ffi3_place_spec.specs.Standard.{places_from, place_at, copies_end, result_at, plan_of};
+ghost use Rattle.ffi3_win64_spec.specs.Win64.{win64, is_whole_size, is_copied, position_place, floating_places, whole, whole_in, argument_pieces, spot_at, spots_from, first_position, result_place, result_spot_of, stack_of, copy_start};
 
 pub mod laws;
 
 use ffi3_place::ends::{buffer_end, copy_end, planned};
 use ffi3_place::parts::{one_piece, two_pieces, widening};
 use ffi3_place::{Abi, Loc, Piece, Pieces, Place, Places, Plan, Res, SaveWord};
-use ffi3_type_rules::round_up;
+use ffi3_type_spec::round_up;
 use ffi3_types::{CheckedType, FfiType, NoMemory, PlacedSig, Sig, Target};
 pub use laws::placement_laws;
 use std::alloc::Global;
@@ -276,7 +276,7 @@ fn plan_of(alloc: Global, sig: &PlacedSig<'_>) -> Result<Plan, NoMemory>
 }
 
 impl Abi for Win64 {
-    ghost use Rattle.ffi3_win64_rules.specs.Win64.{win64};
+    ghost use Rattle.ffi3_win64_spec.specs.Win64.{win64};
 
     ghost standard = { win64 };
 
@@ -330,10 +330,10 @@ impl Abi for Win64 {
 
     ghost use Rattle.std.specs.Prelude.{refl};
     ghost use Rattle.std.proofs.lemmas.Bool.{ltb-true};
-    ghost use Rattle.ffi3_win64_rules.proofs.Agrees.{agrees as agrees_with_machine};
-    ghost use Rattle.ffi3_win64_rules.proofs.Alike.{goes_by_layout};
-    ghost use Rattle.ffi3_win64_rules.proofs.ByStubs.{by_stubs as without_stubs, result_by_stubs as result_without_stubs};
-    ghost use Rattle.ffi3_win64_rules.proofs.Sound.{sound as every_law, determines};
+    ghost use Rattle.ffi3_win64_spec.proofs.Agrees.{agrees as agrees_with_machine};
+    ghost use Rattle.ffi3_win64_spec.proofs.Alike.{goes_by_layout};
+    ghost use Rattle.ffi3_win64_spec.proofs.ByStubs.{by_stubs as without_stubs, result_by_stubs as result_without_stubs};
+    ghost use Rattle.ffi3_win64_spec.proofs.Sound.{sound as every_law, determines};
 
     ghost save_is = { refl };
 

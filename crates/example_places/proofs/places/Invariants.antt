@@ -1,5 +1,5 @@
 use Rattle.std.proofs.Common.{◌≡◌}
-use Rattle.ffi3_riscv_rules.specs.Riscv.{riscv}
+use Rattle.ffi3_riscv_spec.specs.Riscv.{riscv}
 use Rattle.example_places.specs.Lines.{argument_lines}
 use Rattle.example_places.proofs.places.Given as goal
 

@@ -1,8 +1,8 @@
 use Rattle.std.proofs.Common.{ap, sym, ◌∙◌, arith}
-use Rattle.ffi3_type_rules.specs.declared.Role.TheVariants.{Anywhere}
-use Rattle.ffi3_type_rules.specs.Tree.{nodes}
-use Rattle.ffi3_type_rules.proofs.Faults.{element_is_right}
-use Rattle.ffi3_type_rules.proofs.ArrayPlaces.{array_is_shaped, array_element_is_right}
+use Rattle.ffi3_type_spec.specs.declared.Role.TheVariants.{Anywhere}
+use Rattle.ffi3_type_spec.specs.Tree.{nodes}
+use Rattle.ffi3_type_spec.proofs.Faults.{element_is_right}
+use Rattle.ffi3_type_spec.proofs.ArrayPlaces.{array_is_shaped, array_element_is_right}
 use Rattle.ffi3_types.specs.TreeOf.{tree_of}
 use Rattle.ffi3_aapcs64.proofs.Members.{members-turn, members_at_end, other_member, array_by_element}
 use Rattle.ffi3_aapcs64.proofs.+has_only.Goals as goal

@@ -1,9 +1,9 @@
 use Rattle.std.proofs.Common.{◌≡◌, ◌+◌, ◌*◌, true}
 use Rattle.std.specs.List.{list_all}
-use Rattle.ffi3_type_rules.specs.Tree.{nodes, all_nodes, trees_of}
-use Rattle.ffi3_type_rules.specs.Layout.{layouts, leaves_before}
+use Rattle.ffi3_type_spec.specs.Tree.{nodes, all_nodes, trees_of}
+use Rattle.ffi3_type_spec.specs.Layout.{layouts, leaves_before}
 use Rattle.ffi3_types.specs.TreeOf.{tree_of}
-use Rattle.ffi3_aapcs64_rules.specs.Aapcs64.{is_member}
+use Rattle.ffi3_aapcs64_spec.specs.Aapcs64.{is_member}
 use Rattle.ffi3_aapcs64.proofs.+has_only.Given as goal
 
 abbrev pub decreases-has_only : goal.decreases-has_only

@@ -1,8 +1,8 @@
 use Rattle.std.proofs.Common.{◌+◌, refl}
-use Rattle.ffi3_type_rules.specs.Layout.{size_of}
-use Rattle.ffi3_place_rules.specs.declared.Loc.TheVariants.{G}
-use Rattle.ffi3_place_rules.specs.Doublewords.{widening}
-use Rattle.ffi3_place_rules.proofs.Doublewords.{doublewords_turn}
+use Rattle.ffi3_type_spec.specs.Layout.{size_of}
+use Rattle.ffi3_place_spec.specs.declared.Loc.TheVariants.{G}
+use Rattle.ffi3_place_spec.specs.Doublewords.{widening}
+use Rattle.ffi3_place_spec.proofs.Doublewords.{doublewords_turn}
 use Rattle.ffi3_aapcs64.proofs.general_pieces.Goals as goal
 
 pub loop-j-preserved : goal.loop-j-preserved

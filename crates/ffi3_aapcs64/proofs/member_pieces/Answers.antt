@@ -1,5 +1,5 @@
 use Rattle.std.proofs.Common.{refl}
-use Rattle.ffi3_aapcs64_rules.proofs.Steps.{member_turn}
+use Rattle.ffi3_aapcs64_spec.proofs.Steps.{member_turn}
 use Rattle.ffi3_aapcs64.proofs.member_pieces.Goals as goal
 
 pub loop-i-preserved : goal.loop-i-preserved

@@ -1,6 +1,6 @@
 use Rattle.std.proofs.Common.{◌≡◌, ◌*◌, ◌≤◌, ◌++◌, drop, map}
-use Rattle.ffi3_type_rules.specs.declared.limits.TheConstants.{ARGUMENT_SPAN}
-use Rattle.ffi3_aapcs64_rules.specs.Aapcs64.{untouched, taken_after, spots_after}
+use Rattle.ffi3_type_spec.specs.declared.limits.TheConstants.{ARGUMENT_SPAN}
+use Rattle.ffi3_aapcs64_spec.specs.Aapcs64.{untouched, taken_after, spots_after}
 use Rattle.ffi3_place.specs.WithoutCopy.{without_copy}
 use Rattle.ffi3_aapcs64.proofs.place_all.Given as goal
 

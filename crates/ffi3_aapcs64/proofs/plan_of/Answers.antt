@@ -1,8 +1,8 @@
 use Rattle.std.proofs.Common.{length, ap, ◌∙◌}
 use Rattle.std.proofs.lemmas.List.{length-map}
 use Rattle.ffi3_place.specs.WithoutCopy.{without_copy}
-use Rattle.ffi3_aapcs64_rules.specs.Aapcs64.{untouched, spots_after}
-use Rattle.ffi3_aapcs64_rules.proofs.Ends.{spots_length}
+use Rattle.ffi3_aapcs64_spec.specs.Aapcs64.{untouched, spots_after}
+use Rattle.ffi3_aapcs64_spec.proofs.Ends.{spots_length}
 use Rattle.ffi3_aapcs64.proofs.plan_of.Goals as goal
 
 pub lay_copies-copies_end-requires-clause-one_each : goal.lay_copies-copies_end-requires-clause-one_each

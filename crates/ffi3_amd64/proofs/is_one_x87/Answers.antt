@@ -1,11 +1,11 @@
 use Rattle.std.proofs.Common.{◌≡◌, ◌≢◌, true, length, ap, sym, ◌∙◌, arith}
 use Rattle.std.proofs.lemmas.Bool.{false_from_ne_true}
-use Rattle.ffi3_type_rules.specs.Tree.{scalar, u8}
-use Rattle.ffi3_type_rules.specs.Layout.{Leaf, leaves_of, leaf_at}
+use Rattle.ffi3_type_spec.specs.Tree.{scalar, u8}
+use Rattle.ffi3_type_spec.specs.Layout.{Leaf, leaves_of, leaf_at}
 use Rattle.ffi3_types.specs.declared.FfiType.TheVariants.{X87}
 use Rattle.ffi3_types.proofs.Trees.{tree_of-inj}
-use Rattle.ffi3_amd64_rules.specs.Amd64.{is_x87_scalar}
-use Rattle.ffi3_amd64_rules.proofs.LongDoubles.{x87_alone}
+use Rattle.ffi3_amd64_spec.specs.Amd64.{is_x87_scalar}
+use Rattle.ffi3_amd64_spec.proofs.LongDoubles.{x87_alone}
 use Rattle.ffi3_amd64.proofs.LongDoubles.{one_leaf, not_one_leaf}
 use Rattle.ffi3_amd64.proofs.is_one_x87.Goals as goal
 

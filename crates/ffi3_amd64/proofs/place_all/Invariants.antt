@@ -1,7 +1,7 @@
 use Rattle.std.proofs.Common.{◌≡◌, ◌*◌, ◌≤◌, ◌++◌, drop}
-use Rattle.ffi3_type_rules.specs.declared.limits.TheConstants.{ARGUMENT_SPAN}
-use Rattle.ffi3_place_rules.specs.Standard.{places_from}
-use Rattle.ffi3_amd64_rules.specs.Amd64.{amd64, taken_after, taken_at_first, spots_after}
+use Rattle.ffi3_type_spec.specs.declared.limits.TheConstants.{ARGUMENT_SPAN}
+use Rattle.ffi3_place_spec.specs.Standard.{places_from}
+use Rattle.ffi3_amd64_spec.specs.Amd64.{amd64, taken_after, taken_at_first, spots_after}
 use Rattle.ffi3_amd64.proofs.place_all.Given as goal
 
 abbrev pub invariant-loop-i : goal.invariant-loop-i

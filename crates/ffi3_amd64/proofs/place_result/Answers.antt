@@ -1,5 +1,5 @@
 use Rattle.std.proofs.Common.{arith, rules}
-use Rattle.ffi3_amd64_rules.proofs.Covered.{integers_few, sses_few}
+use Rattle.ffi3_amd64_spec.proofs.Covered.{integers_few, sses_few}
 use Rattle.ffi3_amd64.proofs.place_result.Goals as goal
 
 pub register_pieces-requires : goal.register_pieces-requires

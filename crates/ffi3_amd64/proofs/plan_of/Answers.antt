@@ -1,8 +1,8 @@
 use Rattle.std.proofs.Common.{ap, sym, ◌∙◌, refl}
-use Rattle.ffi3_place_rules.specs.Standard.{result_at}
-use Rattle.ffi3_place_rules.proofs.Planned.{planned_is}
-use Rattle.ffi3_amd64_rules.specs.Amd64.{amd64, taken_at_first, result_spot_of}
-use Rattle.ffi3_amd64_rules.proofs.Steps.{places_without_copies, ends_without_copies}
+use Rattle.ffi3_place_spec.specs.Standard.{result_at}
+use Rattle.ffi3_place_spec.proofs.Planned.{planned_is}
+use Rattle.ffi3_amd64_spec.specs.Amd64.{amd64, taken_at_first, result_spot_of}
+use Rattle.ffi3_amd64_spec.proofs.Steps.{places_without_copies, ends_without_copies}
 use Rattle.ffi3_amd64.proofs.plan_of.Goals as goal
 
 pub returns : goal.returns

@@ -2,10 +2,10 @@ use Rattle.std.proofs.Common.{◌≡◌, ℕ, ◌+◌, [], ◌∷◌, refl, ap, 
 use Rattle.std.specs.Prelude.{slice_index}
 use Rattle.std.specs.List.{count_by}
 use Rattle.std.proofs.lemmas.Result.{IfOk-weaker}
-use Rattle.ffi3_place_rules.specs.Doublewords.{widening}
-use Rattle.ffi3_amd64_rules.specs.declared.Class.{Class}
-use Rattle.ffi3_amd64_rules.specs.declared.Class.TheVariants.{Integer, Sse}
-use Rattle.ffi3_amd64_rules.specs.Amd64.{is_integer_class, is_sse_class, register_of, register_pieces}
+use Rattle.ffi3_place_spec.specs.Doublewords.{widening}
+use Rattle.ffi3_amd64_spec.specs.declared.Class.{Class}
+use Rattle.ffi3_amd64_spec.specs.declared.Class.TheVariants.{Integer, Sse}
+use Rattle.ffi3_amd64_spec.specs.Amd64.{is_integer_class, is_sse_class, register_of, register_pieces}
 use Rattle.ffi3_amd64.specs.Classes.{register_at}
 use Rattle.ffi3_amd64.proofs.register_pieces.Goals as goal
 

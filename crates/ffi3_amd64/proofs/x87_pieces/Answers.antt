@@ -1,5 +1,5 @@
 use Rattle.std.proofs.Common.{arith}
-use Rattle.ffi3_amd64_rules.proofs.LongDoubles.{x87_few}
+use Rattle.ffi3_amd64_spec.proofs.LongDoubles.{x87_few}
 use Rattle.ffi3_amd64.proofs.LongDoubles.{x87_turn}
 use Rattle.ffi3_amd64.proofs.x87_pieces.Goals as goal
 

@@ -1,8 +1,8 @@
 use Rattle.std.proofs.Common.{◌+◌, ◌-◌, ◌*◌, min}
-use Rattle.ffi3_type_rules.specs.Layout.{size_of}
-use Rattle.ffi3_place_rules.specs.declared.Loc.TheVariants.{S}
-use Rattle.ffi3_place_rules.specs.declared.Ext.TheVariants.{Free}
-use Rattle.ffi3_place_rules.proofs.Doublewords.{doublewords_turn}
+use Rattle.ffi3_type_spec.specs.Layout.{size_of}
+use Rattle.ffi3_place_spec.specs.declared.Loc.TheVariants.{S}
+use Rattle.ffi3_place_spec.specs.declared.Ext.TheVariants.{Free}
+use Rattle.ffi3_place_spec.proofs.Doublewords.{doublewords_turn}
 use Rattle.ffi3_apple.proofs.packed_pieces.Goals as goal
 
 pub loop-j-preserved : goal.loop-j-preserved

@@ -1,9 +1,9 @@
 use Rattle.std.proofs.Common.{◌≡◌, ◌+◌, ◌-◌, ◌*◌, ◌++◌, min}
-use Rattle.ffi3_type_rules.specs.Layout.{size_of}
-use Rattle.ffi3_place_rules.specs.declared.Loc.TheVariants.{S}
-use Rattle.ffi3_place_rules.specs.declared.Ext.TheVariants.{Free}
-use Rattle.ffi3_place_rules.specs.Doublewords.{doublewords, doublewords_at}
-use Rattle.ffi3_apple_rules.specs.Apple.{packed_pieces}
+use Rattle.ffi3_type_spec.specs.Layout.{size_of}
+use Rattle.ffi3_place_spec.specs.declared.Loc.TheVariants.{S}
+use Rattle.ffi3_place_spec.specs.declared.Ext.TheVariants.{Free}
+use Rattle.ffi3_place_spec.specs.Doublewords.{doublewords, doublewords_at}
+use Rattle.ffi3_apple_spec.specs.Apple.{packed_pieces}
 use Rattle.ffi3_apple.proofs.packed_pieces.Given as goal
 
 abbrev pub invariant-loop-j : goal.invariant-loop-j

@@ -1,10 +1,10 @@
 use Rattle.std.proofs.Common.{◌+◌, ◌≤◌, length, ap, sym, ◌∙◌, arith}
 use Rattle.std.specs.Prelude.{slice_index_or}
-use Rattle.ffi3_type_rules.specs.Layout.{size_of}
-use Rattle.ffi3_type_rules.specs.Tree.{tree_at}
-use Rattle.ffi3_type_rules.specs.Value.{value_in, void_value}
-use Rattle.ffi3_type_rules.proofs.Layouts.{least_multiple-above}
-use Rattle.ffi3_place_rules.specs.Standard.{block_bytes}
+use Rattle.ffi3_type_spec.specs.Layout.{size_of}
+use Rattle.ffi3_type_spec.specs.Tree.{tree_at}
+use Rattle.ffi3_type_spec.specs.Value.{value_in, void_value}
+use Rattle.ffi3_type_spec.proofs.Layouts.{least_multiple-above}
+use Rattle.ffi3_place_spec.specs.Standard.{block_bytes}
 use Rattle.ffi3_machine.specs.State.{stack_at}
 use Rattle.ffi3_body.specs.SeenActivation.{block_offset}
 use Rattle.ffi3_body.proofs.Blocks.{argument_here, whole_within}

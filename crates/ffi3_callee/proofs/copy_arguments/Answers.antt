@@ -1,12 +1,12 @@
 use Rattle.std.specs.Prelude.{IsSomeAnd}
 use Rattle.ffi3_cif.specs.Runs.{AreRunsOf, pieces_of}
 use Rattle.std.proofs.Common.{◌≡◌, ◌+◌, ◌-◌, ◌<◌, ◌≤◌, length, ap, subst, sym, ◌∙◌, arith}
-use Rattle.ffi3_type_rules.specs.Tree.{tree_at}
-use Rattle.ffi3_type_rules.specs.Layout.{size_of}
-use Rattle.ffi3_type_rules.proofs.Layouts.{least_multiple-above}
-use Rattle.ffi3_place_rules.specs.Standard.{block_bytes, frame_of, plan_of, round8}
-use Rattle.ffi3_type_rules.specs.declared.limits.TheConstants.{STACK_TOP}
-use Rattle.ffi3_pieces.specs.Passing.{passing}
+use Rattle.ffi3_type_spec.specs.Tree.{tree_at}
+use Rattle.ffi3_type_spec.specs.Layout.{size_of}
+use Rattle.ffi3_type_spec.proofs.Layouts.{least_multiple-above}
+use Rattle.ffi3_place_spec.specs.Standard.{block_bytes, frame_of, plan_of, round8}
+use Rattle.ffi3_type_spec.specs.declared.limits.TheConstants.{STACK_TOP}
+use Rattle.ffi3_machine_transfer.specs.Passing.{passing}
 use Rattle.ffi3_marshal.proofs.Arguments.{lies_more}
 use Rattle.ffi3_body.specs.SeenActivation.{block_offset}
 use Rattle.ffi3_body.proofs.Blocks.{whole_within}

@@ -1,10 +1,10 @@
 use Rattle.std.proofs.Common.{◌≡◌, ◌+◌, ◌-◌, length, ap, subst, sym, ◌∙◌, arith}
-use Rattle.ffi3_type_rules.specs.Isa.{isa_of}
-use Rattle.ffi3_type_rules.proofs.Placed.{faultless_is_plain}
-use Rattle.ffi3_place_rules.specs.Holds.{OwnsArguments}
-use Rattle.ffi3_place_rules.specs.Standard.{block_bytes, frame_of, plan_of}
+use Rattle.ffi3_type_spec.specs.TargetIsa.{isa_of}
+use Rattle.ffi3_type_spec.proofs.Placed.{faultless_is_plain}
+use Rattle.ffi3_place_spec.specs.Holds.{OwnsArguments}
+use Rattle.ffi3_place_spec.specs.Standard.{block_bytes, frame_of, plan_of}
 use Rattle.ffi3_machine.specs.State.{scribbled, scribbled_floating, scribbled_general}
-use Rattle.ffi3_pieces.specs.Passing.{by_exchange, passing}
+use Rattle.ffi3_machine_transfer.specs.Passing.{by_exchange, passing}
 use Rattle.ffi3_callee.specs.Entered.{IsEntered, entered_if}
 use Rattle.ffi3_callee.specs.Loaded.{AreFound, image_from}
 use Rattle.ffi3_callee.specs.Received.{hidden_of}

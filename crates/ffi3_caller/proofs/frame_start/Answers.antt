@@ -1,6 +1,6 @@
 use Rattle.std.proofs.Common.{◌≡◌, ◌-◌, true, false, sym, ◌∙◌, arith}
-use Rattle.ffi3_place_rules.specs.Standard.{frame_of}
-use Rattle.ffi3_pieces.specs.Passing.{by_exchange}
+use Rattle.ffi3_place_spec.specs.Standard.{frame_of}
+use Rattle.ffi3_machine_transfer.specs.Passing.{by_exchange}
 use Rattle.ffi3_caller.proofs.Framing.{frame_below, start_by_stub, start_itself}
 use Rattle.ffi3_caller.proofs.frame_start.Goals as goal
 

@@ -1,4 +1,4 @@
-use Rattle.ffi3_pieces.specs.Passing.{passing}
+use Rattle.ffi3_machine_transfer.specs.Passing.{passing}
 use Rattle.ffi3_caller.proofs.Loading.{IsLeftToLoad}
 use Rattle.ffi3_caller.proofs.load_pieces.Given as goal
 

@@ -1,13 +1,13 @@
 use Rattle.std.proofs.Common.{◌+◌, length, ap, sym, ◌∙◌, subst, arith}
-use Rattle.ffi3_type_rules.specs.Isa.{isa_of}
-use Rattle.ffi3_type_rules.specs.Value.{value_in}
-use Rattle.ffi3_type_rules.proofs.Placed.{faultless_is_plain}
-use Rattle.ffi3_place_rules.specs.Standard.{plan_of, frame_of}
-use Rattle.ffi3_place_rules.proofs.OnMachine.{as_before}
+use Rattle.ffi3_type_spec.specs.TargetIsa.{isa_of}
+use Rattle.ffi3_type_spec.specs.Value.{value_in}
+use Rattle.ffi3_type_spec.proofs.Placed.{faultless_is_plain}
+use Rattle.ffi3_place_spec.specs.Standard.{plan_of, frame_of}
+use Rattle.ffi3_place_spec.proofs.OnMachine.{as_before}
 use Rattle.ffi3_machine.specs.State.{stack_at}
 use Rattle.ffi3_caller.specs.Called.{at_frame, frame_start}
 use Rattle.ffi3_caller.proofs.Framing.{loaded_moved}
-use Rattle.ffi3_pieces.specs.Passing.{passing}
+use Rattle.ffi3_machine_transfer.specs.Passing.{passing}
 use Rattle.ffi3_caller.specs.Loaded.{AreWithin}
 use Rattle.ffi3_caller.proofs.Results.{are_within, in_registers, direct_value, buffer_within, hidden_value}
 use Rattle.ffi3_caller.proofs.load_result.Goals as goal

@@ -1,5 +1,5 @@
 use Rattle.std.proofs.Common.{◌<◌, ℕ, get_or, subst}
-use Rattle.ffi3_explain_rules.specs.Laws.{HasWords}
+use Rattle.ffi3_explain_spec.specs.Laws.{HasWords}
 use Rattle.ffi3_explain.specs.ImageOf.{image_of}
 use Rattle.ffi3_explain.proofs.Top.{values_held, values_fit, held_values, held_fault}
 use Rattle.ffi3_explain.proofs.explain.Goals as goal

@@ -1,7 +1,7 @@
 use Rattle.std.proofs.Common.{arith, ◌≡◌, ap, sym, subst, ◌∙◌}
-use Rattle.ffi3_type_rules.proofs.Placed.{faultless_is_plain}
-use Rattle.ffi3_place_rules.proofs.OnMachine.{as_before}
-use Rattle.ffi3_explain_rules.specs.Explain.{checks_of_count, checks_of_hidden, first_broken}
+use Rattle.ffi3_type_spec.proofs.Placed.{faultless_is_plain}
+use Rattle.ffi3_place_spec.proofs.OnMachine.{as_before}
+use Rattle.ffi3_explain_spec.specs.Explain.{checks_of_count, checks_of_hidden, first_broken}
 use Rattle.ffi3_explain.specs.ImageOf.{image_of}
 use Rattle.ffi3_explain.specs.Places.{HiddenIsThere}
 use Rattle.ffi3_explain.proofs.Ready.{result_ready}

@@ -1,5 +1,5 @@
 use Rattle.std.proofs.Common.{sym}
-use Rattle.ffi3_format_rules.proofs.Resolving.{own_signature}
+use Rattle.ffi3_format_spec.proofs.Resolving.{own_signature}
 use Rattle.ffi3_format.proofs.resolve.Goals as goal
 
 pub returns-then-not-signature_wants_format : goal.returns-then-not-signature_wants_format

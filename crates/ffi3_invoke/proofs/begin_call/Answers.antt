@@ -1,5 +1,5 @@
 use Rattle.std.proofs.Common.{◌≡◌, ◌+◌, ◌∙◌, refl, arith}
-use Rattle.ffi3_place_rules.specs.Standard.{block_bytes, frame_of, need_of}
+use Rattle.ffi3_place_spec.specs.Standard.{block_bytes, frame_of, need_of}
 use Rattle.ffi3_invoke.proofs.Made.{begun}
 use Rattle.ffi3_invoke.proofs.begin_call.Goals as goal
 

@@ -1,5 +1,5 @@
 use Rattle.std.proofs.Common.{◌≤◌, ◌∙◌}
-use Rattle.ffi3_type_rules.specs.declared.limits.TheConstants.{STACK}
+use Rattle.ffi3_type_spec.specs.declared.limits.TheConstants.{STACK}
 use Rattle.ffi3_values.specs.ValueOf.{value_of}
 use Rattle.ffi3_invoke.proofs.Made.{callee_low, ended, frame_fits, returned_target, start_high, start_low}
 use Rattle.ffi3_invoke.proofs.end_call.Goals as goal

@@ -1,7 +1,7 @@
 use Rattle.std.proofs.Common.{◌≡◌, sym, subst, ◌∙◌}
-use Rattle.ffi3_type_rules.specs.Signature.{Signature, SignatureIsPlaced}
-use Rattle.ffi3_format_rules.specs.declared.Format.{Format}
-use Rattle.ffi3_format_rules.specs.Format.{format_of}
+use Rattle.ffi3_type_spec.specs.Signature.{Signature, SignatureIsPlaced}
+use Rattle.ffi3_format_spec.specs.declared.Format.{Format}
+use Rattle.ffi3_format_spec.specs.Format.{format_of}
 use Rattle.ffi3_nodes.specs.Read.{IsCallableWithout, IsSignatureFor}
 use Rattle.ffi3_prepared.proofs.prepare.Goals as goal
 

@@ -1,6 +1,6 @@
 use Rattle.std.proofs.Common.{subst}
-use Rattle.ffi3_type_rules.specs.Layout.{size_of, leaves_of}
-use Rattle.ffi3_riscv_rules.proofs.Shapes.{Suits, passed_suits, passed_has_room}
+use Rattle.ffi3_type_spec.specs.Layout.{size_of, leaves_of}
+use Rattle.ffi3_riscv_spec.proofs.Shapes.{Suits, passed_suits, passed_has_room}
 use Rattle.ffi3_riscv.proofs.passed_after.Goals as goal
 
 pub returns-clause-suits : goal.returns-clause-suits

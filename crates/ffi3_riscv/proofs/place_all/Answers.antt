@@ -1,7 +1,7 @@
 use Rattle.std.proofs.Common.{◌<◌, ap, refl, subst, arith}
-use Rattle.ffi3_type_rules.specs.Tree.{tree_at}
+use Rattle.ffi3_type_spec.specs.Tree.{tree_at}
 use Rattle.ffi3_place.specs.WithoutCopy.{without_copy}
-use Rattle.ffi3_riscv_rules.proofs.Turns.{taken_turn, places_turn}
+use Rattle.ffi3_riscv_spec.proofs.Turns.{taken_turn, places_turn}
 use Rattle.ffi3_riscv.proofs.place_all.Goals as goal
 
 pub loop-i-preserved : goal.loop-i-preserved

@@ -1,6 +1,6 @@
 use Rattle.std.proofs.Common.{◌≡◌, ◌+◌, ◌*◌, ◌≤◌, ◌++◌, map, drop}
 use Rattle.ffi3_place.specs.WithoutCopy.{without_copy}
-use Rattle.ffi3_riscv_rules.specs.Riscv.{spots_after, taken_after, taken_by_all, placing_of}
+use Rattle.ffi3_riscv_spec.specs.Riscv.{spots_after, taken_after, taken_by_all, placing_of}
 use Rattle.ffi3_riscv.proofs.place_all.Given as goal
 
 abbrev pub invariant-loop-i : goal.invariant-loop-i

@@ -1,15 +1,15 @@
 use Rattle.std.proofs.Common.{◌≡◌, ℕ, List, ap, sym, ◌∙◌, refl}
-use Rattle.ffi3_type_rules.specs.Tree.{Tree, void}
+use Rattle.ffi3_type_spec.specs.Tree.{Tree, void}
 use Rattle.ffi3_types.specs.declared.FfiType.{FfiType}
 use Rattle.ffi3_types.specs.declared.FfiType.TheVariants.{Void}
 use Rattle.ffi3_types.specs.TreeOf.{tree_of}
-use Rattle.ffi3_place_rules.specs.declared.Loc.{Loc}
-use Rattle.ffi3_place_rules.specs.declared.Piece.{Piece}
-use Rattle.ffi3_place_rules.specs.declared.Place.TheVariants.{Direct, ByRef}
-use Rattle.ffi3_place_rules.specs.declared.Res.TheVariants.{Direct as DirectRes, Hidden}
-use Rattle.ffi3_place_rules.specs.Standard.{Spot, in_pieces, by_reference, start, result_at}
+use Rattle.ffi3_place_spec.specs.declared.Loc.{Loc}
+use Rattle.ffi3_place_spec.specs.declared.Piece.{Piece}
+use Rattle.ffi3_place_spec.specs.declared.Place.TheVariants.{Direct, ByRef}
+use Rattle.ffi3_place_spec.specs.declared.Res.TheVariants.{Direct as DirectRes, Hidden}
+use Rattle.ffi3_place_spec.specs.Standard.{Spot, in_pieces, by_reference, start, result_at}
 use Rattle.ffi3_place.specs.WithoutCopy.{without_copy}
-use Rattle.ffi3_riscv_rules.specs.Riscv.{untouched, spot_of, result_shape, result_from, result_spot_of}
+use Rattle.ffi3_riscv_spec.specs.Riscv.{untouched, spot_of, result_shape, result_from, result_spot_of}
 use Rattle.ffi3_riscv.proofs.place_result.Goals as goal
 
 not_void : (ty : FfiType) → ¬ (ty ≡ Void) → ¬ (tree_of ty ≡ void)

@@ -1,8 +1,8 @@
 use Rattle.std.proofs.Common.{length, ap, ◌∙◌}
 use Rattle.std.proofs.lemmas.List.{length-map}
 use Rattle.ffi3_place.specs.WithoutCopy.{without_copy}
-use Rattle.ffi3_riscv_rules.specs.Riscv.{placing_of}
-use Rattle.ffi3_riscv_rules.proofs.Ends.{one_each}
+use Rattle.ffi3_riscv_spec.specs.Riscv.{placing_of}
+use Rattle.ffi3_riscv_spec.proofs.Ends.{one_each}
 use Rattle.ffi3_riscv.proofs.plan_of.Goals as goal
 
 pub lay_copies-copies_end-requires-clause-one_each : goal.lay_copies-copies_end-requires-clause-one_each

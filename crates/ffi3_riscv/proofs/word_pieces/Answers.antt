@@ -1,7 +1,7 @@
 use Rattle.std.proofs.Common.{◌+◌}
-use Rattle.ffi3_type_rules.specs.Layout.{size_of}
-use Rattle.ffi3_place_rules.proofs.Doublewords.{doublewords_turn}
-use Rattle.ffi3_riscv_rules.specs.Riscv.{word, extension}
+use Rattle.ffi3_type_spec.specs.Layout.{size_of}
+use Rattle.ffi3_place_spec.proofs.Doublewords.{doublewords_turn}
+use Rattle.ffi3_riscv_spec.specs.Riscv.{word, extension}
 use Rattle.ffi3_riscv.proofs.word_pieces.Goals as goal
 
 pub loop-j-preserved : goal.loop-j-preserved

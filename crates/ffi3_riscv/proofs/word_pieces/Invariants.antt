@@ -1,7 +1,7 @@
 use Rattle.std.proofs.Common.{◌≡◌, ◌+◌, ◌-◌, ◌++◌}
-use Rattle.ffi3_type_rules.specs.Layout.{size_of}
-use Rattle.ffi3_place_rules.specs.Doublewords.{doublewords_at}
-use Rattle.ffi3_riscv_rules.specs.Riscv.{word, extension, word_pieces}
+use Rattle.ffi3_type_spec.specs.Layout.{size_of}
+use Rattle.ffi3_place_spec.specs.Doublewords.{doublewords_at}
+use Rattle.ffi3_riscv_spec.specs.Riscv.{word, extension, word_pieces}
 use Rattle.ffi3_riscv.proofs.word_pieces.Given as goal
 
 abbrev pub invariant-loop-j : goal.invariant-loop-j

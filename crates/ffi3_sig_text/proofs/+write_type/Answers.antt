@@ -1,5 +1,5 @@
 use Rattle.std.proofs.Common.{◌≡◌, ◌-◌, ◌++◌, ap, ◌∙◌, arith, [], ◌∷◌, drop}
-use Rattle.ffi3_type_rules.specs.Tree.{tree_at}
+use Rattle.ffi3_type_spec.specs.Tree.{tree_at}
 use Rattle.ffi3_sig_text.specs.SigText.{told_text}
 use Rattle.ffi3_sig_text.proofs.Texts.{texts_before, texts_before-text, range-none, range-first, range-next}
 use Rattle.ffi3_types.specs.TreeOf.{tree_of}

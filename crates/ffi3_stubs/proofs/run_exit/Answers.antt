@@ -1,9 +1,9 @@
 use Rattle.std.proofs.Common.{◌≡◌, ℕ, ap, ◌∙◌, subst, sym, refl}
-use Rattle.ffi3_type_rules.specs.declared.Isa.{Isa}
-use Rattle.ffi3_type_rules.specs.Isa.{isa_of}
+use Rattle.ffi3_type_spec.specs.declared.Isa.{Isa}
+use Rattle.ffi3_type_spec.specs.TargetIsa.{isa_of}
 use Rattle.ffi3_machine.specs.State.{State, with_pc}
 use Rattle.ffi3_machine.specs.Stubs.{Exit, stub_at}
-use Rattle.ffi3_machine.specs.Step.{TakesSteps}
+use Rattle.ffi3_machine.specs.MachineStep.{TakesSteps}
 use Rattle.ffi3_stubs.specs.Calls.{steps_of, after_exit, HasLeft}
 use Rattle.ffi3_stubs.proofs.Standing.{in_turn}
 use Rattle.ffi3_stubs.proofs.Loops.{counted_steps}

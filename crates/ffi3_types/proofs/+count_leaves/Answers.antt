@@ -1,10 +1,10 @@
 use Rattle.std.proofs.Common.{◌+◌, ◌*◌, ap, sym, ◌∙◌, arith, length}
-use Rattle.ffi3_type_rules.specs.declared.Role.TheVariants.{Anywhere}
-use Rattle.ffi3_type_rules.specs.Tree.{struct_of, array, trees_of}
-use Rattle.ffi3_type_rules.specs.Layout.{leaves_of}
-use Rattle.ffi3_type_rules.proofs.Faults.{right_is_small, element_is_right}
-use Rattle.ffi3_type_rules.proofs.ArrayPlaces.{array_is_shaped, array_element_is_right, array_count_is}
-use Rattle.ffi3_type_rules.proofs.Leaves.{leaves-turn, leaves_at_end, leaves_within_struct, leaves_le-size}
+use Rattle.ffi3_type_spec.specs.declared.Role.TheVariants.{Anywhere}
+use Rattle.ffi3_type_spec.specs.Tree.{struct_of, array, trees_of}
+use Rattle.ffi3_type_spec.specs.Layout.{leaves_of}
+use Rattle.ffi3_type_spec.proofs.Faults.{right_is_small, element_is_right}
+use Rattle.ffi3_type_spec.proofs.ArrayPlaces.{array_is_shaped, array_element_is_right, array_count_is}
+use Rattle.ffi3_type_spec.proofs.Leaves.{leaves-turn, leaves_at_end, leaves_within_struct, leaves_le-size}
 use Rattle.ffi3_types.proofs.+count_leaves.Goals as goal
 
 pub Fields::count_leaves-count_leaves-total-requires : goal.Fields::count_leaves-count_leaves-total-requires

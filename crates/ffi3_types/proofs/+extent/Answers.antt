@@ -1,13 +1,13 @@
 use Rattle.std.proofs.Common.{◌<◌, ◌*◌, ap, sym, ◌∙◌, arith, length}
 use Rattle.std.proofs.lemmas.List.{length-map}
-use Rattle.ffi3_type_rules.specs.declared.limits.TheConstants.{LARGEST_TYPE}
-use Rattle.ffi3_type_rules.specs.declared.Role.TheVariants.{Anywhere}
-use Rattle.ffi3_type_rules.specs.Tree.{nodes, void, array, trees_of}
-use Rattle.ffi3_type_rules.specs.Layout.{size_of, align_of, layouts}
-use Rattle.ffi3_type_rules.proofs.Faults.{right_is_small}
-use Rattle.ffi3_type_rules.proofs.ElementPlaces.{elements_laid_out, all_small}
-use Rattle.ffi3_type_rules.proofs.ArrayPlaces.{array_is_shaped, array_element_is_right, array_size_is, array_align_is}
-use Rattle.ffi3_type_rules.proofs.Layouts.{everywhere, align_positive, align_bounded, end_before-bounded, align_before-positive, align_before-bounded, aligns_bounded, nodes-element, end_before-turn, align_before-turn, size_at_end, align_at_end}
+use Rattle.ffi3_type_spec.specs.declared.limits.TheConstants.{LARGEST_TYPE}
+use Rattle.ffi3_type_spec.specs.declared.Role.TheVariants.{Anywhere}
+use Rattle.ffi3_type_spec.specs.Tree.{nodes, void, array, trees_of}
+use Rattle.ffi3_type_spec.specs.Layout.{size_of, align_of, layouts}
+use Rattle.ffi3_type_spec.proofs.Faults.{right_is_small}
+use Rattle.ffi3_type_spec.proofs.ElementPlaces.{elements_laid_out, all_small}
+use Rattle.ffi3_type_spec.proofs.ArrayPlaces.{array_is_shaped, array_element_is_right, array_size_is, array_align_is}
+use Rattle.ffi3_type_spec.proofs.Layouts.{everywhere, align_positive, align_bounded, end_before-bounded, align_before-positive, align_before-bounded, aligns_bounded, nodes-element, end_before-turn, align_before-turn, size_at_end, align_at_end}
 use Rattle.ffi3_types.specs.TreeOf.{tree_of}
 use Rattle.ffi3_types.proofs.+extent.Goals as goal
 use Rattle.ffi3_types.proofs.+extent.Goals.{Fields::front-then-item-align, Fields::front-else-item-align}

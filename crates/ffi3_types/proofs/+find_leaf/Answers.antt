@@ -1,15 +1,15 @@
 use Rattle.std.proofs.Common.{◌≡◌, ◌+◌, ◌*◌, ◌/◌, ◌%◌, ◌<◌, ℕ, List, ap, sym, ◌∙◌, arith, length}
 use Rattle.std.proofs.Math.Nat.{mul-div_cancel_left}
-use Rattle.ffi3_type_rules.specs.declared.Role.TheVariants.{Anywhere}
-use Rattle.ffi3_type_rules.specs.Tree.{Tree, struct_of, array, tree_at, trees_of, scalar}
-use Rattle.ffi3_type_rules.specs.Layout.{size_of, leaves_of, layouts, least_multiple, start_of, end_before, align_of}
-use Rattle.ffi3_type_rules.proofs.Layouts.{align_positive, align_bounded, start-turn, end_before-turn}
-use Rattle.ffi3_type_rules.proofs.Leaves.{leaves-turn, leaves_at_end, leaves_within_struct, leaf_of_struct}
-use Rattle.ffi3_type_rules.proofs.Values.{element_within, end_within}
-use Rattle.ffi3_type_rules.proofs.Faults.{right_is_small}
-use Rattle.ffi3_type_rules.proofs.ElementPlaces.{right_here}
-use Rattle.ffi3_type_rules.proofs.ArrayPlaces.{Lies, lies_in_element, array_is_shaped, array_element_is_right, array_count_is, array_size_is, array_leaf_there, element_in_array}
-use Rattle.ffi3_type_rules.specs.Fault.{IsLaidOut}
+use Rattle.ffi3_type_spec.specs.declared.Role.TheVariants.{Anywhere}
+use Rattle.ffi3_type_spec.specs.Tree.{Tree, struct_of, array, tree_at, trees_of, scalar}
+use Rattle.ffi3_type_spec.specs.Layout.{size_of, leaves_of, layouts, least_multiple, start_of, end_before, align_of}
+use Rattle.ffi3_type_spec.proofs.Layouts.{align_positive, align_bounded, start-turn, end_before-turn}
+use Rattle.ffi3_type_spec.proofs.Leaves.{leaves-turn, leaves_at_end, leaves_within_struct, leaf_of_struct}
+use Rattle.ffi3_type_spec.proofs.Values.{element_within, end_within}
+use Rattle.ffi3_type_spec.proofs.Faults.{right_is_small}
+use Rattle.ffi3_type_spec.proofs.ElementPlaces.{right_here}
+use Rattle.ffi3_type_spec.proofs.ArrayPlaces.{Lies, lies_in_element, array_is_shaped, array_element_is_right, array_count_is, array_size_is, array_leaf_there, element_in_array}
+use Rattle.ffi3_type_spec.specs.Fault.{IsLaidOut}
 use Rattle.ffi3_types.specs.TreeOf.{tree_of}
 use Rattle.ffi3_types.proofs.+find_leaf.Goals as goal
 

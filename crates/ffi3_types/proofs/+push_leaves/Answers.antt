@@ -1,12 +1,12 @@
 use Rattle.std.proofs.Common.{◌≡◌, ◌++◌, map, ap, ◌∙◌, arith}
-use Rattle.ffi3_type_rules.specs.declared.Role.TheVariants.{Anywhere}
-use Rattle.ffi3_type_rules.specs.Tree.{struct_of, trees_of}
-use Rattle.ffi3_type_rules.specs.Layout.{size_of, moved, layouts, element, repeated}
-use Rattle.ffi3_type_rules.proofs.Layouts.{align_positive, align_bounded, start-turn, end_before-turn}
-use Rattle.ffi3_type_rules.proofs.Values.{element_within, end_within}
-use Rattle.ffi3_type_rules.proofs.Faults.{right_is_small}
-use Rattle.ffi3_type_rules.proofs.ElementPlaces.{right_here}
-use Rattle.ffi3_type_rules.proofs.ArrayPlaces.{array_is_shaped, array_element_is_right, element_in_array}
+use Rattle.ffi3_type_spec.specs.declared.Role.TheVariants.{Anywhere}
+use Rattle.ffi3_type_spec.specs.Tree.{struct_of, trees_of}
+use Rattle.ffi3_type_spec.specs.Layout.{size_of, moved, layouts, element, repeated}
+use Rattle.ffi3_type_spec.proofs.Layouts.{align_positive, align_bounded, start-turn, end_before-turn}
+use Rattle.ffi3_type_spec.proofs.Values.{element_within, end_within}
+use Rattle.ffi3_type_spec.proofs.Faults.{right_is_small}
+use Rattle.ffi3_type_spec.proofs.ElementPlaces.{right_here}
+use Rattle.ffi3_type_spec.proofs.ArrayPlaces.{array_is_shaped, array_element_is_right, element_in_array}
 use Rattle.ffi3_types.specs.TreeOf.{tree_of}
 use Rattle.ffi3_types.proofs.PushedLeaves.{pushed-turn, pushed_at_end, repeated-turn}
 use Rattle.ffi3_types.proofs.+push_leaves.Goals as goal

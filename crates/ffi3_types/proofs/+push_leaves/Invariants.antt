@@ -1,6 +1,6 @@
 use Rattle.std.proofs.Common.{◌≡◌, ◌+◌, ◌*◌, ◌++◌, map}
-use Rattle.ffi3_type_rules.specs.Tree.{nodes, all_nodes, trees_of}
-use Rattle.ffi3_type_rules.specs.Layout.{layouts, element, end_before, leaves_before, repeated, moved}
+use Rattle.ffi3_type_spec.specs.Tree.{nodes, all_nodes, trees_of}
+use Rattle.ffi3_type_spec.specs.Layout.{layouts, element, end_before, leaves_before, repeated, moved}
 use Rattle.ffi3_types.specs.TreeOf.{tree_of}
 use Rattle.ffi3_types.proofs.+push_leaves.Given as goal
 

@@ -1,7 +1,7 @@
 use Rattle.std.proofs.Common.{◌≡◌, ◌-◌, ◌++◌, ap, ◌∙◌, arith, [], ◌∷◌, drop}
-use Rattle.ffi3_type_rules.specs.Tree.{tree_at}
-use Rattle.ffi3_type_rules.specs.Text.{text_of}
-use Rattle.ffi3_type_rules.proofs.Texts.{texts_before, texts_before-text, range-none, range-first, range-next}
+use Rattle.ffi3_type_spec.specs.Tree.{tree_at}
+use Rattle.ffi3_type_spec.specs.Text.{text_of}
+use Rattle.ffi3_type_spec.proofs.Texts.{texts_before, texts_before-text, range-none, range-first, range-next}
 use Rattle.ffi3_types.specs.TreeOf.{tree_of}
 use Rattle.ffi3_types.proofs.+write_text.Goals as goal
 use Rattle.ffi3_types.proofs.+write_text.Goals.{Fields::write_range-then-i-from+in_ok-push, Fields::write_range-else-i-from}

@@ -1,6 +1,6 @@
 use Rattle.std.proofs.Common.{◌≡◌, ◌+◌, ◌*◌, ◌-◌, ◌++◌, drop}
-use Rattle.ffi3_type_rules.specs.Tree.{nodes, all_nodes, trees_of}
-use Rattle.ffi3_type_rules.proofs.Texts.{texts_before}
+use Rattle.ffi3_type_spec.specs.Tree.{nodes, all_nodes, trees_of}
+use Rattle.ffi3_type_spec.proofs.Texts.{texts_before}
 use Rattle.ffi3_types.specs.TreeOf.{tree_of}
 use Rattle.ffi3_types.proofs.+write_text.Given as goal
 

@@ -1,5 +1,5 @@
 use Rattle.std.proofs.Common.{◌≡◌, ◌+◌, ◌*◌, take}
-use Rattle.ffi3_type_rules.specs.Value.{value_nodes, all_value_nodes, values_of}
+use Rattle.ffi3_type_spec.specs.Value.{value_nodes, all_value_nodes, values_of}
 use Rattle.ffi3_values.specs.ValueOf.{value_of}
 use Rattle.ffi3_values.proofs.+copy.Given as goal
 

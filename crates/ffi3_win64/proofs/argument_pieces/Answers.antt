@@ -1,6 +1,6 @@
 use Rattle.std.proofs.Common.{◌≡◌, subst, sym, ◌∙◌}
 use Rattle.std.specs.Prelude.{IfOk}
-use Rattle.ffi3_win64_rules.proofs.Positions.{pieces_of_floating}
+use Rattle.ffi3_win64_spec.proofs.Positions.{pieces_of_floating}
 use Rattle.ffi3_win64.proofs.argument_pieces.Goals as goal
 
 pub returns-then-p-lt4 : goal.returns-then-p-lt4

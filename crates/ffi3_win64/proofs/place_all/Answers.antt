@@ -1,7 +1,7 @@
 use Rattle.std.proofs.Common.{◌<◌, ◌+◌, sym, ◌∙◌, subst, arith}
 use Rattle.std.specs.Prelude.{is_some}
-use Rattle.ffi3_win64_rules.specs.Win64.{win64, spot_at}
-use Rattle.ffi3_win64_rules.proofs.Turns.{copies_turn, places_turn, round16-near}
+use Rattle.ffi3_win64_spec.specs.Win64.{win64, spot_at}
+use Rattle.ffi3_win64_spec.proofs.Turns.{copies_turn, places_turn, round16-near}
 use Rattle.ffi3_win64.proofs.place_all.Goals as goal
 
 pub loop-i-preserved : goal.loop-i-preserved

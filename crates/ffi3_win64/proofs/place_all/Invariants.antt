@@ -1,8 +1,8 @@
 use Rattle.std.proofs.Common.{◌≡◌, ◌+◌, ◌*◌, ◌≤◌, ◌++◌, drop}
 use Rattle.std.specs.Prelude.{is_some}
-use Rattle.ffi3_type_rules.specs.declared.limits.TheConstants.{ARGUMENT_SPAN}
-use Rattle.ffi3_place_rules.specs.Standard.{places_from, copies_end}
-use Rattle.ffi3_win64_rules.specs.Win64.{win64, spots_from}
+use Rattle.ffi3_type_spec.specs.declared.limits.TheConstants.{ARGUMENT_SPAN}
+use Rattle.ffi3_place_spec.specs.Standard.{places_from, copies_end}
+use Rattle.ffi3_win64_spec.specs.Win64.{win64, spots_from}
 use Rattle.ffi3_win64.proofs.place_all.Given as goal
 
 abbrev pub invariant-loop-i : goal.invariant-loop-i

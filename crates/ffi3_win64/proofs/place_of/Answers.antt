@@ -1,8 +1,8 @@
 use Rattle.std.proofs.Common.{ap, sym, ◌∙◌}
 use Rattle.std.specs.Prelude.{cond}
-use Rattle.ffi3_place_rules.specs.declared.Place.TheVariants.{ByRef}
-use Rattle.ffi3_place_rules.specs.Standard.{place_at, in_pieces, by_reference}
-use Rattle.ffi3_win64_rules.specs.Win64.{win64, position_place, argument_pieces}
+use Rattle.ffi3_place_spec.specs.declared.Place.TheVariants.{ByRef}
+use Rattle.ffi3_place_spec.specs.Standard.{place_at, in_pieces, by_reference}
+use Rattle.ffi3_win64_spec.specs.Win64.{win64, position_place, argument_pieces}
 use Rattle.ffi3_win64.proofs.place_of.Goals as goal
 
 pub returns-then-is_copied : goal.returns-then-is_copied

@@ -1,8 +1,8 @@
 use Rattle.std.proofs.Common.{ℕ, ap, ◌∙◌}
-use Rattle.ffi3_type_rules.specs.Layout.{size_of}
-use Rattle.ffi3_place_rules.specs.Doublewords.{widening}
-use Rattle.ffi3_place_rules.specs.declared.Ext.{Ext}
-use Rattle.ffi3_place_rules.specs.declared.Piece.{Piece}
+use Rattle.ffi3_type_spec.specs.Layout.{size_of}
+use Rattle.ffi3_place_spec.specs.Doublewords.{widening}
+use Rattle.ffi3_place_spec.specs.declared.Ext.{Ext}
+use Rattle.ffi3_place_spec.specs.declared.Piece.{Piece}
 use Rattle.ffi3_win64.proofs.whole.Goals as goal
 
 pub returns : goal.returns

@@ -1,8 +1,8 @@
 use Rattle.std.proofs.Common.{◌≤◌, ap, ◌∙◌, arith}
-use Rattle.ffi3_type_rules.specs.declared.limits.TheConstants.{LARGEST_TYPE}
-use Rattle.ffi3_type_rules.specs.declared.Role.TheVariants.{Anywhere}
-use Rattle.ffi3_type_rules.specs.Layout.{size_of, align_of}
-use Rattle.ffi3_type_rules.proofs.Faults.{right_is_small}
+use Rattle.ffi3_type_spec.specs.declared.limits.TheConstants.{LARGEST_TYPE}
+use Rattle.ffi3_type_spec.specs.declared.Role.TheVariants.{Anywhere}
+use Rattle.ffi3_type_spec.specs.Layout.{size_of, align_of}
+use Rattle.ffi3_type_spec.proofs.Faults.{right_is_small}
 use Rattle.ffi3_types.specs.TreeOf.{tree_of}
 use Rattle.ffi3_aapcs64.proofs.Classed.of.Goals as goal
 

@@ -1,7 +1,7 @@
-use Rattle.ffi3_place_rules.proofs.Alike.{arrays_as_elements}
-use Rattle.ffi3_amd64_rules.specs.Amd64.{amd64}
-use Rattle.ffi3_amd64_rules.proofs.Alike.{goes_by_layout}
-use Rattle.ffi3_amd64_rules.proofs.Ends.{call_by_ends}
+use Rattle.ffi3_place_spec.proofs.Alike.{arrays_as_elements}
+use Rattle.ffi3_amd64_spec.specs.Amd64.{amd64}
+use Rattle.ffi3_amd64_spec.proofs.Alike.{goes_by_layout}
+use Rattle.ffi3_amd64_spec.proofs.Ends.{call_by_ends}
 use Rattle.ffi3_amd64.proofs.laws.placement_laws.Goals as goal
 
 pub returns-clause-ends : goal.returns-clause-ends

@@ -1,11 +1,11 @@
 use Rattle.std.proofs.Common.{rules, ◌≡◌, ℕ, List, refl, subst, sym}
 use Rattle.std.specs.Prelude.{Err}
 use Rattle.std.specs.List.{flat_map}
-use Rattle.ffi3_type_rules.specs.Signature.{Signature, SignatureIsPlaced}
-use Rattle.ffi3_format_rules.specs.declared.Format.{Format}
-use Rattle.ffi3_format_rules.specs.Format.{resolved_signature}
-use Rattle.ffi3_cdecl_rules.specs.Tokens.{signed}
-use Rattle.ffi3_names_rules.specs.Scan.{names_in}
+use Rattle.ffi3_type_spec.specs.Signature.{Signature, SignatureIsPlaced}
+use Rattle.ffi3_format_spec.specs.declared.Format.{Format}
+use Rattle.ffi3_format_spec.specs.Format.{resolved_signature}
+use Rattle.ffi3_cdecl_spec.specs.Tokens.{signed}
+use Rattle.ffi3_names_spec.specs.Scan.{names_in}
 use Rattle.ffi3_names.specs.NamesOf.{names_of}
 use Rattle.ffi3_app.specs.Declarations.{prototype_lines, cplace_text, every_target, placed_on}
 use Rattle.ffi3_app.proofs.Pieces.{Wrote, continues_from, continues_on, continues_ended, continues_last, wrote_for}

@@ -1,9 +1,9 @@
 use Rattle.std.proofs.Common.{rules, ◌≡◌, ◌∙◌, ap, sym, subst, refl}
 use Rattle.std.specs.Prelude.{Err}
 use Rattle.std.specs.List.{concat}
-use Rattle.ffi3_type_rules.specs.Signature.{SignatureIsPlaced}
-use Rattle.ffi3_format_rules.specs.Format.{format_of, resolved_signature}
-use Rattle.ffi3_explain_rules.specs.Standards.{standard_of}
+use Rattle.ffi3_type_spec.specs.Signature.{SignatureIsPlaced}
+use Rattle.ffi3_format_spec.specs.Format.{format_of, resolved_signature}
+use Rattle.ffi3_explain_spec.specs.Standards.{standard_of}
 use Rattle.ffi3_names.specs.NamesOf.{names_of}
 use Rattle.ffi3_app.specs.Declarations.{named_lines, placed_on, target_line}
 use Rattle.ffi3_app.proofs.Pieces.{continues_from, continues_on, continues_ended, continues_last, wrote_for}

@@ -1,8 +1,8 @@
 use Rattle.std.proofs.Common.{rules, ◌≡◌, ◌++◌, [], map, refl, sym, ap}
 use Rattle.std.specs.Prelude.{Err}
 use Rattle.std.proofs.lemmas.List.{append-nil}
-use Rattle.ffi3_type_rules.specs.Signature.{at_result, at_argument}
-use Rattle.ffi3_type_rules.specs.Tree.{void}
+use Rattle.ffi3_type_spec.specs.Signature.{at_result, at_argument}
+use Rattle.ffi3_type_spec.specs.Tree.{void}
 use Rattle.ffi3_text.specs.LayoutLines.{layout_text_of}
 use Rattle.std.specs.List.{concat}
 use Rattle.ffi3_app.specs.Commands.{layout_lines, arguments_from}

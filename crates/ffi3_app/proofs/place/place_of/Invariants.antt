@@ -1,5 +1,5 @@
 use Rattle.std.proofs.Common.{drop, [], ◌∷◌, ◌++◌, map}
-use Rattle.ffi3_type_rules.specs.Signature.{at_result}
+use Rattle.ffi3_type_spec.specs.Signature.{at_result}
 use Rattle.ffi3_text.specs.PlaceLines.{place_text_of}
 use Rattle.std.specs.List.{concat}
 use Rattle.ffi3_names.specs.NamesOf.{names_of}

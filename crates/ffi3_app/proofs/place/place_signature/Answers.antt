@@ -1,4 +1,4 @@
-use Rattle.ffi3_type_rules.specs.declared.Target.TheVariants.{Amd64, Aapcs64, Riscv, Win64, Apple}
+use Rattle.ffi3_type_spec.specs.declared.Target.TheVariants.{Amd64, Aapcs64, Riscv, Win64, Apple}
 use Rattle.std.specs.List.{concat}
 use Rattle.ffi3_names.specs.NamesOf.{names_of}
 use Rattle.ffi3_app.specs.Declarations.{named_lines}

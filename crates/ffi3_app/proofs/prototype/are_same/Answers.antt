@@ -1,8 +1,8 @@
 use Rattle.std.proofs.Common.{◌≡◌, Bool, true, false, sym, subst, refl}
 use Rattle.std.specs.Prelude.{◌↔◌, IsTrue}
 use Rattle.std.proofs.lemmas.Bool.{false≢true, false_from_ne_true}
-use Rattle.ffi3_type_rules.specs.Same.{same_tree}
-use Rattle.ffi3_type_rules.proofs.Tests.{types_are_same, type_is_itself}
+use Rattle.ffi3_type_spec.specs.Same.{same_tree}
+use Rattle.ffi3_type_spec.proofs.Tests.{types_are_same, type_is_itself}
 use Rattle.ffi3_types.specs.declared.FfiType.{FfiType}
 use Rattle.ffi3_types.specs.TreeOf.{tree_of}
 use Rattle.ffi3_types.proofs.Trees.{tree_of-inj}

@@ -1,5 +1,5 @@
 use Rattle.std.proofs.Common.{◌≡◌, ◌+◌, ◌-◌, drop, length}
-use Rattle.ffi3_cdecl_rules.specs.Prototype.{same_front}
+use Rattle.ffi3_cdecl_spec.specs.Prototype.{same_front}
 use Rattle.ffi3_app.proofs.prototype.first_other.Given as goal
 
 abbrev pub decreases-loop-i : goal.decreases-loop-i

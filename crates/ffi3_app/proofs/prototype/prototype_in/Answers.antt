@@ -1,10 +1,10 @@
 use Rattle.std.proofs.Common.{rules, ◌≤◌, ◌<◌, length, refl}
 use Rattle.std.specs.Prelude.{codes}
 use Rattle.std.proofs.lemmas.Result.{IfOk-weaker, IfErr-weaker}
-use Rattle.ffi3_run_rules.specs.Lines.{a_line}
-use Rattle.ffi3_script_rules.specs.Reading.{max_length}
-use Rattle.ffi3_cdecl_rules.specs.Prototype.{read_as}
-use Rattle.ffi3_cdecl_rules.specs.Reading.{reads}
+use Rattle.ffi3_semantics_spec.specs.Lines.{a_line}
+use Rattle.ffi3_script_spec.specs.Reading.{max_length}
+use Rattle.ffi3_cdecl_spec.specs.Prototype.{read_as}
+use Rattle.ffi3_cdecl_spec.specs.Reading.{reads}
 use Rattle.ffi3_app.specs.Declarations.{too_many_bytes, not_utf8, IsPrototypeEverywhere}
 use Rattle.ffi3_app.specs.Outcome.{outcome_of_prototype}
 use Rattle.ffi3_app.proofs.Working.{refused_input, no_prototype, a_prototype, prototype_is_right}

@@ -1,6 +1,6 @@
 use Rattle.std.specs.Prelude.{codes}
-use Rattle.ffi3_run_rules.specs.Lines.{a_line}
-use Rattle.ffi3_script_rules.specs.ReasonText.{text_of_reason}
+use Rattle.ffi3_semantics_spec.specs.Lines.{a_line}
+use Rattle.ffi3_script_spec.specs.ReasonText.{text_of_reason}
 use Rattle.ffi3_json.specs.ReasonOf.{reason_of}
 use Rattle.ffi3_json.specs.declared.fault.ScriptFault.TheVariants.{TooLong, BadJson, BadScript}
 use Rattle.ffi3_app.specs.Outcome.{located_line}

@@ -1,6 +1,6 @@
 use Rattle.std.proofs.Common.{ap}
 use Rattle.ffi3_script.specs.ScriptOf.{script_of}
-use Rattle.ffi3_ask.proofs.Handing.{same_program}
+use Rattle.ffi3_next_move.proofs.Handing.{same_program}
 use Rattle.ffi3_app.proofs.Running.{failed_works, short_works}
 use Rattle.ffi3_app.proofs.work.run_by.Goals as goal
 

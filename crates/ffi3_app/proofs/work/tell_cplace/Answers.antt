@@ -1,8 +1,8 @@
 use Rattle.std.proofs.Common.{refl}
-use Rattle.ffi3_cdecl_rules.specs.Prototype.{read_as}
-use Rattle.ffi3_cdecl_rules.specs.Reading.{reads}
-use Rattle.ffi3_cdecl_rules.specs.Tokens.{signed}
-use Rattle.ffi3_names_rules.specs.Scan.{names_in}
+use Rattle.ffi3_cdecl_spec.specs.Prototype.{read_as}
+use Rattle.ffi3_cdecl_spec.specs.Reading.{reads}
+use Rattle.ffi3_cdecl_spec.specs.Tokens.{signed}
+use Rattle.ffi3_names_spec.specs.Scan.{names_in}
 use Rattle.ffi3_app.specs.Declarations.{a_text, cplace_text}
 use Rattle.ffi3_app.specs.Outcome.{tells, IsOfPrototype}
 use Rattle.ffi3_app.proofs.Called.{are_called}

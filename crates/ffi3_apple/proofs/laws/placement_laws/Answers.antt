@@ -1,7 +1,7 @@
-use Rattle.ffi3_place_rules.proofs.Alike.{arrays_as_elements}
-use Rattle.ffi3_apple_rules.specs.Apple.{apple}
-use Rattle.ffi3_apple_rules.proofs.Alike.{goes_by_layout}
-use Rattle.ffi3_apple_rules.proofs.Ends.{by_ends}
+use Rattle.ffi3_place_spec.proofs.Alike.{arrays_as_elements}
+use Rattle.ffi3_apple_spec.specs.Apple.{apple}
+use Rattle.ffi3_apple_spec.proofs.Alike.{goes_by_layout}
+use Rattle.ffi3_apple_spec.proofs.Ends.{by_ends}
 use Rattle.ffi3_apple.proofs.laws.placement_laws.Goals as goal
 
 pub returns-clause-ends : goal.returns-clause-ends

@@ -1,8 +1,8 @@
 use Rattle.std.proofs.Common.{rules, ◌≡◌}
 use Rattle.std.specs.Prelude.{Err}
-use Rattle.ffi3_amd64_rules.specs.Amd64.{amd64}
-use Rattle.ffi3_aapcs64_rules.specs.Aapcs64.{aapcs64}
-use Rattle.ffi3_riscv_rules.specs.Riscv.{riscv}
+use Rattle.ffi3_amd64_spec.specs.Amd64.{amd64}
+use Rattle.ffi3_aapcs64_spec.specs.Aapcs64.{aapcs64}
+use Rattle.ffi3_riscv_spec.specs.Riscv.{riscv}
 use Rattle.ffi3_io.specs.declared.IoError.TheVariants.{NoMemory}
 use Rattle.ffi3_script.specs.ScriptOf.{script_of}
 use Rattle.ffi3_bench.specs.BenchText.{bench_text}

@@ -1,5 +1,5 @@
 use Rattle.std.proofs.Common.{rules, ◌≡◌, ◌++◌}
-use Rattle.ffi3_script_rules.specs.Meaning.{program_of}
+use Rattle.ffi3_script_spec.specs.Meaning.{program_of}
 use Rattle.ffi3_script.specs.ScriptOf.{script_of}
 use Rattle.ffi3_bench.specs.BenchText.{counts_text}
 use Rattle.ffi3_bench.proofs.ThreeLines.{measured_line}

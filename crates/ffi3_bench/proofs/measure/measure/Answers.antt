@@ -1,5 +1,5 @@
 use Rattle.std.proofs.Common.{ap, ◌∙◌}
-use Rattle.ffi3_script_rules.specs.Meaning.{program_of}
+use Rattle.ffi3_script_spec.specs.Meaning.{program_of}
 use Rattle.ffi3_script.specs.ScriptOf.{script_of}
 use Rattle.ffi3_bench.proofs.Measuring.{line_is, never_fails, few_left, none_mapped, alone}
 use Rattle.ffi3_bench.proofs.measure.measure.Goals as goal

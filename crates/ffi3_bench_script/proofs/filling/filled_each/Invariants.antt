@@ -1,5 +1,5 @@
 use Rattle.std.proofs.Common.{◌≡◌, ◌≤◌, ◌+◌, ◌*◌, ◌++◌, map, drop}
-use Rattle.ffi3_script_rules.specs.Made.{filled_arguments}
+use Rattle.ffi3_script_spec.specs.Made.{filled_arguments}
 use Rattle.ffi3_script_body.specs.ExprOf.{expression_of}
 use Rattle.ffi3_bench_script.specs.KindOf.{types_of}
 use Rattle.ffi3_bench_script.proofs.filling.filled_each.Given as goal

@@ -1,5 +1,5 @@
 use Rattle.std.proofs.Common.{◌≡◌, ◌-◌, ◌++◌, length}
-use Rattle.ffi3_script_rules.specs.Made.{drawn_types, state_after}
+use Rattle.ffi3_script_spec.specs.Made.{drawn_types, state_after}
 use Rattle.ffi3_bench_script.specs.KindOf.{types_of, state_of}
 use Rattle.ffi3_bench_script.proofs.shapes.draw_kinds.Given as goal
 

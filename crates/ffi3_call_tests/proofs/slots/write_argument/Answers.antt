@@ -1,7 +1,7 @@
 use Rattle.std.proofs.Common.{ap, sym, ◌∙◌, arith}
 use Rattle.std.specs.Prelude.{length}
-use Rattle.ffi3_type_rules.specs.Tree.{tree_at}
-use Rattle.ffi3_type_rules.specs.Layout.{size_of}
+use Rattle.ffi3_type_spec.specs.Tree.{tree_at}
+use Rattle.ffi3_type_spec.specs.Layout.{size_of}
 use Rattle.ffi3_call_tests.proofs.slots.write_argument.Goals as goal
 
 pub arg-ty-requires : goal.arg-ty-requires

@@ -1,8 +1,8 @@
 use Rattle.std.specs.Prelude.{false}
 use Rattle.std.proofs.Common.{◌≡◌, ◌<◌, length, ap, refl, sym, ◌∙◌, arith}
-use Rattle.ffi3_type_rules.specs.Tree.{tree_at}
-use Rattle.ffi3_place_rules.specs.Standard.{plan_of}
-use Rattle.ffi3_place_rules.proofs.Elements.{argument_read}
+use Rattle.ffi3_type_spec.specs.Tree.{tree_at}
+use Rattle.ffi3_place_spec.specs.Standard.{plan_of}
+use Rattle.ffi3_place_spec.proofs.Elements.{argument_read}
 use Rattle.ffi3_marshal.proofs.Arguments.{place_read}
 use Rattle.ffi3_callee.specs.Poison.{hidden_has, places_have}
 use Rattle.ffi3_callee.proofs.Searching.{argument_has, argument_has_not, no_argument, not_first}

@@ -1,5 +1,5 @@
 use Rattle.std.proofs.Common.{◌≡◌, drop}
-use Rattle.ffi3_place_rules.specs.Standard.{plan_of}
+use Rattle.ffi3_place_spec.specs.Standard.{plan_of}
 use Rattle.ffi3_callee.specs.Poison.{places_have}
 use Rattle.ffi3_callee.proofs.poisoning.carries.Given as goal
 

@@ -1,10 +1,10 @@
 use Rattle.std.proofs.Common.{◌≡◌, ap, ◌∙◌, subst, arith}
-use Rattle.ffi3_type_rules.specs.Layout.{leaf_at, scalar_size}
-use Rattle.ffi3_type_rules.specs.Fault.{IsLaidOut}
-use Rattle.ffi3_type_rules.specs.declared.Role.TheVariants.{Anywhere}
-use Rattle.ffi3_type_rules.proofs.Faults.{right_is_small}
+use Rattle.ffi3_type_spec.specs.Layout.{leaf_at, scalar_size}
+use Rattle.ffi3_type_spec.specs.Fault.{IsLaidOut}
+use Rattle.ffi3_type_spec.specs.declared.Role.TheVariants.{Anywhere}
+use Rattle.ffi3_type_spec.proofs.Faults.{right_is_small}
 use Rattle.ffi3_types.specs.ScalarSize.{value_size_of}
-use Rattle.ffi3_place_rules.proofs.Elements.{leaf_ends}
+use Rattle.ffi3_place_spec.proofs.Elements.{leaf_ends}
 use Rattle.ffi3_callee.proofs.poisoning.is_leaf_byte.Goals as goal
 
 pub overflow_add-leaf : goal.overflow_add-leaf

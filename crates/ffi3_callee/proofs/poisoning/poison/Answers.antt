@@ -1,5 +1,5 @@
 use Rattle.std.proofs.Common.{◌≡◌, ◌+◌, ◌≤◌, sym, ◌∙◌, subst, arith}
-use Rattle.ffi3_type_rules.specs.declared.limits.TheConstants.{STACK}
+use Rattle.ffi3_type_spec.specs.declared.limits.TheConstants.{STACK}
 use Rattle.ffi3_callee.specs.Poison.{IsPoisoned}
 use Rattle.ffi3_callee.proofs.Poisoned.{poisoned, return_still, still_owned}
 use Rattle.ffi3_callee.proofs.poisoning.poison.Goals as goal

@@ -1,8 +1,8 @@
 use Rattle.std.specs.Prelude.{true, false}
 use Rattle.std.proofs.Common.{◌≡◌, ◌+◌, ◌<◌, length, sym, ◌∙◌, subst, arith}
-use Rattle.ffi3_type_rules.specs.declared.limits.TheConstants.{STACK_BYTES}
-use Rattle.ffi3_place_rules.specs.declared.Loc.TheVariants.{S}
-use Rattle.ffi3_place_rules.specs.Standard.{frame_of}
+use Rattle.ffi3_type_spec.specs.declared.limits.TheConstants.{STACK_BYTES}
+use Rattle.ffi3_place_spec.specs.declared.Loc.TheVariants.{S}
+use Rattle.ffi3_place_spec.specs.Standard.{frame_of}
 use Rattle.ffi3_callee.specs.Poison.{carries}
 use Rattle.ffi3_callee.specs.Overwritten.{IsFrameDone}
 use Rattle.ffi3_callee.proofs.Overwriting.{byte_left, byte_written, carries_not_free, frame_free, no_byte_done}

@@ -1,5 +1,5 @@
 use Rattle.std.proofs.Common.{rules}
-use Rattle.ffi3_type_rules.specs.Layout.{size_of}
+use Rattle.ffi3_type_spec.specs.Layout.{size_of}
 use Rattle.ffi3_values.specs.ValueOf.{value_of}
 use Rattle.ffi3_capi.proofs.Values.{one_more, zeros_behind}
 use Rattle.ffi3_capi.proofs.bytes.push_value.Goals as goal

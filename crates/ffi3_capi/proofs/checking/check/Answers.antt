@@ -1,9 +1,9 @@
 use Rattle.std.proofs.Common.{subst}
-use Rattle.ffi3_cdecl_rules.specs.Tokens.{Sign}
-use Rattle.ffi3_cdecl_rules.specs.Reading.{reads}
+use Rattle.ffi3_cdecl_spec.specs.Tokens.{Sign}
+use Rattle.ffi3_cdecl_spec.specs.Reading.{reads}
 use Rattle.ffi3_cdecl.specs.ReadingFor.{IsReadingFor}
 use Rattle.ffi3_cdecl.specs.Tells.{Tells}
-use Rattle.ffi3_format_rules.specs.declared.Format.{Format}
+use Rattle.ffi3_format_spec.specs.declared.Format.{Format}
 use Rattle.ffi3_capi.specs.Chars.{char_sign}
 use Rattle.ffi3_capi.proofs.Checks.{declares_told}
 use Rattle.ffi3_capi.proofs.checking.check.Goals as goal

@@ -1,7 +1,7 @@
 use Rattle.std.proofs.Common.{rules, ◌≡◌, sym, subst}
 use Rattle.std.specs.Prelude.{IfOk, IfErr, Some}
-use Rattle.ffi3_cdecl_rules.specs.Tokens.{Sign}
-use Rattle.ffi3_format_rules.specs.declared.Format.{Format}
+use Rattle.ffi3_cdecl_spec.specs.Tokens.{Sign}
+use Rattle.ffi3_format_spec.specs.declared.Format.{Format}
 use Rattle.ffi3_capi.specs.declared.declaration.Declaration.{Declaration}
 use Rattle.ffi3_capi.specs.declared.declaration.Declaration.TheVariants.{Text, Nodes}
 use Rattle.ffi3_capi.specs.declared.fault.TextFault.{TextFault}

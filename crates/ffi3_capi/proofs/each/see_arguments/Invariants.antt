@@ -1,4 +1,4 @@
-use Rattle.ffi3_place_rules.specs.Standard.{plan_of}
+use Rattle.ffi3_place_spec.specs.Standard.{plan_of}
 use Rattle.ffi3_transfer.specs.Stored.{image_in}
 use Rattle.ffi3_capi.proofs.OneByOne.{AreFront}
 use Rattle.ffi3_capi.proofs.each.see_arguments.Given as goal

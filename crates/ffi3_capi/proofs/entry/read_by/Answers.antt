@@ -1,6 +1,6 @@
 use Rattle.std.proofs.Common.{◌≤◌, ℕ, length, ap, sym, ◌∙◌, arith}
-use Rattle.ffi3_type_rules.specs.Signature.{Signature}
-use Rattle.ffi3_explain_rules.specs.Arguments.{least_stack}
+use Rattle.ffi3_type_spec.specs.Signature.{Signature}
+use Rattle.ffi3_explain_spec.specs.Arguments.{least_stack}
 use Rattle.ffi3_transfer.specs.Stored.{image_in}
 use Rattle.ffi3_capi.specs.Entry.{arguments_of}
 use Rattle.ffi3_capi.proofs.OneByOne.{found_by_each}

@@ -1,5 +1,5 @@
 use Rattle.std.proofs.Common.{◌≡◌, map, take}
-use Rattle.ffi3_type_rules.specs.Layout.{leaves_of}
+use Rattle.ffi3_type_spec.specs.Layout.{leaves_of}
 use Rattle.ffi3_capi.specs.Laid.{laid_leaf}
 use Rattle.ffi3_capi.proofs.layouts.laid_leaves.Given as goal
 

@@ -1,10 +1,10 @@
 use Rattle.std.proofs.Common.{subst}
 use Rattle.std.proofs.lemmas.Result.{IfOk-weaker}
-use Rattle.ffi3_cdecl_rules.specs.Tokens.{Sign}
-use Rattle.ffi3_cdecl_rules.specs.Reading.{reads}
+use Rattle.ffi3_cdecl_spec.specs.Tokens.{Sign}
+use Rattle.ffi3_cdecl_spec.specs.Reading.{reads}
 use Rattle.ffi3_cdecl.specs.ReadingFor.{IsReadingFor}
 use Rattle.ffi3_cdecl.specs.Tells.{Tells}
-use Rattle.ffi3_format_rules.specs.declared.Format.{Format}
+use Rattle.ffi3_format_spec.specs.declared.Format.{Format}
 use Rattle.ffi3_capi.specs.Chars.{char_sign}
 use Rattle.ffi3_capi.proofs.InLines.{no_lines}
 use Rattle.ffi3_capi.proofs.lines.lines_in.Goals as goal

@@ -1,13 +1,13 @@
 use Rattle.std.proofs.Common.{length, ap, sym, subst, arith}
 use Rattle.std.specs.List.{AllByRecursion}
-use Rattle.ffi3_type_rules.specs.declared.limits.TheConstants.{LARGEST_TYPE}
-use Rattle.ffi3_type_rules.specs.declared.Role.TheVariants.{Anywhere}
-use Rattle.ffi3_type_rules.specs.Tree.{tree_at}
-use Rattle.ffi3_type_rules.proofs.Faults.{right_is_small}
-use Rattle.ffi3_type_rules.proofs.Placed.{placed_argument_is_laid_out, placed_result_is_laid_out}
-use Rattle.ffi3_place_rules.specs.declared.Plan.{Plan}
-use Rattle.ffi3_place_rules.specs.Standard.{plan_of}
-use Rattle.ffi3_place_rules.proofs.EachPlace.{places_length}
+use Rattle.ffi3_type_spec.specs.declared.limits.TheConstants.{LARGEST_TYPE}
+use Rattle.ffi3_type_spec.specs.declared.Role.TheVariants.{Anywhere}
+use Rattle.ffi3_type_spec.specs.Tree.{tree_at}
+use Rattle.ffi3_type_spec.proofs.Faults.{right_is_small}
+use Rattle.ffi3_type_spec.proofs.Placed.{placed_argument_is_laid_out, placed_result_is_laid_out}
+use Rattle.ffi3_place_spec.specs.declared.Plan.{Plan}
+use Rattle.ffi3_place_spec.specs.Standard.{plan_of}
+use Rattle.ffi3_place_spec.proofs.EachPlace.{places_length}
 use Rattle.ffi3_capi.specs.Within.{PlaceEndsWithin, ResultEndsWithin}
 use Rattle.ffi3_capi.proofs.Within.{places_end, result_ends}
 use Rattle.ffi3_capi.proofs.placing.placed.Goals as goal

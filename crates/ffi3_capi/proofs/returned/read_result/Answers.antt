@@ -1,6 +1,6 @@
 use Rattle.std.proofs.Common.{◌≡◌, ap, sym, ◌∙◌, length}
-use Rattle.ffi3_type_rules.specs.Layout.{size_of}
-use Rattle.ffi3_explain_rules.proofs.Pieces.{first_bytes-length}
+use Rattle.ffi3_type_spec.specs.Layout.{size_of}
+use Rattle.ffi3_explain_spec.proofs.Pieces.{first_bytes-length}
 use Rattle.ffi3_transfer.specs.Stored.{image_in}
 use Rattle.ffi3_transfer.proofs.Results.{result_there, result_within}
 use Rattle.ffi3_capi.proofs.returned.read_result.Goals as goal

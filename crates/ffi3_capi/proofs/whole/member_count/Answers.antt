@@ -1,5 +1,5 @@
 use Rattle.std.proofs.Common.{length, ap, sym, ◌∙◌}
-use Rattle.ffi3_type_rules.specs.Tree.{list_of-trees_of}
+use Rattle.ffi3_type_spec.specs.Tree.{list_of-trees_of}
 use Rattle.ffi3_types.specs.TreeOf.{tree_of}
 use Rattle.ffi3_capi.specs.WholeType.{members_of}
 use Rattle.ffi3_capi.proofs.whole.member_count.Goals as goal

@@ -1,7 +1,7 @@
 use Rattle.std.proofs.Common.{◌≡◌, ap, sym, subst}
 use Rattle.std.specs.Prelude.{IfOk}
-use Rattle.ffi3_type_rules.specs.Tree.{Tree}
-use Rattle.ffi3_type_rules.specs.Fault.{IsLaidOut}
+use Rattle.ffi3_type_spec.specs.Tree.{Tree}
+use Rattle.ffi3_type_spec.specs.Fault.{IsLaidOut}
 use Rattle.ffi3_types.specs.TreeOf.{tree_of}
 use Rattle.ffi3_capi.specs.WholeType.{offsets_of}
 use Rattle.ffi3_capi.proofs.whole.offsets.Goals as goal

@@ -1,7 +1,7 @@
 use Rattle.std.proofs.Common.{sym, subst}
 use Rattle.std.specs.Prelude.{None}
-use Rattle.ffi3_type_rules.specs.declared.Role.TheVariants.{AsResult}
-use Rattle.ffi3_type_rules.proofs.Faults.{right_anywhere}
+use Rattle.ffi3_type_spec.specs.declared.Role.TheVariants.{AsResult}
+use Rattle.ffi3_type_spec.proofs.Faults.{right_anywhere}
 use Rattle.ffi3_types.specs.TreeOf.{tree_of}
 use Rattle.ffi3_capi.specs.ByNodes.{AreNodesOfType}
 use Rattle.ffi3_capi.specs.WholeType.{offsets_of}

@@ -1,6 +1,6 @@
 use Rattle.std.proofs.Common.{◌∙◌, arith}
-use Rattle.ffi3_type_rules.proofs.Layouts.{align_positive, start-turn, end_before-turn}
-use Rattle.ffi3_type_rules.proofs.ElementPlaces.{right_here, room_before, room_here, lies}
+use Rattle.ffi3_type_spec.proofs.Layouts.{align_positive, start-turn, end_before-turn}
+use Rattle.ffi3_type_spec.proofs.ElementPlaces.{right_here, room_before, room_here, lies}
 use Rattle.ffi3_types.specs.TreeOf.{tree_of}
 use Rattle.ffi3_capi.proofs.Offsets.{starts_more, starts_all}
 use Rattle.ffi3_capi.proofs.whole.struct_offsets.Goals as goal

@@ -1,7 +1,7 @@
 use Rattle.std.proofs.Common.{◌≡◌, map}
 use Rattle.std.specs.List.{range_with_len}
-use Rattle.ffi3_type_rules.specs.Tree.{trees_of}
-use Rattle.ffi3_type_rules.specs.Layout.{layouts, end_before, start_of}
+use Rattle.ffi3_type_spec.specs.Tree.{trees_of}
+use Rattle.ffi3_type_spec.specs.Layout.{layouts, end_before, start_of}
 use Rattle.ffi3_capi.proofs.whole.struct_offsets.Given as goal
 
 abbrev pub invariant-loop-i : goal.invariant-loop-i

@@ -1,5 +1,5 @@
 use Rattle.std.proofs.Common.{length, ◌-◌, ◌≡◌, ◌≤◌}
-use Rattle.ffi3_cdecl_rules.specs.Tokens.{are_silent}
+use Rattle.ffi3_cdecl_spec.specs.Tokens.{are_silent}
 use Rattle.ffi3_cdecl.specs.QuotedOf.{quoted_of}
 use Rattle.ffi3_cdecl.proofs.Attributes.{silent_from}
 use Rattle.ffi3_cdecl.proofs.attribute.are_silent.Given as goal

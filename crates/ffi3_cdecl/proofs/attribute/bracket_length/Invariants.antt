@@ -1,5 +1,5 @@
 use Rattle.std.proofs.Common.{length, ◌-◌, ◌≡◌, ◌≤◌}
-use Rattle.ffi3_cdecl_rules.specs.Tokens.{bracket_length, unquoted}
+use Rattle.ffi3_cdecl_spec.specs.Tokens.{bracket_length, unquoted}
 use Rattle.ffi3_cdecl.specs.QuotedOf.{quoted_of}
 use Rattle.ffi3_cdecl.proofs.Attributes.{length_from}
 use Rattle.ffi3_cdecl.proofs.attribute.bracket_length.Given as goal

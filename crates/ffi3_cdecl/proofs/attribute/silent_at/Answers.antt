@@ -1,5 +1,5 @@
 use Rattle.std.proofs.Common.{ap, ◌∙◌}
-use Rattle.ffi3_cdecl_rules.specs.Tokens.{is_silent, goes_on_word}
+use Rattle.ffi3_cdecl_spec.specs.Tokens.{is_silent, goes_on_word}
 use Rattle.ffi3_cdecl.proofs.Fronts.{front_slice}
 use Rattle.ffi3_cdecl.proofs.attribute.silent_at.Goals as goal
 

@@ -1,5 +1,5 @@
 use Rattle.std.proofs.Common.{length, drop, ◌-◌, ◌≡◌, ◌≤◌, ◌+◌}
-use Rattle.ffi3_cdecl_rules.specs.Tokens.{is_blank, front}
+use Rattle.ffi3_cdecl_spec.specs.Tokens.{is_blank, front}
 use Rattle.ffi3_cdecl.proofs.bytes.blank_length.Given as goal
 
 abbrev pub invariant-loop-n : goal.invariant-loop-n

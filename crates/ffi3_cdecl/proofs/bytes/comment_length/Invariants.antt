@@ -1,5 +1,5 @@
 use Rattle.std.proofs.Common.{length, ◌-◌, ◌≡◌, ◌≤◌}
-use Rattle.ffi3_cdecl_rules.specs.Tokens.{comment_length, in_comment}
+use Rattle.ffi3_cdecl_spec.specs.Tokens.{comment_length, in_comment}
 use Rattle.ffi3_cdecl.specs.QuotedOf.{place_of}
 use Rattle.ffi3_cdecl.proofs.Comments.{comment_from}
 use Rattle.ffi3_cdecl.proofs.bytes.comment_length.Given as goal

@@ -1,5 +1,5 @@
 use Rattle.std.proofs.Common.{length, ◌-◌, ◌≡◌, ◌≤◌, false}
-use Rattle.ffi3_cdecl_rules.specs.Tokens.{line_length}
+use Rattle.ffi3_cdecl_spec.specs.Tokens.{line_length}
 use Rattle.ffi3_cdecl.proofs.Comments.{line_from}
 use Rattle.ffi3_cdecl.proofs.bytes.line_length.Given as goal
 

@@ -1,5 +1,5 @@
 use Rattle.std.proofs.Common.{◌∙◌, ap, subst}
-use Rattle.ffi3_type_rules.specs.Signature.{Signature, SignatureIsPlaced, IsFirstFaultFor, for_places}
+use Rattle.ffi3_type_spec.specs.Signature.{Signature, SignatureIsPlaced, IsFirstFaultFor, for_places}
 use Rattle.ffi3_types.specs.SignatureFaultOf.{signature_fault_of}
 use Rattle.ffi3_cdecl.specs.PassOf.{outcome_of}
 use Rattle.ffi3_cdecl.proofs.Judging.{placed_is_judged, placing_fault_is_judged}

@@ -1,9 +1,9 @@
 use Rattle.std.proofs.Common.{[], ◌∷◌, sym, subst, ◌∙◌}
 use Rattle.ffi3_types.specs.TreeOf.{tree_of}
-use Rattle.ffi3_cdecl_rules.specs.Tokens.{name, open_round, semicolon}
-use Rattle.ffi3_cdecl_rules.specs.Canonical.{parameter_tokens}
-use Rattle.ffi3_cdecl_rules.specs.Reading.{IsReading, reads}
-use Rattle.ffi3_cdecl_rules.proofs.SpokenTexts.{text_reads}
+use Rattle.ffi3_cdecl_spec.specs.Tokens.{name, open_round, semicolon}
+use Rattle.ffi3_cdecl_spec.specs.Canonical.{parameter_tokens}
+use Rattle.ffi3_cdecl_spec.specs.Reading.{IsReading, reads}
+use Rattle.ffi3_cdecl_spec.proofs.SpokenTexts.{text_reads}
 use Rattle.ffi3_cdecl.proofs.Writing.{all_written, declaration_is}
 use Rattle.ffi3_cdecl.proofs.text.decl_text.Goals as goal
 

@@ -1,7 +1,7 @@
 use Rattle.std.proofs.Common.{[], ◌∷◌, ◌≤◌, length, sym, subst, ◌∙◌}
 use Rattle.ffi3_types.specs.TreeOf.{tree_of}
-use Rattle.ffi3_cdecl_rules.specs.Tokens.{name, open_round, semicolon}
-use Rattle.ffi3_cdecl_rules.specs.Prototype.{fixed_tokens}
+use Rattle.ffi3_cdecl_spec.specs.Tokens.{name, open_round, semicolon}
+use Rattle.ffi3_cdecl_spec.specs.Prototype.{fixed_tokens}
 use Rattle.ffi3_cdecl.proofs.Writing.{all_written, prototype_is}
 use Rattle.ffi3_cdecl.proofs.text.prototype_text.Goals as goal
 

@@ -1,6 +1,6 @@
 use Rattle.std.proofs.Common.{ap, ap₂, drop, length, get_or, sym, ◌∙◌, ◌+◌, ◌∷◌}
 use Rattle.std.proofs.lemmas.List.{drop-drop}
-use Rattle.ffi3_cdecl_rules.specs.Tokens.{wide_word_at, front, goes_on_word}
+use Rattle.ffi3_cdecl_spec.specs.Tokens.{wide_word_at, front, goes_on_word}
 use Rattle.ffi3_cdecl.specs.TokenOf.{sign_of}
 use Rattle.ffi3_cdecl.proofs.Fronts.{front_slice}
 use Rattle.ffi3_cdecl.proofs.token.wide_word_at.Goals as goal

@@ -1,4 +1,4 @@
-use Rattle.ffi3_type_rules.proofs.Placed.{faultless_is_placed}
+use Rattle.ffi3_type_spec.proofs.Placed.{faultless_is_placed}
 use Rattle.ffi3_cif.proofs.Cif.prepare.Goals as goal
 
 pub prepare-requires : goal.prepare-requires

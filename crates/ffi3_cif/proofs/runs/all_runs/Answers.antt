@@ -1,8 +1,8 @@
 use Rattle.std.proofs.Common.{◌≡◌, ◌<◌, [], length, take, length-take, sym, subst, arith}
-use Rattle.ffi3_type_rules.specs.declared.limits.TheConstants.{LARGEST_TYPE}
-use Rattle.ffi3_place_rules.specs.Sound.{PlaceRises}
+use Rattle.ffi3_type_spec.specs.declared.limits.TheConstants.{LARGEST_TYPE}
+use Rattle.ffi3_place_spec.specs.Sound.{PlaceRises}
 use Rattle.ffi3_cif.specs.Runs.{PlacesHaveRuns, PlaceEndsWithin}
-use Rattle.ffi3_place_rules.proofs.Tests.{each_at}
+use Rattle.ffi3_place_spec.proofs.Tests.{each_at}
 use Rattle.ffi3_cif.proofs.Gather.{as_many, place_taken, all_places}
 use Rattle.ffi3_cif.proofs.runs.all_runs.Goals as goal
 

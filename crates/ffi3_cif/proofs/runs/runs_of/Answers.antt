@@ -1,5 +1,5 @@
 use Rattle.std.proofs.Common.{◌<◌, ◌++◌, length, ap, sym, ◌∙◌, arith}
-use Rattle.ffi3_type_rules.specs.declared.limits.TheConstants.{LARGEST_TYPE}
+use Rattle.ffi3_type_spec.specs.declared.limits.TheConstants.{LARGEST_TYPE}
 use Rattle.ffi3_cif.specs.Runs.{glued, stack_runs}
 use Rattle.ffi3_cif.proofs.Gather.{first_run, piece_skipped, piece_taken, all_taken, run_ends}
 use Rattle.ffi3_cif.proofs.runs.runs_of.Goals.{in-Some+in_ok-run, in_default}

@@ -1,5 +1,5 @@
 use Rattle.std.proofs.Common.{◌≡◌, ◌+◌, drop, length}
-use Rattle.ffi3_run_rules.specs.Closures.{first_free}
+use Rattle.ffi3_semantics_spec.specs.Closures.{first_free}
 use Rattle.ffi3_closures.proofs.Table.first_free.Given as goal
 
 abbrev pub invariant-loop-k : goal.invariant-loop-k

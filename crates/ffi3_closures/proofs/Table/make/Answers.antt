@@ -1,5 +1,5 @@
 use Rattle.std.proofs.Common.{◌≡◌, ◌+◌, ◌*◌, arith, refl, Some}
-use Rattle.ffi3_type_rules.specs.declared.limits.TheConstants.{CODE}
+use Rattle.ffi3_type_spec.specs.declared.limits.TheConstants.{CODE}
 use Rattle.ffi3_closures.proofs.Counting.{all_live, not_all_live}
 use Rattle.ffi3_closures.proofs.Holding.{holds-after}
 use Rattle.ffi3_closures.proofs.Table.make.Goals as goal

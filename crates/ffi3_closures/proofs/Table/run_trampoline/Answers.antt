@@ -1,6 +1,6 @@
 use Rattle.std.proofs.Common.{◌≡◌, ℕ, ◌-◌, ◌+◌, arith, subst, sym, refl}
 use Rattle.ffi3_machine.specs.State.{State}
-use Rattle.ffi3_machine.specs.Step.{Steps, TakesSteps}
+use Rattle.ffi3_machine.specs.MachineStep.{Steps, TakesSteps}
 use Rattle.ffi3_closures.specs.Reaching.{reached}
 use Rattle.ffi3_closures.proofs.Live.{three_steps}
 use Rattle.ffi3_closures.proofs.Steps.{and_one, first_of_rest}

@@ -1,5 +1,5 @@
 use Rattle.std.proofs.Common.{◌-◌}
-use Rattle.ffi3_machine.specs.Step.{TakesSteps}
+use Rattle.ffi3_machine.specs.MachineStep.{TakesSteps}
 use Rattle.ffi3_closures.specs.Reaching.{reached}
 use Rattle.ffi3_closures.proofs.Table.run_trampoline.Given as goal
 

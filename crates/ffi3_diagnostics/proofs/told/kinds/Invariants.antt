@@ -1,5 +1,5 @@
 use Rattle.std.proofs.Common.{◌≡◌, ◌≤◌, length}
-use Rattle.ffi3_cdecl_rules.specs.Telling.{reach, nothing_reached}
+use Rattle.ffi3_cdecl_spec.specs.Telling.{reach, nothing_reached}
 use Rattle.ffi3_cdecl.specs.TokenOf.{sign_of}
 use Rattle.ffi3_diagnostics.proofs.Reaching.{with_those, those_from}
 use Rattle.ffi3_diagnostics.proofs.told.kinds.Given as goal

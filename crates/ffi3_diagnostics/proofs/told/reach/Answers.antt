@@ -1,5 +1,5 @@
 use Rattle.std.proofs.Common.{ap, sym, ◌∙◌}
-use Rattle.ffi3_cdecl_rules.specs.Telling.{reach, nothing_reached}
+use Rattle.ffi3_cdecl_spec.specs.Telling.{reach, nothing_reached}
 use Rattle.ffi3_cdecl.specs.TokenOf.{token_of, sign_of, found_of}
 use Rattle.ffi3_diagnostics.specs.ToldOf.{reached_of}
 use Rattle.ffi3_diagnostics.proofs.Reaching.{turn_inside, turn_blank, turn_skipped, turn_token}

@@ -1,5 +1,5 @@
 use Rattle.std.proofs.Common.{◌≡◌, drop}
-use Rattle.ffi3_cdecl_rules.specs.Telling.{one_lives, specifier_words, reach, nothing_reached}
+use Rattle.ffi3_cdecl_spec.specs.Telling.{one_lives, specifier_words, reach, nothing_reached}
 use Rattle.ffi3_cdecl.specs.TokenOf.{sign_of}
 use Rattle.ffi3_diagnostics.proofs.told.words_there.Given as goal
 

@@ -1,5 +1,5 @@
 use Rattle.std.proofs.Common.{◌≡◌, [], drop}
-use Rattle.ffi3_diagnostics_rules.specs.ToldText.{last_line}
+use Rattle.ffi3_diagnostics_spec.specs.ToldText.{last_line}
 use Rattle.ffi3_diagnostics.proofs.told_text.last_line.Given as goal
 
 abbrev pub invariant-loop-i : goal.invariant-loop-i

@@ -1,5 +1,5 @@
 use Rattle.std.proofs.Common.{◌≡◌, ◌++◌, drop}
-use Rattle.ffi3_diagnostics_rules.specs.ToldText.{blanks_below}
+use Rattle.ffi3_diagnostics_spec.specs.ToldText.{blanks_below}
 use Rattle.ffi3_diagnostics.proofs.told_text.put_blanks.Given as goal
 
 abbrev pub invariant-loop-i : goal.invariant-loop-i

@@ -1,5 +1,5 @@
 use Rattle.std.proofs.Common.{◌≡◌, ◌++◌, drop}
-use Rattle.ffi3_diagnostics_rules.specs.ToldText.{one_of}
+use Rattle.ffi3_diagnostics_spec.specs.ToldText.{one_of}
 use Rattle.ffi3_diagnostics.specs.ToldOf.{kinds_of}
 use Rattle.ffi3_diagnostics.proofs.told_text.put_kinds.Given as goal
 

@@ -1,5 +1,5 @@
 use Rattle.std.proofs.Common.{◌≡◌, ◌++◌, drop, map}
-use Rattle.ffi3_diagnostics_rules.specs.ToldText.{shown}
+use Rattle.ffi3_diagnostics_spec.specs.ToldText.{shown}
 use Rattle.ffi3_diagnostics.proofs.told_text.put_shown.Given as goal
 
 abbrev pub invariant-loop-i : goal.invariant-loop-i

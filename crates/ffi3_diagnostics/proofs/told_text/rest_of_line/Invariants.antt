@@ -1,6 +1,6 @@
 use Rattle.std.proofs.Common.{length, drop, ◌-◌, ◌≡◌, ◌≤◌, ◌+◌}
-use Rattle.ffi3_cdecl_rules.specs.Tokens.{front}
-use Rattle.ffi3_diagnostics_rules.specs.ToldText.{goes_on_line}
+use Rattle.ffi3_cdecl_spec.specs.Tokens.{front}
+use Rattle.ffi3_diagnostics_spec.specs.ToldText.{goes_on_line}
 use Rattle.ffi3_diagnostics.proofs.told_text.rest_of_line.Given as goal
 
 abbrev pub invariant-loop-n : goal.invariant-loop-n

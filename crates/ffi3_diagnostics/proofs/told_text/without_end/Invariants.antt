@@ -1,5 +1,5 @@
 use Rattle.std.proofs.Common.{◌≡◌, drop}
-use Rattle.ffi3_diagnostics_rules.specs.ToldText.{without_end}
+use Rattle.ffi3_diagnostics_spec.specs.ToldText.{without_end}
 use Rattle.ffi3_diagnostics.proofs.Wording.{whole_end}
 use Rattle.ffi3_diagnostics.proofs.told_text.without_end.Given as goal
 

@@ -1,7 +1,7 @@
 use Rattle.std.specs.Prelude.{cond, ◌==◌, Option, None}
 use Rattle.std.proofs.Common.{◌≡◌, ℕ, ◌+◌, ap, arith}
-use Rattle.ffi3_place_rules.specs.Image.{word_at}
-use Rattle.ffi3_explain_rules.specs.declared.Check.{Check}
+use Rattle.ffi3_place_spec.specs.Image.{word_at}
+use Rattle.ffi3_explain_spec.specs.declared.Check.{Check}
 use Rattle.ffi3_explain.specs.ImageOf.{image_of}
 use Rattle.ffi3_explain.proofs.Loops.{is_same}
 use Rattle.ffi3_explain.proofs.checks.explain_copy.Goals as goal

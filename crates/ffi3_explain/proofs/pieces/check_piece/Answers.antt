@@ -1,8 +1,8 @@
 use Rattle.std.proofs.Common.{length, ap, ◌∙◌}
 use Rattle.ffi3_types.specs.TreeOf.{tree_of}
 use Rattle.ffi3_values.specs.ValueOf.{value_of}
-use Rattle.ffi3_place_rules.specs.Sound.{IsPieceOf}
-use Rattle.ffi3_explain_rules.specs.Explain.{check_of_piece}
+use Rattle.ffi3_place_spec.specs.Sound.{IsPieceOf}
+use Rattle.ffi3_explain_spec.specs.Explain.{check_of_piece}
 use Rattle.ffi3_explain.specs.ImageOf.{image_of}
 use Rattle.ffi3_explain.specs.Places.{CanBeRead}
 use Rattle.ffi3_explain.proofs.Loops.{each_from, same_item}

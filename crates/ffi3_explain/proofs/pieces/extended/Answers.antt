@@ -1,8 +1,8 @@
 use Rattle.std.proofs.Common.{◌≡◌, subst, sym}
 use Rattle.ffi3_types.specs.TreeOf.{tree_of}
 use Rattle.ffi3_values.specs.ValueOf.{value_of}
-use Rattle.ffi3_place_rules.specs.Sound.{IsExtended}
-use Rattle.ffi3_explain_rules.specs.Explain.{extended}
+use Rattle.ffi3_place_spec.specs.Sound.{IsExtended}
+use Rattle.ffi3_explain_spec.specs.Explain.{extended}
 use Rattle.ffi3_explain.proofs.Narrow.{narrow_number, widened_is, widened_from_32_is}
 use Rattle.ffi3_explain.proofs.pieces.extended.Goals as goal
 

@@ -1,6 +1,6 @@
 use Rattle.std.proofs.Common.{◌≡◌, ◌+◌, ◌-◌, ◌<◌, length, subst, sym, arith}
 use Rattle.ffi3_explain.specs.ImageOf.{image_of}
-use Rattle.ffi3_place_rules.specs.Sound.{IsWithin}
+use Rattle.ffi3_place_spec.specs.Sound.{IsWithin}
 use Rattle.ffi3_explain.specs.Places.{CanBeRead}
 use Rattle.ffi3_explain.proofs.Loops.{ArePiecesRead, each_from, one_more_read, all_read}
 use Rattle.ffi3_explain.proofs.pieces.read_pieces.Goals as goal

@@ -1,10 +1,10 @@
 use Rattle.std.proofs.Common.{◌≡◌, ℕ, ◌+◌, ◌-◌, ◌≤◌, List, ◌++◌, take, drop, get_or, length, inl, inr, ap, subst, sym, ◌∙◌, arith}
 use Rattle.std.proofs.lemmas.Bool.{cases_lt}
 use Rattle.std.proofs.lemmas.List.{ext_get_or, get_or-take, get_or-drop, get_or_append_left, get_or-append_right, length-append, length-take-le, length-drop}
-use Rattle.ffi3_place_rules.specs.declared.Loc.TheVariants.{S}
-use Rattle.ffi3_place_rules.specs.Image.{Image}
-use Rattle.ffi3_explain_rules.specs.Explain.{eight, place_byte}
-use Rattle.ffi3_explain_rules.proofs.Words.{index_eight, place_byte_is, place_byte_behind}
+use Rattle.ffi3_place_spec.specs.declared.Loc.TheVariants.{S}
+use Rattle.ffi3_place_spec.specs.Image.{Image}
+use Rattle.ffi3_explain_spec.specs.Explain.{eight, place_byte}
+use Rattle.ffi3_explain_spec.proofs.Words.{index_eight, place_byte_is, place_byte_behind}
 use Rattle.ffi3_explain.specs.ImageOf.{image_of}
 use Rattle.ffi3_explain.specs.Places.{HasPlace}
 use Rattle.ffi3_explain.proofs.Loops.{zeros, zeros_all}

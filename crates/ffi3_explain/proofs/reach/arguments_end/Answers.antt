@@ -1,5 +1,5 @@
 use Rattle.std.proofs.Common.{arith, ◌≤◌, length, ap}
-use Rattle.ffi3_place_rules.specs.Standard.{plan_of}
+use Rattle.ffi3_place_spec.specs.Standard.{plan_of}
 use Rattle.ffi3_explain.proofs.Ends.{no_place, place_further, places_end, same_count, small_greater}
 use Rattle.ffi3_explain.proofs.reach.arguments_end.Goals as goal
 

@@ -1,6 +1,6 @@
 use Rattle.std.proofs.Common.{◌<◌}
 use Rattle.std.specs.Prelude.{◌^◌}
-use Rattle.ffi3_place_rules.specs.Standard.{plan_of}
+use Rattle.ffi3_place_spec.specs.Standard.{plan_of}
 use Rattle.ffi3_explain.proofs.Ends.{IsPlaceEnd}
 use Rattle.ffi3_explain.proofs.reach.arguments_end.Given as goal
 

@@ -1,9 +1,9 @@
 use Rattle.std.proofs.Common.{rules, arith, ◌<◌, length, ap, ◌∙◌}
-use Rattle.ffi3_type_rules.specs.Tree.{tree_at}
-use Rattle.ffi3_type_rules.proofs.Placed.{faultless_is_plain}
+use Rattle.ffi3_type_spec.specs.Tree.{tree_at}
+use Rattle.ffi3_type_spec.proofs.Placed.{faultless_is_plain}
 use Rattle.ffi3_values.specs.ValueOf.{value_of}
-use Rattle.ffi3_place_rules.specs.Standard.{plan_of}
-use Rattle.ffi3_place_rules.proofs.OnMachine.{as_before}
+use Rattle.ffi3_place_spec.specs.Standard.{plan_of}
+use Rattle.ffi3_place_spec.proofs.OnMachine.{as_before}
 use Rattle.ffi3_explain.specs.ImageOf.{image_of}
 use Rattle.ffi3_explain.proofs.Ready.{reached}
 use Rattle.ffi3_explain.proofs.Standing.{all_to_read, ready_to_read, tells_outside, read_further}

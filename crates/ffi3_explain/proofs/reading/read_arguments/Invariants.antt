@@ -1,4 +1,4 @@
-use Rattle.ffi3_place_rules.specs.Standard.{plan_of}
+use Rattle.ffi3_place_spec.specs.Standard.{plan_of}
 use Rattle.ffi3_explain.specs.ImageOf.{image_of}
 use Rattle.ffi3_explain.proofs.Standing.{IsLeftToRead}
 use Rattle.ffi3_explain.proofs.reading.read_arguments.Given as goal

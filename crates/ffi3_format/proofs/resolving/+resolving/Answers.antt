@@ -1,7 +1,7 @@
 use Rattle.std.proofs.Common.{◌∙◌, ap, sym}
-use Rattle.ffi3_type_rules.specs.Tree.{structure, array, trees_of}
+use Rattle.ffi3_type_spec.specs.Tree.{structure, array, trees_of}
 use Rattle.ffi3_types.specs.TreeOf.{tree_of}
-use Rattle.ffi3_format_rules.specs.Format.{resolved}
+use Rattle.ffi3_format_spec.specs.Format.{resolved}
 use Rattle.ffi3_format.proofs.Resolves.{of_list}
 use Rattle.ffi3_format.proofs.resolving.+resolving.Goals as goal
 

@@ -1,7 +1,7 @@
 use Rattle.std.proofs.Common.{◌≡◌, ◌+◌, ◌*◌, take, map}
-use Rattle.ffi3_type_rules.specs.Tree.{nodes, all_nodes, trees_of}
+use Rattle.ffi3_type_spec.specs.Tree.{nodes, all_nodes, trees_of}
 use Rattle.ffi3_types.specs.TreeOf.{tree_of}
-use Rattle.ffi3_format_rules.specs.Format.{resolved}
+use Rattle.ffi3_format_spec.specs.Format.{resolved}
 use Rattle.ffi3_format.proofs.resolving.+resolving.Given as goal
 
 abbrev pub decreases-resolved : goal.decreases-resolved

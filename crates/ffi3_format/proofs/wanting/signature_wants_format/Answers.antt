@@ -1,8 +1,8 @@
 use Rattle.std.proofs.Common.{◌∙◌, ap}
 use Rattle.std.specs.Prelude.{◌||◌}
 use Rattle.std.specs.List.{list_any}
-use Rattle.ffi3_type_rules.specs.Tree.{trees_of}
-use Rattle.ffi3_format_rules.specs.Format.{wants_format, want_format}
+use Rattle.ffi3_type_spec.specs.Tree.{trees_of}
+use Rattle.ffi3_format_spec.specs.Format.{wants_format, want_format}
 use Rattle.ffi3_format.proofs.Wants.{of_list}
 use Rattle.ffi3_format.proofs.wanting.signature_wants_format.Goals as goal
 

@@ -1,4 +1,4 @@
-use Rattle.ffi3_type_rules.specs.declared.Target.TheVariants.{Amd64, Aapcs64, Riscv, Win64, Apple}
+use Rattle.ffi3_type_spec.specs.declared.Target.TheVariants.{Amd64, Aapcs64, Riscv, Win64, Apple}
 use Rattle.ffi3_explain.specs.ImageOf.{image_of}
 use Rattle.ffi3_image.specs.AnswerOf.{answer_about}
 use Rattle.ffi3_image.proofs.Answering.{answered_by}

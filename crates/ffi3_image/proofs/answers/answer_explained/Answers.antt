@@ -1,8 +1,8 @@
 use Rattle.std.proofs.Common.{refl}
 use Rattle.std.proofs.lemmas.Result.{IfOk-weaker}
 use Rattle.ffi3_explain.specs.ImageOf.{image_of}
-use Rattle.ffi3_image_rules.specs.declared.Question.TheVariants.{Explained}
-use Rattle.ffi3_image_rules.specs.Answer.{answer_by}
+use Rattle.ffi3_image_spec.specs.declared.Question.TheVariants.{Explained}
+use Rattle.ffi3_image_spec.specs.Answer.{answer_by}
 use Rattle.ffi3_image.specs.AnswerOf.{answer_of}
 use Rattle.ffi3_image.proofs.Answering.{room_answered, no_room_answered}
 use Rattle.ffi3_image.proofs.answers.answer_explained.Goals as goal

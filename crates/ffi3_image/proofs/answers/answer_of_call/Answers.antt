@@ -1,5 +1,5 @@
 use Rattle.ffi3_explain.specs.ImageOf.{image_of}
-use Rattle.ffi3_image_rules.specs.declared.Question.TheVariants.{Explained, ByStandard}
+use Rattle.ffi3_image_spec.specs.declared.Question.TheVariants.{Explained, ByStandard}
 use Rattle.ffi3_image.specs.AnswerOf.{answer_about}
 use Rattle.ffi3_image.proofs.Answering.{answered_as}
 use Rattle.ffi3_image.proofs.answers.answer_of_call.Goals as goal

@@ -1,5 +1,5 @@
 use Rattle.std.proofs.lemmas.Result.{IfOk-weaker}
-use Rattle.ffi3_explain_rules.specs.Standards.{standard_of}
+use Rattle.ffi3_explain_spec.specs.Standards.{standard_of}
 use Rattle.ffi3_image.specs.AnswerOf.{answer_about, answer_of}
 use Rattle.ffi3_image.specs.SnapshotOf.{snapshot_of}
 use Rattle.ffi3_image.proofs.Answering.{answered_for, snapshot_answered, fault_answered}

@@ -1,5 +1,5 @@
 use Rattle.std.proofs.Common.{◌≡◌, rules}
-use Rattle.ffi3_type_rules.specs.Isa.{isa_of}
+use Rattle.ffi3_type_spec.specs.TargetIsa.{isa_of}
 use Rattle.ffi3_explain.specs.ImageOf.{image_of}
 use Rattle.ffi3_image.proofs.Answering.{explained_so, broken_so}
 use Rattle.ffi3_image.proofs.answers.explanation.Goals as goal

@@ -1,6 +1,6 @@
 use Rattle.std.proofs.Common.{◌∙◌, ap}
 use Rattle.ffi3_explain.specs.ImageOf.{image_of}
-use Rattle.ffi3_image_rules.specs.Lines.{arguments_text}
+use Rattle.ffi3_image_spec.specs.Lines.{arguments_text}
 use Rattle.ffi3_image.proofs.Answering.{values_so, outside_so}
 use Rattle.ffi3_image.proofs.answers.held_arguments.Goals as goal
 

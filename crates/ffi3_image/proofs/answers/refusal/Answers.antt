@@ -1,5 +1,5 @@
 use Rattle.std.proofs.Common.{ap}
-use Rattle.ffi3_image_rules.specs.Answer.{refusal}
+use Rattle.ffi3_image_spec.specs.Answer.{refusal}
 use Rattle.ffi3_image.specs.declared.fault.ImageFault.TheVariants.{TooLong, BadJson, BadImage}
 use Rattle.ffi3_image.proofs.Answering.{told_so}
 use Rattle.ffi3_image.proofs.answers.refusal.Goals as goal

@@ -1,5 +1,5 @@
 use Rattle.std.proofs.Common.{arith}
-use Rattle.ffi3_type_rules.proofs.ValueElements.{fitting_lengths, fitting_element}
+use Rattle.ffi3_type_spec.proofs.ValueElements.{fitting_lengths, fitting_element}
 use Rattle.ffi3_types.specs.TreeOf.{tree_of}
 use Rattle.ffi3_values.specs.ValueOf.{value_of}
 use Rattle.ffi3_image.proofs.ArgumentLines.{lines_turn, lines_end}

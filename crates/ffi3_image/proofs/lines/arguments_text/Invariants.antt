@@ -1,5 +1,5 @@
 use Rattle.std.proofs.Common.{◌≡◌, ◌++◌, drop}
-use Rattle.ffi3_image_rules.specs.Lines.{argument_lines}
+use Rattle.ffi3_image_spec.specs.Lines.{argument_lines}
 use Rattle.ffi3_image.proofs.lines.arguments_text.Given as goal
 
 abbrev pub invariant-loop-i : goal.invariant-loop-i

@@ -1,6 +1,6 @@
 use Rattle.std.proofs.Common.{[], ◌∷◌, codes, rules}
 use Rattle.std.specs.Fmt.{decimal}
-use Rattle.ffi3_run_rules.specs.Lines.{address_text}
+use Rattle.ffi3_semantics_spec.specs.Lines.{address_text}
 use Rattle.ffi3_image.proofs.Texts.{joined-line}
 use Rattle.ffi3_image.proofs.lines.outside_line.Goals as goal
 

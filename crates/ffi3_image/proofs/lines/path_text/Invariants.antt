@@ -1,5 +1,5 @@
 use Rattle.std.proofs.Common.{◌≡◌, ◌++◌, drop}
-use Rattle.ffi3_script_rules.specs.ReasonText.{text_of_steps}
+use Rattle.ffi3_script_spec.specs.ReasonText.{text_of_steps}
 use Rattle.ffi3_image.proofs.lines.path_text.Given as goal
 
 abbrev pub invariant-loop-i : goal.invariant-loop-i

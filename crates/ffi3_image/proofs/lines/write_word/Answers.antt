@@ -1,5 +1,5 @@
 use Rattle.std.proofs.Common.{◌≡◌, ◌∙◌}
-use Rattle.ffi3_run_rules.specs.Lines.{word_text}
+use Rattle.ffi3_semantics_spec.specs.Lines.{word_text}
 use Rattle.ffi3_image.proofs.Words.{padded_word}
 use Rattle.ffi3_image.proofs.lines.write_word.Goals as goal
 

@@ -2,9 +2,9 @@ use Rattle.std.proofs.Common.{◌≡◌, ℕ, ◌+◌, ◌<◌, List, [], ◌∷
 use Rattle.std.specs.Prelude.{option_map}
 use Rattle.serde_json.specs.Find.{as_str}
 use Rattle.serde_json.specs.Events.{items_len}
-use Rattle.ffi3_script_rules.specs.Language.{at_item}
+use Rattle.ffi3_script_spec.specs.Language.{at_item}
 use Rattle.ffi3_json.specs.Parts.{item_at}
-use Rattle.ffi3_image_rules.specs.Object.{read_word, read_words}
+use Rattle.ffi3_image_spec.specs.Object.{read_word, read_words}
 use Rattle.ffi3_image.proofs.Tellings.{tells_part}
 use Rattle.ffi3_image.proofs.Words.{Done, done-more, done-fault, done-all}
 use Rattle.ffi3_image.proofs.parts.read_words.Goals as goal

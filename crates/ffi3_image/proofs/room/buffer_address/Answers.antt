@@ -1,7 +1,7 @@
 use Rattle.std.proofs.Common.{arith, ◌≡◌, sym, subst, ◌∙◌}
-use Rattle.ffi3_type_rules.proofs.Placed.{faultless_is_plain}
-use Rattle.ffi3_place_rules.specs.declared.Res.TheVariants.{Hidden}
-use Rattle.ffi3_place_rules.proofs.OnMachine.{as_before}
+use Rattle.ffi3_type_spec.proofs.Placed.{faultless_is_plain}
+use Rattle.ffi3_place_spec.specs.declared.Res.TheVariants.{Hidden}
+use Rattle.ffi3_place_spec.proofs.OnMachine.{as_before}
 use Rattle.ffi3_explain.specs.ImageOf.{image_of}
 use Rattle.ffi3_explain.specs.Places.{HiddenIsThere}
 use Rattle.ffi3_explain.proofs.Ready.{result_ready}

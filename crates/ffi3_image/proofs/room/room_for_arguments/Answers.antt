@@ -1,5 +1,5 @@
 use Rattle.std.proofs.Common.{length}
-use Rattle.ffi3_explain_rules.specs.Arguments.{least_stack}
+use Rattle.ffi3_explain_spec.specs.Arguments.{least_stack}
 use Rattle.ffi3_image.proofs.Rooms.{enough_for}
 use Rattle.ffi3_image.proofs.room.room_for_arguments.Goals as goal
 

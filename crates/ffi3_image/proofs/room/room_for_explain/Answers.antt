@@ -1,6 +1,6 @@
 use Rattle.std.proofs.Common.{length}
-use Rattle.ffi3_place_rules.specs.Standard.{frame_of}
-use Rattle.ffi3_image_rules.specs.Room.{whole_call}
+use Rattle.ffi3_place_spec.specs.Standard.{frame_of}
+use Rattle.ffi3_image_spec.specs.Room.{whole_call}
 use Rattle.ffi3_image.proofs.Rooms.{below_whole, enough_for}
 use Rattle.ffi3_image.proofs.room.room_for_explain.Goals as goal
 

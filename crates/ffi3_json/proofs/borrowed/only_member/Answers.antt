@@ -1,7 +1,7 @@
 use Rattle.std.proofs.Common.{◌≡◌, sym, ap, ◌∙◌, ◌∷◌, []}
 use Rattle.json.specs.Value.{value_view, members_view}
 use Rattle.ffi3_json.specs.InText.{each_is_key}
-use Rattle.ffi3_script_rules.specs.Language.{required}
+use Rattle.ffi3_script_spec.specs.Language.{required}
 use Rattle.ffi3_json.proofs.InTexts.{get_read, only_one, not_only_one}
 use Rattle.ffi3_json.proofs.borrowed.only_member.Goals as goal
 

@@ -1,5 +1,5 @@
 use Rattle.std.proofs.Common.{◌≡◌, map, drop}
-use Rattle.ffi3_script_rules.specs.Language.{first_missing}
+use Rattle.ffi3_script_spec.specs.Language.{first_missing}
 use Rattle.ffi3_json.specs.KeyOf.{key_of}
 use Rattle.ffi3_json.specs.RefOf.{data_of}
 use Rattle.ffi3_json.proofs.keys.first_missing.Given as goal

@@ -1,5 +1,5 @@
 use Rattle.std.proofs.Common.{◌≡◌, map, drop}
-use Rattle.ffi3_script_rules.specs.Language.{is_key_of}
+use Rattle.ffi3_script_spec.specs.Language.{is_key_of}
 use Rattle.ffi3_json.specs.KeyOf.{key_of}
 use Rattle.ffi3_json.proofs.keys.is_key_of.Given as goal
 

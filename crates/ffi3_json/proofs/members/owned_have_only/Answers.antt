@@ -2,7 +2,7 @@ use Rattle.std.proofs.Common.{◌≡◌, map, string_bytes, sym, ap, ◌∙◌}
 use Rattle.serde_json.specs.View.{members_view}
 use Rattle.serde_json.proofs.Views.{Entry}
 use Rattle.ffi3_json.specs.KeyOf.{key_of}
-use Rattle.ffi3_script_rules.specs.Language.{is_key_of}
+use Rattle.ffi3_script_spec.specs.Language.{is_key_of}
 use Rattle.ffi3_json.proofs.Objects.{member_later, member_unknown, members_end}
 use Rattle.ffi3_json.proofs.members.owned_have_only.Goals as goal
 

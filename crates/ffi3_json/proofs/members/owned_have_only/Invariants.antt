@@ -1,7 +1,7 @@
 use Rattle.std.proofs.Common.{◌≡◌, map}
 use Rattle.serde_json.specs.View.{members_view}
 use Rattle.ffi3_json.specs.KeyOf.{key_of}
-use Rattle.ffi3_script_rules.specs.Language.{has_only}
+use Rattle.ffi3_script_spec.specs.Language.{has_only}
 use Rattle.ffi3_json.proofs.members.owned_have_only.Given as goal
 
 abbrev pub invariant-loop-name : goal.invariant-loop-name

@@ -1,5 +1,5 @@
 use Rattle.std.proofs.Common.{get_or, sym, ap, ◌∙◌}
-use Rattle.ffi3_type_rules.specs.Tree.{parts_of, list_of-trees_of}
+use Rattle.ffi3_type_spec.specs.Tree.{parts_of, list_of-trees_of}
 use Rattle.ffi3_types.specs.TreeOf.{tree_of}
 use Rattle.ffi3_json.proofs.signature.part_of.Goals as goal
 

@@ -1,4 +1,4 @@
-use Rattle.ffi3_script_rules.specs.Language.{read_shapes, object_signature}
+use Rattle.ffi3_script_spec.specs.Language.{read_shapes, object_signature}
 use Rattle.ffi3_types.specs.SignatureFaultOf.{signature_fault_of}
 use Rattle.ffi3_json.proofs.Tellings.{part_handed_on}
 use Rattle.ffi3_json.proofs.Signatures.{shapes_fault, tells_own, read_right}

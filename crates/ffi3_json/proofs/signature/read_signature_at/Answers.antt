@@ -1,5 +1,5 @@
-use Rattle.ffi3_cdecl_rules.specs.Machine as declaration
-use Rattle.ffi3_script_rules.specs.Language.{object_signature, declared_signature}
+use Rattle.ffi3_cdecl_spec.specs.Machine as declaration
+use Rattle.ffi3_script_spec.specs.Language.{object_signature, declared_signature}
 use Rattle.ffi3_json.proofs.Signatures.{of_text, of_object, reads_signature, reads_by_order, reads_rightly, tells_signature, tells_by_order}
 use Rattle.ffi3_json.proofs.signature.read_signature_at.Goals as goal
 

@@ -3,10 +3,10 @@ use Rattle.std.proofs.lemmas.List.{length-append}
 use Rattle.std.proofs.lemmas.Result.{IfOk-weaker, IfErr-weaker}
 use Rattle.serde_json.specs.Data.{array}
 use Rattle.serde_json.specs.Events.{items_len}
-use Rattle.ffi3_type_rules.specs.Tree.{struct_of, trees_of}
-use Rattle.ffi3_type_rules.specs.Tree as types
+use Rattle.ffi3_type_spec.specs.Tree.{struct_of, trees_of}
+use Rattle.ffi3_type_spec.specs.Tree as types
 use Rattle.ffi3_types.specs.TreeOf.{tree_of}
-use Rattle.ffi3_script_rules.specs.Language.{read, read_type, read_types, read_array, read_count, read_map, not_a_type, under, at_item}
+use Rattle.ffi3_script_spec.specs.Language.{read, read_type, read_types, read_array, read_count, read_map, not_a_type, under, at_item}
 use Rattle.ffi3_json.specs.Parts.{item_at}
 use Rattle.ffi3_json.proofs.Tellings.{tells_made, tells_part, part_handed_on}
 use Rattle.ffi3_json.proofs.Objects.{array_is, a_struct, an_array, no_array, neither}

@@ -1,14 +1,14 @@
 use Rattle.std.proofs.Common.{ℤ, Some, pos, neg_ℤ, drop, sym, ap, ◌∙◌, rules}
 use Rattle.std.specs.Int.{w128}
 use Rattle.std.proofs.lemmas.Int.{to_z-of_z}
-use Rattle.ffi3_type_rules.specs.Integer.{bytes_of_number, scalar_of}
-use Rattle.ffi3_type_rules.specs.Value.{bytes_of}
+use Rattle.ffi3_type_spec.specs.Integer.{bytes_of_number, scalar_of}
+use Rattle.ffi3_type_spec.specs.Value.{bytes_of}
 use Rattle.ffi3_types.specs.TreeOf.{tree_of}
 use Rattle.ffi3_values.specs.ValueOf.{value_of}
-use Rattle.ffi3_script_rules.specs.Language.{read, out_of_range}
-use Rattle.ffi3_script_rules.specs.Script.{constant}
-use Rattle.ffi3_script_rules.specs.Values.{number_written, read_integer}
-use Rattle.ffi3_script_rules.proofs.Decimals.{negative_refused, negative_too_far, negative_read}
+use Rattle.ffi3_script_spec.specs.Language.{read, out_of_range}
+use Rattle.ffi3_script_spec.specs.Script.{constant}
+use Rattle.ffi3_script_spec.specs.Values.{number_written, read_integer}
+use Rattle.ffi3_script_spec.proofs.Decimals.{negative_refused, negative_too_far, negative_read}
 use Rattle.ffi3_json.proofs.Tellings.{tells_made}
 use Rattle.ffi3_literals.proofs.decimal.read_negative.Goals as goal
 

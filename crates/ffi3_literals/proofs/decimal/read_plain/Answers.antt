@@ -1,12 +1,12 @@
 use Rattle.std.proofs.Common.{Some, pos, sym, ap, ◌∙◌}
-use Rattle.ffi3_type_rules.specs.Integer.{scalar_of}
+use Rattle.ffi3_type_spec.specs.Integer.{scalar_of}
 use Rattle.ffi3_types.specs.TreeOf.{tree_of}
 use Rattle.ffi3_values.specs.ValueOf.{value_of}
-use Rattle.ffi3_type_rules.specs.Value.{bytes_of}
-use Rattle.ffi3_script_rules.specs.Language.{read, out_of_range}
-use Rattle.ffi3_script_rules.specs.Script.{constant}
-use Rattle.ffi3_script_rules.specs.Values.{number_written, read_integer}
-use Rattle.ffi3_script_rules.proofs.Decimals.{plain_refused, plain_out, plain_within}
+use Rattle.ffi3_type_spec.specs.Value.{bytes_of}
+use Rattle.ffi3_script_spec.specs.Language.{read, out_of_range}
+use Rattle.ffi3_script_spec.specs.Script.{constant}
+use Rattle.ffi3_script_spec.specs.Values.{number_written, read_integer}
+use Rattle.ffi3_script_spec.proofs.Decimals.{plain_refused, plain_out, plain_within}
 use Rattle.ffi3_json.proofs.Tellings.{tells_made}
 use Rattle.ffi3_literals.proofs.decimal.read_plain.Goals as goal
 

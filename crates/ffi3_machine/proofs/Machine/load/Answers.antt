@@ -1,6 +1,6 @@
 use Rattle.std.proofs.Common.{◌≡◌, true, arith}
-use Rattle.ffi3_type_rules.specs.Isa.{isa_of}
-use Rattle.ffi3_machine.specs.Step.{has_eight}
+use Rattle.ffi3_type_spec.specs.TargetIsa.{isa_of}
+use Rattle.ffi3_machine.specs.MachineStep.{has_eight}
 use Rattle.ffi3_machine.proofs.Stubs.{stubs_end, ends_within}
 use Rattle.ffi3_machine.proofs.Machine.load.Goals as goal
 

@@ -1,5 +1,5 @@
 use Rattle.std.proofs.Common.{refl}
-use Rattle.ffi3_type_rules.specs.declared.Isa.TheVariants.{Aarch64}
+use Rattle.ffi3_type_spec.specs.declared.Isa.TheVariants.{Aarch64}
 use Rattle.ffi3_machine.proofs.Stubs.{four_written}
 use Rattle.ffi3_machine.proofs.stub.write_aarch64.Goals as goal
 

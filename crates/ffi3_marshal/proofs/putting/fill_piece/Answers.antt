@@ -1,5 +1,5 @@
 use Rattle.std.proofs.Common.{subst, arith, rules}
-use Rattle.ffi3_place_rules.specs.Sound.{IsExtended}
+use Rattle.ffi3_place_spec.specs.Sound.{IsExtended}
 use Rattle.ffi3_marshal.proofs.Filling.{narrow_number, narrow_small, free_stored, boxed_stored, widened_stored, from_32_stored}
 use Rattle.ffi3_marshal.proofs.putting.fill_piece.Goals as goal
 

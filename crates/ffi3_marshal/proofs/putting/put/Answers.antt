@@ -1,6 +1,6 @@
 use Rattle.std.proofs.Common.{◌-◌, ◌≤◌, length, sym, subst, arith}
-use Rattle.ffi3_place_rules.specs.declared.Loc.TheVariants.{G, F, S}
-use Rattle.ffi3_place_rules.specs.Sound.{place_size}
+use Rattle.ffi3_place_spec.specs.declared.Loc.TheVariants.{G, F, S}
+use Rattle.ffi3_place_spec.specs.Sound.{place_size}
 use Rattle.ffi3_marshal.specs.Stored.{HasLow, IsPlaceIn, IsPut}
 use Rattle.ffi3_marshal.proofs.Puts.{general_put, floating_put, stack_put}
 use Rattle.ffi3_marshal.proofs.putting.put.Goals as goal

@@ -1,7 +1,7 @@
 use Rattle.std.proofs.Common.{◌≡◌, refl, ap, subst, sym, ◌∙◌, rules}
 use Rattle.std.specs.Prelude.{get_or}
 use Rattle.std.specs.Int.{w64, to_le_bytes}
-use Rattle.ffi3_place_rules.specs.declared.Loc.TheVariants.{G, F}
+use Rattle.ffi3_place_spec.specs.declared.Loc.TheVariants.{G, F}
 use Rattle.ffi3_marshal.specs.Read.{AreBytesOf}
 use Rattle.ffi3_marshal.proofs.Read.{word_bytes}
 use Rattle.ffi3_marshal.proofs.reading.place_bytes.Goals as goal

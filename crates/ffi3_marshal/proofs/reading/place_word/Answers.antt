@@ -1,5 +1,5 @@
 use Rattle.std.proofs.Common.{◌≡◌, ◌∙◌, subst, sym}
-use Rattle.ffi3_place_rules.specs.Image.{word_at}
+use Rattle.ffi3_place_spec.specs.Image.{word_at}
 use Rattle.ffi3_marshal.specs.Read.{AreBytesOf}
 use Rattle.ffi3_marshal.proofs.Read.{stack_word}
 use Rattle.ffi3_marshal.proofs.reading.place_word.Goals as goal

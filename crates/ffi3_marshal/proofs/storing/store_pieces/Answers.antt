@@ -1,5 +1,5 @@
 use Rattle.std.proofs.Common.{◌≡◌, ◌+◌, ◌-◌, length, sym, subst, arith}
-use Rattle.ffi3_place_rules.specs.Sound.{IsPieceOf}
+use Rattle.ffi3_place_spec.specs.Sound.{IsPieceOf}
 use Rattle.ffi3_marshal.specs.Stored.{IsPlaceIn, TakesAt}
 use Rattle.ffi3_marshal.proofs.Stepping.{AreStored, each_loc, each_read, piece_step, none_stored, all_stored}
 use Rattle.ffi3_marshal.proofs.Taking.{still_takes_at}

@@ -1,6 +1,6 @@
 use Rattle.std.proofs.Common.{ℕ, ◌+◌}
 use Rattle.std.specs.List.{AllByRecursion}
-use Rattle.ffi3_place_rules.specs.Sound.{piece_locs}
+use Rattle.ffi3_place_spec.specs.Sound.{piece_locs}
 use Rattle.ffi3_marshal.specs.Stored.{IsPlaceIn}
 use Rattle.ffi3_marshal.proofs.Stepping.{AreStored}
 use Rattle.ffi3_marshal.proofs.storing.store_pieces.Given as goal

@@ -1,8 +1,8 @@
 use Rattle.std.proofs.Common.{◌≡◌, ◌<◌, ◌++◌, ◌+◌, length, drop, ap, ◌∙◌, arith}
-use Rattle.ffi3_type_rules.specs.Layout.{least_multiple, size_of}
-use Rattle.ffi3_type_rules.specs.Tree.{tree_at}
-use Rattle.ffi3_place_rules.specs.Standard.{plan_of, round8}
-use Rattle.ffi3_place_rules.proofs.Elements.{argument_read}
+use Rattle.ffi3_type_spec.specs.Layout.{least_multiple, size_of}
+use Rattle.ffi3_type_spec.specs.Tree.{tree_at}
+use Rattle.ffi3_place_spec.specs.Standard.{plan_of, round8}
+use Rattle.ffi3_place_spec.proofs.Elements.{argument_read}
 use Rattle.ffi3_moves.specs.Moves.{arguments_out}
 use Rattle.ffi3_moves.proofs.Turns.{place_read, turn_out}
 use Rattle.ffi3_moves.proofs.arguments.push_arguments_out.Goals as goal

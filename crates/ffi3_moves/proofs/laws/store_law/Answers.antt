@@ -1,5 +1,5 @@
 use Rattle.std.proofs.Common.{◌<◌, ◌^◌, arith}
-use Rattle.ffi3_place_rules.specs.Standard.{plan_of}
+use Rattle.ffi3_place_spec.specs.Standard.{plan_of}
 use Rattle.ffi3_moves.proofs.Whole.{passed, passed_with}
 use Rattle.ffi3_moves.proofs.laws.store_law.Goals as goal
 

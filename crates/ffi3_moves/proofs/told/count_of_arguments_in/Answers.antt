@@ -1,7 +1,7 @@
 use Rattle.std.proofs.Common.{◌<◌, ◌≤◌, ◌^◌, length, ap, sym, subst, refl, arith}
-use Rattle.ffi3_type_rules.specs.Tree.{tree_at}
-use Rattle.ffi3_place_rules.specs.Standard.{plan_of}
-use Rattle.ffi3_place_rules.proofs.Elements.{argument_read}
+use Rattle.ffi3_type_spec.specs.Tree.{tree_at}
+use Rattle.ffi3_place_spec.specs.Standard.{plan_of}
+use Rattle.ffi3_place_spec.proofs.Elements.{argument_read}
 use Rattle.ffi3_moves.specs.Moves.{arguments_in}
 use Rattle.ffi3_moves.proofs.Turns.{place_read}
 use Rattle.ffi3_moves.proofs.Telling.{all_in, counted_in, uncounted_in}

@@ -1,6 +1,6 @@
 use Rattle.std.proofs.Common.{◌≡◌, ◌+◌, ◌*◌, ◌≤◌, drop, length, map}
 use Rattle.std.proofs.lemmas.List.Edits.{sets}
-use Rattle.ffi3_place_rules.specs.Standard.{plan_of}
+use Rattle.ffi3_place_spec.specs.Standard.{plan_of}
 use Rattle.ffi3_moves.specs.Moves.{arguments_out}
 use Rattle.ffi3_moves.specs.Told.{told_move}
 use Rattle.ffi3_moves.proofs.told.put_arguments_out.Given as goal

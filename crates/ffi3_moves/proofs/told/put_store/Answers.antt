@@ -1,6 +1,6 @@
 use Rattle.std.proofs.Common.{length, map, ap, ◌∙◌, arith}
 use Rattle.std.proofs.lemmas.List.{length-append}
-use Rattle.ffi3_place_rules.specs.Standard.{plan_of}
+use Rattle.ffi3_place_spec.specs.Standard.{plan_of}
 use Rattle.ffi3_moves.specs.Moves.{arguments_in, count_in, store_moves}
 use Rattle.ffi3_moves.specs.Told.{told_move}
 use Rattle.ffi3_moves.proofs.Telling.{length_sets, told_both, told_front}

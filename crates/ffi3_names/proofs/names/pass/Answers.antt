@@ -1,5 +1,5 @@
 use Rattle.std.proofs.Common.{ap, sym, ◌∙◌}
-use Rattle.ffi3_names_rules.specs.Scan.{names_in}
+use Rattle.ffi3_names_spec.specs.Scan.{names_in}
 use Rattle.ffi3_cdecl.specs.TokenOf.{token_of, sign_of, found_of}
 use Rattle.ffi3_names.specs.NamesOf.{names_of, spot_of}
 use Rattle.ffi3_names.proofs.Turns.{turn_inside, turn_blank, turn_skipped, turn_token, nothing_more}

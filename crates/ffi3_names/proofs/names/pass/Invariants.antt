@@ -1,5 +1,5 @@
 use Rattle.std.proofs.Common.{◌≡◌, ◌++◌, drop}
-use Rattle.ffi3_names_rules.specs.Scan.{names_in, names_over}
+use Rattle.ffi3_names_spec.specs.Scan.{names_in, names_over}
 use Rattle.ffi3_cdecl.specs.TokenOf.{sign_of}
 use Rattle.ffi3_names.specs.NamesOf.{names_of, spot_of}
 use Rattle.ffi3_names.proofs.names.pass.Given as goal

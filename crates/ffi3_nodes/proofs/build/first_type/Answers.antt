@@ -1,5 +1,5 @@
 use Rattle.std.proofs.Common.{◌∷◌, ◌∙◌, drop, ap, sym, subst}
-use Rattle.ffi3_type_rules.specs.Tree.{struct_of, array, trees_of}
+use Rattle.ffi3_type_spec.specs.Tree.{struct_of, array, trees_of}
 use Rattle.ffi3_nodes.specs.Nodes.{AreWritten}
 use Rattle.ffi3_nodes.proofs.Building.{leaf_first, first_struct, first_array, below_struct}
 use Rattle.ffi3_nodes.proofs.build.first_type.Goals as goal

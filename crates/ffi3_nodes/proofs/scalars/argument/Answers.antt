@@ -1,5 +1,5 @@
 use Rattle.std.proofs.Common.{◌≡◌, arith}
-use Rattle.ffi3_type_rules.specs.declared.Role.TheVariants.{AsArgument}
+use Rattle.ffi3_type_spec.specs.declared.Role.TheVariants.{AsArgument}
 use Rattle.ffi3_nodes.proofs.ScalarsAlone.{scalar_of_right, scalar_written}
 use Rattle.ffi3_nodes.proofs.scalars.argument.Goals as goal
 

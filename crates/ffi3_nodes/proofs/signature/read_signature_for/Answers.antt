@@ -1,9 +1,9 @@
 use Rattle.std.proofs.Common.{rules, ◌≡◌, sym, ◌∙◌}
 use Rattle.std.proofs.lemmas.Result.{IfOk-weaker, IfErr-weaker}
-use Rattle.ffi3_type_rules.specs.Signature.{Signature, SignatureHasNoFault, SignatureIsPlaced}
+use Rattle.ffi3_type_spec.specs.Signature.{Signature, SignatureHasNoFault, SignatureIsPlaced}
 use Rattle.ffi3_nodes.specs.Nodes.{IsSignatureOf}
-use Rattle.ffi3_type_rules.proofs.Placed.{faultless_is_placed}
-use Rattle.ffi3_format_rules.proofs.Resolving.{callable_is_own}
+use Rattle.ffi3_type_spec.proofs.Placed.{faultless_is_placed}
+use Rattle.ffi3_format_spec.proofs.Resolving.{callable_is_own}
 use Rattle.ffi3_nodes.specs.Read.{IsSignatureFor, IsFaultOf, IsRefusedFor, IsOfNone, IsUnplaceable, IsCallableWithout, IsRefusedWithout}
 use Rattle.ffi3_nodes.proofs.ForFormat.{callable_for, callable_without, one_signature_for, fault_refused, fault_of_none, fault_unplaceable, fault_without, unread_none, unread_refused, unread_uncallable, unread_unplaceable}
 use Rattle.ffi3_nodes.proofs.signature.read_signature_for.Goals as goal

@@ -1,6 +1,6 @@
 use Rattle.std.proofs.Common.{rules, ◌≡◌}
 use Rattle.std.proofs.lemmas.Result.{IfOk-weaker, IfErr-weaker}
-use Rattle.ffi3_type_rules.specs.Signature.{Signature, SignatureHasNoFault, HasNoLongDouble}
+use Rattle.ffi3_type_spec.specs.Signature.{Signature, SignatureHasNoFault, HasNoLongDouble}
 use Rattle.ffi3_nodes.specs.Nodes.{IsSignatureOf}
 use Rattle.ffi3_nodes.specs.Read.{IsOfNone, IsUnread, IsUnplaceable}
 use Rattle.ffi3_nodes.proofs.Building.{one_signature}

@@ -1,8 +1,8 @@
 use Rattle.std.proofs.Common.{◌<◌, ◌≤◌, set, length, ap, sym, ◌∙◌, refl, subst, arith}
 use Rattle.std.proofs.lemmas.List.{length-set}
-use Rattle.ffi3_type_rules.specs.Tree.{tree_at}
-use Rattle.ffi3_place_rules.specs.declared.Place.TheVariants.{ByRef}
-use Rattle.ffi3_place_rules.specs.Standard.{start, by_reference}
+use Rattle.ffi3_type_spec.specs.Tree.{tree_at}
+use Rattle.ffi3_place_spec.specs.declared.Place.TheVariants.{ByRef}
+use Rattle.ffi3_place_spec.specs.Standard.{start, by_reference}
 use Rattle.ffi3_place.proofs.Laid.{laid_place, laid_end, laid_places, laid_ends, laid_from_spots, ends_from_spots, put_again, ends_turn, places_turn, places_at_end, ends_at_end}
 use Rattle.ffi3_place.proofs.ends.lay_copies.Goals.{in-ByRef, in_default}
 use Rattle.ffi3_place.proofs.ends.lay_copies.Goals as goal

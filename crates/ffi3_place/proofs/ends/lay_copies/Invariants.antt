@@ -1,5 +1,5 @@
 use Rattle.std.proofs.Common.{◌≡◌, ◌+◌, ◌*◌, ◌≤◌, ◌++◌, take, drop, length}
-use Rattle.ffi3_type_rules.specs.declared.limits.TheConstants.{ARGUMENT_SPAN}
+use Rattle.ffi3_type_spec.specs.declared.limits.TheConstants.{ARGUMENT_SPAN}
 use Rattle.ffi3_place.proofs.Laid.{laid_places, laid_ends}
 use Rattle.ffi3_place.proofs.ends.lay_copies.Given as goal
 

@@ -1,5 +1,5 @@
 use Rattle.std.proofs.Common.{arith}
-use Rattle.ffi3_type_rules.proofs.Layouts.{align_bounded}
+use Rattle.ffi3_type_spec.proofs.Layouts.{align_bounded}
 use Rattle.ffi3_place.proofs.ends.start.Goals as goal
 
 pub round_up-requires-clause-fits : goal.round_up-requires-clause-fits

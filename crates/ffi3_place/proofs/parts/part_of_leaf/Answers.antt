@@ -1,9 +1,9 @@
 use Rattle.std.proofs.Common.{◌<◌, length, sym, subst, arith}
-use Rattle.ffi3_type_rules.specs.declared.Role.TheVariants.{Anywhere}
-use Rattle.ffi3_type_rules.specs.Layout.{leaves_of}
-use Rattle.ffi3_type_rules.proofs.Faults.{right_is_small}
+use Rattle.ffi3_type_spec.specs.declared.Role.TheVariants.{Anywhere}
+use Rattle.ffi3_type_spec.specs.Layout.{leaves_of}
+use Rattle.ffi3_type_spec.proofs.Faults.{right_is_small}
 use Rattle.ffi3_types.specs.TreeOf.{tree_of}
-use Rattle.ffi3_place_rules.proofs.Elements.{leaf_ends}
+use Rattle.ffi3_place_spec.proofs.Elements.{leaf_ends}
 use Rattle.ffi3_place.proofs.parts.part_of_leaf.Goals as goal
 
 pub overflow_cast-result : goal.overflow_cast-result

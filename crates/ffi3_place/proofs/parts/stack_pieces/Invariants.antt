@@ -1,7 +1,7 @@
 use Rattle.std.proofs.Common.{◌≡◌, ◌+◌, ◌-◌, ◌*◌, ◌++◌}
-use Rattle.ffi3_type_rules.specs.Layout.{size_of}
-use Rattle.ffi3_place_rules.specs.declared.Loc.TheVariants.{S}
-use Rattle.ffi3_place_rules.specs.Doublewords.{doublewords, doublewords_at, widening, stack_pieces}
+use Rattle.ffi3_type_spec.specs.Layout.{size_of}
+use Rattle.ffi3_place_spec.specs.declared.Loc.TheVariants.{S}
+use Rattle.ffi3_place_spec.specs.Doublewords.{doublewords, doublewords_at, widening, stack_pieces}
 use Rattle.ffi3_place.proofs.parts.stack_pieces.Given as goal
 
 abbrev pub invariant-loop-j : goal.invariant-loop-j

@@ -1,7 +1,7 @@
-use Rattle.ffi3_place_rules.proofs.Alike.{arrays_as_elements}
-use Rattle.ffi3_riscv_rules.specs.Riscv.{riscv}
-use Rattle.ffi3_riscv_rules.proofs.Alike.{goes_by_layout}
-use Rattle.ffi3_riscv_rules.proofs.Ends.{is_placed_by_ends}
+use Rattle.ffi3_place_spec.proofs.Alike.{arrays_as_elements}
+use Rattle.ffi3_riscv_spec.specs.Riscv.{riscv}
+use Rattle.ffi3_riscv_spec.proofs.Alike.{goes_by_layout}
+use Rattle.ffi3_riscv_spec.proofs.Ends.{is_placed_by_ends}
 use Rattle.ffi3_riscv.proofs.laws.placement_laws.Goals as goal
 
 pub returns-clause-ends : goal.returns-clause-ends

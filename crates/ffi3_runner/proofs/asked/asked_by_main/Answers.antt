@@ -1,10 +1,10 @@
 use Rattle.std.proofs.Common.{◌≡◌, List, [], sym, ap, ◌∙◌, subst, refl, None}
-use Rattle.ffi3_type_rules.specs.Tree.{Tree, void}
-use Rattle.ffi3_type_rules.specs.Layout.{least_multiple}
-use Rattle.ffi3_type_rules.specs.Signature.{Signature, SignatureHasNoFault}
-use Rattle.ffi3_place_rules.specs.Standard.{block_bytes}
-use Rattle.ffi3_run_rules.specs.Move.{no_signature}
-use Rattle.ffi3_type_rules.proofs.FirstSignatureFaults.{signature_right_by_none}
+use Rattle.ffi3_type_spec.specs.Tree.{Tree, void}
+use Rattle.ffi3_type_spec.specs.Layout.{least_multiple}
+use Rattle.ffi3_type_spec.specs.Signature.{Signature, SignatureHasNoFault}
+use Rattle.ffi3_place_spec.specs.Standard.{block_bytes}
+use Rattle.ffi3_semantics_spec.specs.Move.{no_signature}
+use Rattle.ffi3_type_spec.proofs.FirstSignatureFaults.{signature_right_by_none}
 use Rattle.ffi3_runner.specs.Agreeing.{seen_by_main}
 use Rattle.ffi3_runner.proofs.Numbers.{asked_as}
 use Rattle.ffi3_runner.proofs.asked.asked_by_main.Goals as goal

@@ -1,8 +1,8 @@
 use Rattle.std.proofs.Common.{◌≡◌, List, ap, map, refl, rules}
 use Rattle.ffi3_machine.specs.State.{begun}
-use Rattle.ffi3_script_rules.specs.Natives.{NamedNative}
-use Rattle.ffi3_ask.specs.Handed.{handed_in}
-use Rattle.ffi3_configuration.specs.declared.configuration.Turn.TheVariants as turn
+use Rattle.ffi3_script_spec.specs.Natives.{NamedNative}
+use Rattle.ffi3_next_move.specs.Handed.{handed_in}
+use Rattle.ffi3_run_state.specs.declared.configuration.Turn.TheVariants as turn
 use Rattle.ffi3_runner.specs.Ready.{traced_or_not}
 use Rattle.ffi3_runner_tests.proofs.Moving.{can_as}
 use Rattle.ffi3_runner_tests.proofs.turns.take_turns.Goals as goal

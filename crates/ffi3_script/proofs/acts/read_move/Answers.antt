@@ -1,5 +1,5 @@
 use Rattle.std.proofs.Common.{None, option_map}
-use Rattle.ffi3_script_rules.specs.Bodies.{read_act, read_move}
+use Rattle.ffi3_script_spec.specs.Bodies.{read_act, read_move}
 use Rattle.ffi3_json.proofs.Tellings.{part_handed_on}
 use Rattle.ffi3_script_body.specs.ExprOf.{typed_of}
 use Rattle.ffi3_script.specs.ScopeOf.{scope_of, given_in, surroundings_of}

@@ -1,5 +1,5 @@
 use Rattle.std.proofs.Common.{◌-◌, length, sym, ap, ◌∙◌}
-use Rattle.ffi3_script_rules.specs.Bodies.{always_returns}
+use Rattle.ffi3_script_spec.specs.Bodies.{always_returns}
 use Rattle.ffi3_script_body.specs.ExprOf.{script_move_of}
 use Rattle.ffi3_script.proofs.BodyParts.{ends-last, last-index}
 use Rattle.ffi3_script.proofs.bodies.ends.Goals as goal

@@ -1,6 +1,6 @@
 use Rattle.std.proofs.Common.{[], true, false, sym, ap, ◌∙◌}
-use Rattle.ffi3_script_rules.specs.Language.{under, value_under, no_return_at_the_end}
-use Rattle.ffi3_script_rules.specs.Bodies.{read_body, read_moves, items_at, ends}
+use Rattle.ffi3_script_spec.specs.Language.{under, value_under, no_return_at_the_end}
+use Rattle.ffi3_script_spec.specs.Bodies.{read_body, read_moves, items_at, ends}
 use Rattle.ffi3_json.proofs.Tellings.{tells_made, part_handed_on}
 use Rattle.ffi3_script_body.specs.ExprOf.{script_moves_of}
 use Rattle.ffi3_script.specs.ScopeOf.{surroundings_in}

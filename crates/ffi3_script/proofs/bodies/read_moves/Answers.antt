@@ -1,7 +1,7 @@
 use Rattle.std.proofs.Common.{◌≡◌, [], length, string_bytes, option_map, sym, ap, refl, ◌∙◌, arith}
 use Rattle.std.proofs.lemmas.List.{length_push}
-use Rattle.ffi3_script_rules.specs.Language.{read, at_item}
-use Rattle.ffi3_script_rules.specs.Bodies.{read_move, read_moves, type_of_act}
+use Rattle.ffi3_script_spec.specs.Language.{read, at_item}
+use Rattle.ffi3_script_spec.specs.Bodies.{read_move, read_moves, type_of_act}
 use Rattle.ffi3_json.proofs.Tellings.{part_handed_on}
 use Rattle.ffi3_script_body.specs.ExprOf.{act_of, script_move_of, script_moves_of}
 use Rattle.ffi3_script.specs.ScopeOf.{given_of, surroundings_in}

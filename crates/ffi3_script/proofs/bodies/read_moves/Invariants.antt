@@ -1,6 +1,6 @@
 use Rattle.std.proofs.Common.{◌≡◌, [], length}
 use Rattle.ffi3_json.specs.Parts.{items_from}
-use Rattle.ffi3_script_rules.specs.Bodies.{read_moves}
+use Rattle.ffi3_script_spec.specs.Bodies.{read_moves}
 use Rattle.ffi3_script_body.specs.ExprOf.{script_moves_of}
 use Rattle.ffi3_script.specs.ScopeOf.{given_of, surroundings_in}
 use Rattle.ffi3_script.proofs.Loops.{before}

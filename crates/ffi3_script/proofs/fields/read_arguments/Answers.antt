@@ -1,8 +1,8 @@
 use Rattle.std.proofs.Common.{◌≡◌, length, codes, sym, ap, ◌∙◌}
 use Rattle.serde_json.specs.Events.{items_len}
-use Rattle.ffi3_script_rules.specs.Language.{under, value_under, wrong_count}
-use Rattle.ffi3_script_rules.specs.Values.{read_values}
-use Rattle.ffi3_script_rules.specs.Bodies.{read_arguments, items_at}
+use Rattle.ffi3_script_spec.specs.Language.{under, value_under, wrong_count}
+use Rattle.ffi3_script_spec.specs.Values.{read_values}
+use Rattle.ffi3_script_spec.specs.Bodies.{read_arguments, items_at}
 use Rattle.ffi3_json.proofs.Tellings.{tells_made, tells_part, part_handed_on}
 use Rattle.ffi3_script.specs.ScopeOf.{scope_of}
 use Rattle.ffi3_script.proofs.ReadValues.{ok_by, err_by}

@@ -1,8 +1,8 @@
 use Rattle.std.proofs.Common.{codes, string_bytes, sym, ap, ◌∙◌}
 use Rattle.serde_json.specs.Find.{get, as_str}
 use Rattle.ffi3_types.specs.TreeOf.{tree_of}
-use Rattle.ffi3_script_rules.specs.Language.{under, void_result}
-use Rattle.ffi3_script_rules.specs.Bodies.{new_name, read_name}
+use Rattle.ffi3_script_spec.specs.Language.{under, void_result}
+use Rattle.ffi3_script_spec.specs.Bodies.{new_name, read_name}
 use Rattle.ffi3_json.proofs.Tellings.{tells_made, part_handed_on}
 use Rattle.ffi3_script.specs.Taken.{is_taken}
 use Rattle.ffi3_script.specs.ScopeOf.{given_in}

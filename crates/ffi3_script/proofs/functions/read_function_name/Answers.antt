@@ -1,7 +1,7 @@
 use Rattle.std.proofs.Common.{codes, sym, ap, ◌∙◌}
 use Rattle.serde_json.specs.Find.{as_str}
-use Rattle.ffi3_script_rules.specs.Language.{under, value_under}
-use Rattle.ffi3_script_rules.specs.Bodies.{is_one_of, new_name}
+use Rattle.ffi3_script_spec.specs.Language.{under, value_under}
+use Rattle.ffi3_script_spec.specs.Bodies.{is_one_of, new_name}
 use Rattle.ffi3_json.proofs.Tellings.{tells_part}
 use Rattle.ffi3_script.specs.Taken.{is_taken}
 use Rattle.ffi3_script.proofs.ReadValues.{ok_by, err_by}

@@ -1,8 +1,8 @@
 use Rattle.std.proofs.Common.{◌≡◌, ◌<◌, [], length, All, sym, ap, refl, subst, ◌∙◌, arith}
 use Rattle.std.proofs.lemmas.List.{length_push}
 use Rattle.std.proofs.lemmas.List.Elements.{All-push}
-use Rattle.ffi3_script_rules.specs.Language.{read, at_item}
-use Rattle.ffi3_script_rules.specs.Bodies.{read_heading, read_headings}
+use Rattle.ffi3_script_spec.specs.Language.{read, at_item}
+use Rattle.ffi3_script_spec.specs.Bodies.{read_heading, read_headings}
 use Rattle.ffi3_json.proofs.Tellings.{part_handed_on}
 use Rattle.ffi3_script.specs.PartsOf.{heading_of, headings_of}
 use Rattle.ffi3_script.specs.declared.functions.Heading.{Heading}

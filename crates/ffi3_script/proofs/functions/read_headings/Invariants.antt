@@ -1,6 +1,6 @@
 use Rattle.std.proofs.Common.{◌≡◌, ◌<◌, [], All, length}
 use Rattle.ffi3_json.specs.Parts.{items_from}
-use Rattle.ffi3_script_rules.specs.Bodies.{read_headings, names_of}
+use Rattle.ffi3_script_spec.specs.Bodies.{read_headings, names_of}
 use Rattle.ffi3_script.specs.PartsOf.{headings_of}
 use Rattle.ffi3_script.proofs.Loops.{before}
 use Rattle.ffi3_script.proofs.functions.read_headings.Given as goal

@@ -1,8 +1,8 @@
 use Rattle.std.proofs.Common.{◌<◌, List, length, map, drop, codes, refl, sym, ap, subst, ◌∙◌, arith}
-use Rattle.ffi3_type_rules.specs.Signature.{signature_at}
-use Rattle.ffi3_script_rules.specs.Language.{JsonPath, Read, under, value_under}
-use Rattle.ffi3_script_rules.specs.Bodies.{read_body, read_bodies}
-use Rattle.ffi3_script_rules.specs.Script.{ScriptMove}
+use Rattle.ffi3_type_spec.specs.Signature.{signature_at}
+use Rattle.ffi3_script_spec.specs.Language.{JsonPath, Read, under, value_under}
+use Rattle.ffi3_script_spec.specs.Bodies.{read_body, read_bodies}
+use Rattle.ffi3_script_spec.specs.Script.{ScriptMove}
 use Rattle.ffi3_json.proofs.Tellings.{part_handed_on}
 use Rattle.ffi3_script.specs.ScopeOf.{surroundings_in}
 use Rattle.ffi3_script.specs.PartsOf.{headings_of, part_of}

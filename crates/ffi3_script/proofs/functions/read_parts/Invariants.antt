@@ -1,6 +1,6 @@
 use Rattle.std.proofs.Common.{◌≡◌, map, drop}
 use Rattle.ffi3_json.specs.Parts.{items_from}
-use Rattle.ffi3_script_rules.specs.Bodies.{read_bodies}
+use Rattle.ffi3_script_spec.specs.Bodies.{read_bodies}
 use Rattle.ffi3_script.specs.PartsOf.{headings_of, part_of}
 use Rattle.ffi3_script.proofs.Loops.{before}
 use Rattle.ffi3_script.proofs.functions.read_parts.Given as goal

@@ -1,8 +1,8 @@
 use Rattle.std.proofs.Common.{◌≡◌, true, ◌∷◌, [], map, sym, ap, subst, ◌∙◌}
-use Rattle.ffi3_script_rules.specs.Script as script
-use Rattle.ffi3_script_rules.specs.Made.{made, made_types, made_signature, made_function, made_main}
-use Rattle.ffi3_script_rules.specs.Typed.{script_is_typed}
-use Rattle.ffi3_script_rules.proofs.Made.{made_is_typed}
+use Rattle.ffi3_script_spec.specs.Script as script
+use Rattle.ffi3_script_spec.specs.Made.{made, made_types, made_signature, made_function, made_main}
+use Rattle.ffi3_script_spec.specs.Typed.{script_is_typed}
+use Rattle.ffi3_script_spec.proofs.Made.{made_is_typed}
 use Rattle.ffi3_bench_script.specs.ShapesOf.{types_in}
 use Rattle.ffi3_bench_script.specs.KindOf.{state_of}
 use Rattle.ffi3_script_body.specs.ExprOf.{script_moves_of}

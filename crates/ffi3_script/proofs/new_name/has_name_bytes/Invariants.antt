@@ -1,6 +1,6 @@
 use Rattle.std.proofs.Common.{◌≡◌, drop}
 use Rattle.std.specs.List.{list_all}
-use Rattle.ffi3_script_rules.specs.Bodies.{is_name_byte}
+use Rattle.ffi3_script_spec.specs.Bodies.{is_name_byte}
 use Rattle.ffi3_script.proofs.new_name.has_name_bytes.Given as goal
 
 abbrev pub invariant-loop-byte : goal.invariant-loop-byte

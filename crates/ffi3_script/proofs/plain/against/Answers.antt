@@ -1,7 +1,7 @@
 use Rattle.std.proofs.Common.{true, false, sym, ap, ◌∙◌}
 use Rattle.ffi3_types.specs.TreeOf.{tree_of}
-use Rattle.ffi3_script_rules.specs.Language.{wrong_type}
-use Rattle.ffi3_script_rules.specs.Values.{typed, against}
+use Rattle.ffi3_script_spec.specs.Language.{wrong_type}
+use Rattle.ffi3_script_spec.specs.Values.{typed, against}
 use Rattle.ffi3_json.proofs.Tellings.{tells_made}
 use Rattle.ffi3_script_body.specs.ExprOf.{expression_of}
 use Rattle.ffi3_script.specs.OwnTypeOf.{typed_value_of}

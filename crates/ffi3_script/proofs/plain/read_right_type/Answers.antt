@@ -1,7 +1,7 @@
 use Rattle.ffi3_types.specs.TreeOf.{tree_of}
 use Rattle.ffi3_types.specs.FaultOf.{path_of, fault_of}
-use Rattle.ffi3_script_rules.specs.Language.{inside_type, reason_of_type_fault}
-use Rattle.ffi3_script_rules.specs.Values.{read_right_type}
+use Rattle.ffi3_script_spec.specs.Language.{inside_type, reason_of_type_fault}
+use Rattle.ffi3_script_spec.specs.Values.{read_right_type}
 use Rattle.ffi3_json.proofs.Tellings.{tells_made}
 use Rattle.ffi3_script.proofs.ReadTypes.{right_type-ok, right_type-fault}
 use Rattle.ffi3_script.proofs.plain.read_right_type.Goals as goal

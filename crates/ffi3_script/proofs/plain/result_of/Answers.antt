@@ -1,8 +1,8 @@
 use Rattle.std.proofs.Common.{sym, ap, ◌∙◌, arith}
 use Rattle.serde_json.specs.Find.{as_str}
-use Rattle.ffi3_script_rules.specs.Language.{read, no_such_result}
-use Rattle.ffi3_script_rules.specs.Script.{outcome}
-use Rattle.ffi3_script_rules.specs.Values.{result_of, typed}
+use Rattle.ffi3_script_spec.specs.Language.{read, no_such_result}
+use Rattle.ffi3_script_spec.specs.Script.{outcome}
+use Rattle.ffi3_script_spec.specs.Values.{result_of, typed}
 use Rattle.ffi3_json.proofs.Tellings.{tells_made}
 use Rattle.ffi3_script.specs.ScopeOf.{given_of}
 use Rattle.ffi3_script.proofs.ReadResults.{no_result, a_result, below}

@@ -1,8 +1,8 @@
 use Rattle.std.proofs.Common.{◌≡◌, List, length, nat_lt, sym, subst, true}
 use Rattle.std.specs.List.{list_all}
-use Rattle.ffi3_type_rules.specs.Signature.{Signature, signature_at}
-use Rattle.ffi3_script_rules.specs.Typed.{body_is_typed, signature_is_right}
-use Rattle.ffi3_script_rules.proofs.Tests.{and_left, and_right}
+use Rattle.ffi3_type_spec.specs.Signature.{Signature, signature_at}
+use Rattle.ffi3_script_spec.specs.Typed.{body_is_typed, signature_is_right}
+use Rattle.ffi3_script_spec.proofs.Tests.{and_left, and_right}
 use Rattle.ffi3_script_body.specs.ExprOf.{script_moves_of}
 use Rattle.ffi3_script.proofs.read.function_of.Goals as goal
 

@@ -1,8 +1,8 @@
 use Rattle.std.proofs.Common.{◌≡◌, ◌<◌, ◌++◌, ◌^◌, true, All, length, map, sym, ap, subst, ◌∙◌}
 use Rattle.std.proofs.lemmas.List.Elements.{All-nil, All-push}
 use Rattle.std.specs.Vec.Iter.{into_iter_items}
-use Rattle.ffi3_type_rules.specs.Signature.{signature_at}
-use Rattle.ffi3_script_rules.specs.Typed.{function_is_typed}
+use Rattle.ffi3_type_spec.specs.Signature.{signature_at}
+use Rattle.ffi3_script_spec.specs.Typed.{function_is_typed}
 use Rattle.ffi3_script.specs.FunctionOf.{function_of, StandsIn}
 use Rattle.ffi3_script.specs.PartsOf.{part_of}
 use Rattle.ffi3_script.specs.declared.script.ScriptFunction.{ScriptFunction}

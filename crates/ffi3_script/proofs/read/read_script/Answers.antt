@@ -1,7 +1,7 @@
 use Rattle.std.proofs.Common.{◌≡◌, true, length, sym, subst, arith}
-use Rattle.ffi3_script_rules.specs.Reading.{IsJson, IsTheReading, script}
-use Rattle.ffi3_script_rules.specs.Typed.{script_is_typed}
-use Rattle.ffi3_script_rules.proofs.WellTyped.{script_is_well_typed}
+use Rattle.ffi3_script_spec.specs.Reading.{IsJson, IsTheReading, script}
+use Rattle.ffi3_script_spec.specs.Typed.{script_is_typed}
+use Rattle.ffi3_script_spec.proofs.WellTyped.{script_is_well_typed}
 use Rattle.ffi3_json.specs.Within.{HasArraysWithin}
 use Rattle.ffi3_script.specs.PartsOf.{script_in}
 use Rattle.ffi3_script.proofs.Few.{IsFew, script-few}

@@ -1,6 +1,6 @@
 use Rattle.std.proofs.Common.{◌≡◌, ◌+◌, List, All, length, sym, ap, subst, true, ◌∙◌}
-use Rattle.ffi3_type_rules.specs.Signature.{Signature}
-use Rattle.ffi3_script_rules.specs.Typed.{function_is_typed}
+use Rattle.ffi3_type_spec.specs.Signature.{Signature}
+use Rattle.ffi3_script_spec.specs.Typed.{function_is_typed}
 use Rattle.ffi3_script.specs.PartsOf.{part_of}
 use Rattle.ffi3_script.specs.declared.functions.FunctionPart.{FunctionPart}
 use Rattle.ffi3_script.proofs.Making.{each-typed}

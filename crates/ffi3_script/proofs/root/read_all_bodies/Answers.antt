@@ -1,8 +1,8 @@
 use Rattle.std.proofs.Common.{◌≡◌, List, map, codes, None, refl, ap, ◌∙◌}
-use Rattle.ffi3_type_rules.specs.Tree.{Tree, void}
-use Rattle.ffi3_run_rules.specs.Move.{no_signature}
-use Rattle.ffi3_script_rules.specs.Language.{under, value_under}
-use Rattle.ffi3_script_rules.specs.Bodies.{read_body, read_bodies}
+use Rattle.ffi3_type_spec.specs.Tree.{Tree, void}
+use Rattle.ffi3_semantics_spec.specs.Move.{no_signature}
+use Rattle.ffi3_script_spec.specs.Language.{under, value_under}
+use Rattle.ffi3_script_spec.specs.Bodies.{read_body, read_bodies}
 use Rattle.ffi3_json.proofs.Tellings.{part_handed_on}
 use Rattle.ffi3_script_body.specs.ExprOf.{script_moves_of}
 use Rattle.ffi3_script.specs.ScopeOf.{surroundings_in}

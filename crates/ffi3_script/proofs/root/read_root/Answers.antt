@@ -1,6 +1,6 @@
 use Rattle.std.proofs.Common.{[], length, codes, ◌∙◌}
-use Rattle.ffi3_script_rules.specs.Language.{value_under}
-use Rattle.ffi3_script_rules.specs.Bodies.{items_at, read_signatures, read_headings, read_script, read_rest}
+use Rattle.ffi3_script_spec.specs.Language.{value_under}
+use Rattle.ffi3_script_spec.specs.Bodies.{items_at, read_signatures, read_headings, read_script, read_rest}
 use Rattle.ffi3_json.proofs.Tellings.{part_handed_on}
 use Rattle.ffi3_script.specs.PartsOf.{headings_of}
 use Rattle.ffi3_script.proofs.RootParts.{root-items, root-signatures, root-functions, root-headings, root-rest}

@@ -1,7 +1,7 @@
 use Rattle.std.proofs.Common.{length, sym, ap, refl, ◌∙◌, arith}
 use Rattle.std.proofs.lemmas.List.{length_push}
-use Rattle.ffi3_script_rules.specs.Language.{read_signature}
-use Rattle.ffi3_script_rules.specs.Bodies.{read_signatures}
+use Rattle.ffi3_script_spec.specs.Language.{read_signature}
+use Rattle.ffi3_script_spec.specs.Bodies.{read_signatures}
 use Rattle.ffi3_json.proofs.Tellings.{part_handed_on}
 use Rattle.ffi3_script.proofs.Loops.{all_read}
 use Rattle.ffi3_script.proofs.RootParts.{signatures-turn, signatures-fault}

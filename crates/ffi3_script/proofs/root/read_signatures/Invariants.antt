@@ -1,6 +1,6 @@
 use Rattle.std.proofs.Common.{◌≡◌, length}
 use Rattle.ffi3_json.specs.Parts.{items_from}
-use Rattle.ffi3_script_rules.specs.Bodies.{read_signatures}
+use Rattle.ffi3_script_spec.specs.Bodies.{read_signatures}
 use Rattle.ffi3_script.proofs.Loops.{before}
 use Rattle.ffi3_script.proofs.root.read_signatures.Given as goal
 

@@ -4,8 +4,8 @@ use Rattle.serde_json.specs.Events.{items_len}
 use Rattle.serde_json.specs.Find.{as_number, as_u64}
 use Rattle.serde_json.specs.View.{number_view}
 use Rattle.ffi3_types.specs.TreeOf.{tree_of}
-use Rattle.ffi3_script_rules.specs.Language.{read, fault, at_item, under, wrong_type, wrong_count}
-use Rattle.ffi3_script_rules.specs.Values.{read_number, read_value, read_values, read_typed, read_field, read_of, read_right_type, field_of, typed_form, form_named}
+use Rattle.ffi3_script_spec.specs.Language.{read, fault, at_item, under, wrong_type, wrong_count}
+use Rattle.ffi3_script_spec.specs.Values.{read_number, read_value, read_values, read_typed, read_field, read_of, read_right_type, field_of, typed_form, form_named}
 use Rattle.ffi3_json.proofs.Tellings.{tells_part, tells_made, part_handed_on}
 use Rattle.ffi3_script_body.specs.ExprOf.{expression_of, expressions_in}
 use Rattle.ffi3_script.specs.ScopeOf.{scope_of}

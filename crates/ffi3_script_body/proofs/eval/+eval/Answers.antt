@@ -1,11 +1,11 @@
 use Rattle.std.proofs.Common.{◌≡◌, ◌<◌, [], ◌∷◌, ◌++◌, take, true, refl, ap, ◌∙◌, subst, sym, arith, length}
 use Rattle.std.proofs.lemmas.Result.{IfOk-weaker}
-use Rattle.ffi3_type_rules.specs.Integer.{scalar_of, is_number_type, number_of, bytes_of_number}
-use Rattle.ffi3_type_rules.specs.Value.{leaf_value, bytes_of}
+use Rattle.ffi3_type_spec.specs.Integer.{scalar_of, is_number_type, number_of, bytes_of_number}
+use Rattle.ffi3_type_spec.specs.Value.{leaf_value, bytes_of}
 use Rattle.ffi3_types.specs.TreeOf.{tree_of}
 use Rattle.ffi3_values.specs.ValueOf.{value_of}
-use Rattle.ffi3_script_rules.specs.Meaning as meaning
-use Rattle.ffi3_script_rules.specs.Typed.{has_type, own_type}
+use Rattle.ffi3_script_spec.specs.Meaning as meaning
+use Rattle.ffi3_script_spec.specs.Typed.{has_type, own_type}
 use Rattle.ffi3_script_body.specs.ExprOf.{expression_of}
 use Rattle.ffi3_script_body.specs.KnownAt.{kinds_of, known_of}
 use Rattle.ffi3_script_body.specs.PartOf.{IsPart, part_of, whole_of}

@@ -1,13 +1,13 @@
 use Rattle.std.proofs.Common.{◌≡◌, List, refl, map, ap, sym, ◌∙◌, subst, rules}
-use Rattle.ffi3_type_rules.specs.declared.Target.{Target}
-use Rattle.ffi3_type_rules.specs.Signature.{Signature, signature_at}
-use Rattle.ffi3_run_rules.specs.Closures.{Closures}
-use Rattle.ffi3_run_rules.specs.Meaning.{Program}
-use Rattle.ffi3_script_rules.specs.Natives.{NamedNative, program_beside}
+use Rattle.ffi3_type_spec.specs.declared.Target.{Target}
+use Rattle.ffi3_type_spec.specs.Signature.{Signature, signature_at}
+use Rattle.ffi3_semantics_spec.specs.Closures.{Closures}
+use Rattle.ffi3_semantics_spec.specs.Meaning.{Program}
+use Rattle.ffi3_script_spec.specs.Natives.{NamedNative, program_beside}
 use Rattle.ffi3_script.specs.ScriptOf.{script_of}
 use Rattle.ffi3_closures.specs.Slots.{HoldsMap}
-use Rattle.ffi3_ask.specs.Handed.{handed_in}
-use Rattle.ffi3_configuration.specs.Served.{IsIdle}
+use Rattle.ffi3_next_move.specs.Handed.{handed_in}
+use Rattle.ffi3_run_state.specs.Served.{IsIdle}
 use Rattle.ffi3_runner.specs.declared.run.RunEnd.TheVariants as run
 use Rattle.ffi3_serve_tests.proofs.Shown.{at_entry, bottom, frame}
 use Rattle.ffi3_serve_tests.proofs.serving.call_after_main.Goals as goal

@@ -1,5 +1,5 @@
 use Rattle.std.proofs.Common.{append-nil, sym, arith}
-use Rattle.ffi3_type_rules.specs.Isa.{isa_of}
+use Rattle.ffi3_type_spec.specs.TargetIsa.{isa_of}
 use Rattle.ffi3_machine.specs.Entries.{event_of}
 use Rattle.ffi3_text.specs.TraceLines.{register_text}
 use Rattle.ffi3_text.proofs.Kept.{is_register, texts_turn, texts_end}

@@ -1,9 +1,9 @@
 use Rattle.std.proofs.Common.{◌≡◌, ◌++◌, ap, sym, ◌∙◌, arith, append-nil, [], ◌∷◌}
 use Rattle.std.specs.Prelude.{slice_index_or}
-use Rattle.ffi3_type_rules.specs.Tree.{tree_at}
-use Rattle.ffi3_type_rules.specs.ValueText.{value_text_of}
-use Rattle.ffi3_type_rules.proofs.ValueElements.{fitting_lengths, fitting_element}
-use Rattle.ffi3_type_rules.proofs.ValueTexts.{element_texts, length-element_texts, element_text, joined-none, joined-all, joined-turn-first, joined-turn-next}
+use Rattle.ffi3_type_spec.specs.Tree.{tree_at}
+use Rattle.ffi3_type_spec.specs.ValueText.{value_text_of}
+use Rattle.ffi3_type_spec.proofs.ValueElements.{fitting_lengths, fitting_element}
+use Rattle.ffi3_type_spec.proofs.ValueTexts.{element_texts, length-element_texts, element_text, joined-none, joined-all, joined-turn-first, joined-turn-next}
 use Rattle.ffi3_types.specs.TreeOf.{tree_of}
 use Rattle.ffi3_values.specs.ValueOf.{value_of}
 use Rattle.ffi3_text.proofs.trace.write_values.Goals as goal

@@ -1,12 +1,12 @@
 use Rattle.std.proofs.Common.{◌≡◌, ◌+◌, ◌-◌, ◌<◌, ◌++◌, take, drop, length, ap, sym, ◌∙◌, subst, arith}
-use Rattle.ffi3_type_rules.specs.Layout.{size_of, least_multiple}
-use Rattle.ffi3_place_rules.specs.Standard.{plan_of, round8}
-use Rattle.ffi3_explain_rules.specs.Arguments.{outside_of, value_by_standard}
+use Rattle.ffi3_type_spec.specs.Layout.{size_of, least_multiple}
+use Rattle.ffi3_place_spec.specs.Standard.{plan_of, round8}
+use Rattle.ffi3_explain_spec.specs.Arguments.{outside_of, value_by_standard}
 use Rattle.ffi3_transfer.proofs.Ready.{reached}
-use Rattle.ffi3_type_rules.specs.Tree.{tree_at}
-use Rattle.ffi3_place_rules.proofs.Elements.{argument_read}
+use Rattle.ffi3_type_spec.specs.Tree.{tree_at}
+use Rattle.ffi3_place_spec.proofs.Elements.{argument_read}
 use Rattle.std.specs.Prelude.{None}
-use Rattle.ffi3_type_rules.specs.Value.{value_in}
+use Rattle.ffi3_type_spec.specs.Value.{value_in}
 use Rattle.ffi3_transfer.specs.Stored.{image_in}
 use Rattle.ffi3_transfer.specs.Packed.{first_in, packed_size}
 use Rattle.ffi3_transfer.proofs.Packing.{in_room, room_before}

@@ -1,8 +1,8 @@
 use Rattle.std.specs.Prelude.{Some}
 use Rattle.std.proofs.Common.{◌≡◌, ◌<◌, length, ap, sym, ◌∙◌, subst, refl, arith}
-use Rattle.ffi3_place_rules.specs.Standard.{plan_of}
+use Rattle.ffi3_place_spec.specs.Standard.{plan_of}
 use Rattle.ffi3_transfer.proofs.Ready.{reached}
-use Rattle.ffi3_explain_rules.specs.Arguments.{first_outside}
+use Rattle.ffi3_explain_spec.specs.Arguments.{first_outside}
 use Rattle.ffi3_transfer.specs.Stored.{image_in}
 use Rattle.ffi3_transfer.proofs.Turns.{at_argument, ready_here, found_here, inside_here}
 use Rattle.ffi3_transfer.proofs.collecting.first_outside.Goals as goal

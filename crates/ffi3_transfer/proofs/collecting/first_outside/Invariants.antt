@@ -1,4 +1,4 @@
-use Rattle.ffi3_place_rules.specs.Standard.{plan_of}
+use Rattle.ffi3_place_spec.specs.Standard.{plan_of}
 use Rattle.ffi3_transfer.specs.Stored.{image_in}
 use Rattle.ffi3_transfer.proofs.Turns.{AreInside}
 use Rattle.ffi3_transfer.proofs.collecting.first_outside.Given as goal

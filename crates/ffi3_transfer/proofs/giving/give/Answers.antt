@@ -1,18 +1,18 @@
 use Rattle.std.specs.Prelude.{nat_le, true}
 use Rattle.std.proofs.Common.{◌≡◌, ◌+◌, ◌-◌, ◌^◌, ◌<◌, ◌≤◌, length, ap, sym, ◌∙◌, subst, arith}
-use Rattle.ffi3_type_rules.specs.Layout.{size_of}
-use Rattle.ffi3_type_rules.specs.Isa.{isa_of}
-use Rattle.ffi3_place_rules.specs.declared.Place.TheVariants.{Direct}
-use Rattle.ffi3_place_rules.specs.Image.{word_at}
-use Rattle.ffi3_place_rules.specs.Sound.{hidden_locs}
-use Rattle.ffi3_place_rules.specs.Isa.{to_list}
-use Rattle.ffi3_place_rules.specs.Standard.{plan_of}
-use Rattle.ffi3_place_rules.proofs.Tests.{and_left}
+use Rattle.ffi3_type_spec.specs.Layout.{size_of}
+use Rattle.ffi3_type_spec.specs.TargetIsa.{isa_of}
+use Rattle.ffi3_place_spec.specs.declared.Place.TheVariants.{Direct}
+use Rattle.ffi3_place_spec.specs.Image.{word_at}
+use Rattle.ffi3_place_spec.specs.Sound.{hidden_locs}
+use Rattle.ffi3_place_spec.specs.MachineRegisters.{to_list}
+use Rattle.ffi3_place_spec.specs.Standard.{plan_of}
+use Rattle.ffi3_place_spec.proofs.Tests.{and_left}
 use Rattle.ffi3_marshal.specs.Standing.{PiecesStand}
 use Rattle.ffi3_marshal.proofs.Arguments.{lies_more_in}
 use Rattle.ffi3_transfer.proofs.Ready.{registers_lie}
-use Rattle.ffi3_explain_rules.specs.Arguments.{is_in_image, stack_end}
-use Rattle.ffi3_explain_rules.proofs.Pieces.{is_le}
+use Rattle.ffi3_explain_spec.specs.Arguments.{is_in_image, stack_end}
+use Rattle.ffi3_explain_spec.proofs.Pieces.{is_le}
 use Rattle.ffi3_explain.proofs.Standing.{found_inside}
 use Rattle.ffi3_transfer.specs.Stored.{floating_words, image_in}
 use Rattle.ffi3_transfer.proofs.PlaceBytes.{hidden_there}

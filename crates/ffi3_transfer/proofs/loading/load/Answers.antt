@@ -1,7 +1,7 @@
 use Rattle.std.proofs.Common.{◌≡◌, length, ap, sym, ◌∙◌, arith}
-use Rattle.ffi3_type_rules.specs.Layout.{size_of}
-use Rattle.ffi3_place_rules.specs.declared.Res.TheVariants.{Direct}
-use Rattle.ffi3_explain_rules.specs.Explain.{first_bytes}
+use Rattle.ffi3_type_spec.specs.Layout.{size_of}
+use Rattle.ffi3_place_spec.specs.declared.Res.TheVariants.{Direct}
+use Rattle.ffi3_explain_spec.specs.Explain.{first_bytes}
 use Rattle.ffi3_transfer.specs.Stored.{image_in}
 use Rattle.ffi3_transfer.proofs.Results.{buffer_within, result_there, result_within, is_loaded}
 use Rattle.ffi3_transfer.proofs.loading.load.Goals as goal

@@ -1,5 +1,5 @@
 use Rattle.std.proofs.Common.{◌≡◌, ◌+◌, ◌-◌, length, subst, arith, rules}
-use Rattle.ffi3_type_rules.specs.Fault.{IsLaidOut}
+use Rattle.ffi3_type_spec.specs.Fault.{IsLaidOut}
 use Rattle.ffi3_transfer.proofs.Cleared.{AreCleared, none_cleared, one_cleared, all_cleared}
 use Rattle.ffi3_transfer.proofs.padding.clear_padding.Goals as goal
 

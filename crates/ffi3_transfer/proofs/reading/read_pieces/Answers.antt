@@ -1,5 +1,5 @@
 use Rattle.std.proofs.Common.{◌≡◌, ◌+◌, ◌-◌, ◌<◌, length, subst, sym, arith, rules}
-use Rattle.ffi3_place_rules.specs.Sound.{IsWithin}
+use Rattle.ffi3_place_spec.specs.Sound.{IsWithin}
 use Rattle.ffi3_transfer.specs.Places.{CanBeRead}
 use Rattle.ffi3_explain.proofs.Loops.{ArePiecesRead, each_from, one_more_read, all_read, none_read}
 use Rattle.ffi3_transfer.specs.Stored.{image_in}

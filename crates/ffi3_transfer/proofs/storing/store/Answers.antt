@@ -1,7 +1,7 @@
 use Rattle.std.proofs.Common.{◌≡◌, ◌+◌, ◌<◌, ◌≤◌, ◌^◌, length, sym, ◌∙◌, subst, arith}
 use Rattle.std.specs.List.{AllByRecursion}
-use Rattle.ffi3_place_rules.specs.Sound.{IsWhole, hidden_locs}
-use Rattle.ffi3_place_rules.specs.Standard.{frame_of}
+use Rattle.ffi3_place_spec.specs.Sound.{IsWhole, hidden_locs}
+use Rattle.ffi3_place_spec.specs.Standard.{frame_of}
 use Rattle.ffi3_transfer.specs.Places.{HiddenIsThere}
 use Rattle.ffi3_transfer.proofs.Ready.{result_ready}
 use Rattle.ffi3_transfer.specs.Stored.{image_in}

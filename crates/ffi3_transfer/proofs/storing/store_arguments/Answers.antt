@@ -1,8 +1,8 @@
 use Rattle.std.proofs.Common.{◌≡◌, ◌+◌, ◌-◌, ◌<◌, take, drop, length, ap, sym, ◌∙◌, subst, arith}
-use Rattle.ffi3_type_rules.specs.Tree.{tree_at}
-use Rattle.ffi3_type_rules.specs.Layout.{size_of, least_multiple}
-use Rattle.ffi3_place_rules.specs.Standard.{plan_of, frame_of, round8}
-use Rattle.ffi3_place_rules.proofs.Elements.{argument_read}
+use Rattle.ffi3_type_spec.specs.Tree.{tree_at}
+use Rattle.ffi3_type_spec.specs.Layout.{size_of, least_multiple}
+use Rattle.ffi3_place_spec.specs.Standard.{plan_of, frame_of, round8}
+use Rattle.ffi3_place_spec.proofs.Elements.{argument_read}
 use Rattle.ffi3_marshal.specs.Standing.{PlaceKeeps, PlaceStands, place_uses}
 use Rattle.ffi3_marshal.specs.Stored.{Stays}
 use Rattle.ffi3_marshal.proofs.Arguments.{any_argument, lies_more_in, any_ready_all}

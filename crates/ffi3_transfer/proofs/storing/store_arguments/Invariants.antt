@@ -1,4 +1,4 @@
-use Rattle.ffi3_place_rules.specs.Standard.{plan_of, frame_of}
+use Rattle.ffi3_place_spec.specs.Standard.{plan_of, frame_of}
 use Rattle.ffi3_transfer.specs.Stored.{image_in}
 use Rattle.ffi3_transfer.proofs.Arguments.{AllStored}
 use Rattle.ffi3_transfer.proofs.storing.store_arguments.Given as goal

@@ -1,6 +1,6 @@
 use Rattle.std.proofs.Common.{subst}
 use Rattle.std.specs.List.{AllByRecursion}
-use Rattle.ffi3_place_rules.specs.Isa.{to_list}
+use Rattle.ffi3_place_spec.specs.MachineRegisters.{to_list}
 use Rattle.ffi3_transfer.specs.Places.{IsPlace}
 use Rattle.ffi3_transfer.proofs.Ready.{register_is_whole}
 use Rattle.ffi3_transfer.proofs.storing.store_count.Goals as goal

@@ -1,6 +1,6 @@
 use Rattle.std.proofs.Common.{◌≡◌, ◌-◌, length, rules}
-use Rattle.ffi3_place_rules.specs.Holds.{OwnsHidden}
-use Rattle.ffi3_place_rules.specs.Sound.{hidden_locs}
+use Rattle.ffi3_place_spec.specs.Holds.{OwnsHidden}
+use Rattle.ffi3_place_spec.specs.Sound.{hidden_locs}
 use Rattle.ffi3_marshal.specs.Stored.{Stays}
 use Rattle.ffi3_transfer.specs.Stored.{image_in}
 use Rattle.ffi3_transfer.proofs.Lent.{each_takes, gave_back, hidden_places}

@@ -1,6 +1,6 @@
 use Rattle.std.proofs.Common.{◌≡◌, ◌-◌, length, rules}
 use Rattle.std.specs.List.{AllByRecursion}
-use Rattle.ffi3_place_rules.specs.Sound.{piece_locs}
+use Rattle.ffi3_place_spec.specs.Sound.{piece_locs}
 use Rattle.ffi3_marshal.specs.Stored.{KeepsAbove, Stays}
 use Rattle.ffi3_marshal.specs.Standing.{PiecesStand}
 use Rattle.ffi3_transfer.specs.Stored.{image_in}

@@ -1,5 +1,5 @@
 use Rattle.std.proofs.Common.{◌≡◌, ◌-◌, length, rules}
-use Rattle.ffi3_place_rules.specs.Sound.{place_locs}
+use Rattle.ffi3_place_spec.specs.Sound.{place_locs}
 use Rattle.ffi3_marshal.specs.Stored.{Stays}
 use Rattle.ffi3_marshal.specs.Standing.{PlaceKeeps, PlaceStands, place_uses}
 use Rattle.ffi3_transfer.specs.Stored.{image_in}

@@ -1,7 +1,7 @@
 use Rattle.std.proofs.Common.{ap, sym, ◌∙◌}
 use Rattle.std.specs.Prelude.{◌++◌}
-use Rattle.ffi3_type_rules.specs.Names.{type_beside, type_names, wide_names}
-use Rattle.ffi3_type_rules.proofs.Names.{beside-later, named_in_1, named_later}
+use Rattle.ffi3_type_spec.specs.Names.{type_beside, type_names, wide_names}
+use Rattle.ffi3_type_spec.proofs.Names.{beside-later, named_in_1, named_later}
 use Rattle.ffi3_types.proofs.FfiType.from_name.Goals as goal
 
 pub returns-then-version-eq1 : goal.returns-then-version-eq1

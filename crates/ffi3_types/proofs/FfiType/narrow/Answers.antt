@@ -1,8 +1,8 @@
 use Rattle.std.proofs.Common.{ap, sym, inl, inr}
 use Rattle.std.specs.Prelude.{ℕ, List, Option}
-use Rattle.ffi3_type_rules.specs.Tree.{Tree}
-use Rattle.ffi3_type_rules.specs.Names.{type_beside, type_names}
-use Rattle.ffi3_type_rules.proofs.Names.{beside-none}
+use Rattle.ffi3_type_spec.specs.Tree.{Tree}
+use Rattle.ffi3_type_spec.specs.Names.{type_beside, type_names}
+use Rattle.ffi3_type_spec.proofs.Names.{beside-none}
 use Rattle.ffi3_types.proofs.FfiType.narrow.Goals as goal
 
 abbrev named : List ℕ → Option Tree

@@ -1,6 +1,6 @@
 use Rattle.std.proofs.Common.{ap, arith, length}
-use Rattle.ffi3_type_rules.specs.Tree.{elements_of, list_of-trees_of, tree_at}
-use Rattle.ffi3_type_rules.specs.Layout.{size_of}
+use Rattle.ffi3_type_spec.specs.Tree.{elements_of, list_of-trees_of, tree_at}
+use Rattle.ffi3_type_spec.specs.Layout.{size_of}
 use Rattle.ffi3_types.specs.TreeOf.{tree_of}
 use Rattle.ffi3_types.proofs.FfiType.offset.Goals as goal
 

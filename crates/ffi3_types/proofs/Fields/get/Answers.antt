@@ -1,7 +1,7 @@
 use Rattle.std.proofs.Common.{◌≡◌, ap, arith}
 use Rattle.std.proofs.lemmas.Grind.{common_steps}
-use Rattle.ffi3_type_rules.specs.Tree.{nodes, tree_at}
-use Rattle.ffi3_type_rules.proofs.Layouts.{nodes-element}
+use Rattle.ffi3_type_spec.specs.Tree.{nodes, tree_at}
+use Rattle.ffi3_type_spec.proofs.Layouts.{nodes-element}
 use Rattle.ffi3_types.specs.TreeOf.{tree_of}
 use Rattle.ffi3_types.proofs.Fields.get.Goals as goal
 

@@ -1,11 +1,11 @@
 use Rattle.std.proofs.Common.{◌≡◌, ◌∙◌, arith}
-use Rattle.ffi3_type_rules.specs.Tree.{struct_of}
-use Rattle.ffi3_type_rules.specs.Layout.{offset_of}
-use Rattle.ffi3_type_rules.specs.declared.Role.TheVariants.{Anywhere}
-use Rattle.ffi3_type_rules.proofs.Layouts.{align_positive, align_bounded, start-turn}
-use Rattle.ffi3_type_rules.proofs.ElementPlaces.{elements_laid_out}
-use Rattle.ffi3_type_rules.proofs.Faults.{right_is_small, element_is_right}
-use Rattle.ffi3_type_rules.proofs.Values.{element_within, end_within}
+use Rattle.ffi3_type_spec.specs.Tree.{struct_of}
+use Rattle.ffi3_type_spec.specs.Layout.{offset_of}
+use Rattle.ffi3_type_spec.specs.declared.Role.TheVariants.{Anywhere}
+use Rattle.ffi3_type_spec.proofs.Layouts.{align_positive, align_bounded, start-turn}
+use Rattle.ffi3_type_spec.proofs.ElementPlaces.{elements_laid_out}
+use Rattle.ffi3_type_spec.proofs.Faults.{right_is_small, element_is_right}
+use Rattle.ffi3_type_spec.proofs.Values.{element_within, end_within}
 use Rattle.ffi3_types.specs.TreeOf.{tree_of}
 use Rattle.ffi3_types.proofs.Fields.offset.Goals as goal
 

@@ -1,9 +1,9 @@
 use Rattle.std.proofs.Common.{◌*◌, ap, sym, ◌∙◌, arith}
-use Rattle.ffi3_type_rules.specs.declared.Role.TheVariants.{Anywhere}
-use Rattle.ffi3_type_rules.specs.Tree.{array, trees_of}
-use Rattle.ffi3_type_rules.specs.Layout.{size_of}
-use Rattle.ffi3_type_rules.proofs.Faults.{right_is_small}
-use Rattle.ffi3_type_rules.proofs.ArrayPlaces.{array_is_shaped, array_element_is_right, element_in_array, array_offset_is}
+use Rattle.ffi3_type_spec.specs.declared.Role.TheVariants.{Anywhere}
+use Rattle.ffi3_type_spec.specs.Tree.{array, trees_of}
+use Rattle.ffi3_type_spec.specs.Layout.{size_of}
+use Rattle.ffi3_type_spec.proofs.Faults.{right_is_small}
+use Rattle.ffi3_type_spec.proofs.ArrayPlaces.{array_is_shaped, array_element_is_right, element_in_array, array_offset_is}
 use Rattle.ffi3_types.proofs.Fields.offset_in_array.Goals as goal
 
 pub get-requires : goal.get-requires

@@ -2,15 +2,15 @@ use Rattle.std.proofs.Common.{◌≡◌, ℕ, zero, suc, ◌+◌, ◌*◌, ◌<�
 use Rattle.std.proofs.lemmas.Nat.{mul-le}
 use Rattle.std.proofs.lemmas.Bool.{false≢true, cases_lt}
 use Rattle.std.proofs.lemmas.List.{nil_from_length}
-use Rattle.ffi3_type_rules.specs.declared.limits.TheConstants.{LARGEST_TYPE}
-use Rattle.ffi3_type_rules.specs.declared.Role.TheVariants.{AsElement}
-use Rattle.ffi3_type_rules.specs.Tree.{Tree, array, trees_of, tree_at, long_double, complex, vector}
-use Rattle.ffi3_type_rules.specs.Layout.{size_of, align_of, layouts, element, end_before}
-use Rattle.ffi3_type_rules.specs.Fault.{HasNoFault, IsFirstFault, takes, too_large}
-use Rattle.ffi3_type_rules.proofs.Faults.{first_too_deep, first_empty, first_void, first_left_out, first_inside, struct_is_right, first_too_large, void_faults, scalar_faults}
-use Rattle.ffi3_type_rules.proofs.Faults.{right_is_small}
-use Rattle.ffi3_type_rules.proofs.Layouts.{scalar_room-bounds, align_positive, align_bounded, aligns_bounded, align_before-positive, align_before-bounded, element-layouts, least_multiple-below, end_before-turn, align_before-turn, size_at_end, align_at_end}
-use Rattle.ffi3_type_rules.proofs.ArrayPlaces.{array_size_is, array_align_is, array_too_deep, array_out_of_place, array_of_many, array_of_none, array_first_inside, array_is_right, array_too_large}
+use Rattle.ffi3_type_spec.specs.declared.limits.TheConstants.{LARGEST_TYPE}
+use Rattle.ffi3_type_spec.specs.declared.Role.TheVariants.{AsElement}
+use Rattle.ffi3_type_spec.specs.Tree.{Tree, array, trees_of, tree_at, long_double, complex, vector}
+use Rattle.ffi3_type_spec.specs.Layout.{size_of, align_of, layouts, element, end_before}
+use Rattle.ffi3_type_spec.specs.Fault.{HasNoFault, IsFirstFault, takes, too_large}
+use Rattle.ffi3_type_spec.proofs.Faults.{first_too_deep, first_empty, first_void, first_left_out, first_inside, struct_is_right, first_too_large, void_faults, scalar_faults}
+use Rattle.ffi3_type_spec.proofs.Faults.{right_is_small}
+use Rattle.ffi3_type_spec.proofs.Layouts.{scalar_room-bounds, align_positive, align_bounded, aligns_bounded, align_before-positive, align_before-bounded, element-layouts, least_multiple-below, end_before-turn, align_before-turn, size_at_end, align_at_end}
+use Rattle.ffi3_type_spec.proofs.ArrayPlaces.{array_size_is, array_align_is, array_too_deep, array_out_of_place, array_of_many, array_of_none, array_first_inside, array_is_right, array_too_large}
 use Rattle.ffi3_types.specs.ScalarSize.{scalar_size_of}
 use Rattle.ffi3_types.specs.TreeOf.{tree_of}
 use Rattle.ffi3_types.proofs.Scalars.{one_scalar, sized_scalar}

@@ -1,6 +1,6 @@
 use Rattle.std.proofs.Common.{◌≡◌, ◌+◌, ◌*◌}
-use Rattle.ffi3_type_rules.specs.Tree.{nodes, all_nodes, trees_of}
-use Rattle.ffi3_type_rules.specs.Layout.{layouts, end_before, align_before}
+use Rattle.ffi3_type_spec.specs.Tree.{nodes, all_nodes, trees_of}
+use Rattle.ffi3_type_spec.specs.Layout.{layouts, end_before, align_before}
 use Rattle.ffi3_types.specs.TreeOf.{tree_of}
 use Rattle.ffi3_types.specs.FirstElement.{NoElementHasFault}
 use Rattle.ffi3_types.proofs.check.+check.Given as goal

@@ -1,5 +1,5 @@
 use Rattle.std.proofs.Common.{ap, sym}
-use Rattle.ffi3_type_rules.specs.Signature.{is_for_calls, of_type, of_long_double}
+use Rattle.ffi3_type_spec.specs.Signature.{is_for_calls, of_type, of_long_double}
 use Rattle.ffi3_types.specs.FirstElement.{purpose_of}
 use Rattle.ffi3_types.proofs.check.check_in.Goals as goal
 

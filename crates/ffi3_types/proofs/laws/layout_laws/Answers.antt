@@ -1,5 +1,5 @@
-use Rattle.ffi3_type_rules.proofs.LayoutLaws.{well_laid_out}
-use Rattle.ffi3_type_rules.proofs.Arrays.{array_is_struct_of_equals, array_is_its_elements}
+use Rattle.ffi3_type_spec.proofs.LayoutLaws.{well_laid_out}
+use Rattle.ffi3_type_spec.proofs.Arrays.{array_is_struct_of_equals, array_is_its_elements}
 use Rattle.ffi3_types.specs.TreeOf.{tree_of}
 use Rattle.ffi3_types.proofs.laws.layout_laws.Goals as goal
 

@@ -1,7 +1,7 @@
 use Rattle.std.proofs.Common.{◌≡◌, ap, sym, ◌∙◌, arith, refl}
 use Rattle.std.proofs.lemmas.Bool.{false≢true}
-use Rattle.ffi3_type_rules.specs.Tree.{tree_at}
-use Rattle.ffi3_type_rules.proofs.Lists.{same_by_elements}
+use Rattle.ffi3_type_spec.specs.Tree.{tree_at}
+use Rattle.ffi3_type_spec.proofs.Lists.{same_by_elements}
 use Rattle.ffi3_types.proofs.Trees.{tree_of-inj}
 use Rattle.ffi3_types.proofs.same.+same.Goals as goal
 

@@ -1,9 +1,9 @@
 use Rattle.std.proofs.Common.{◌≡◌, ◌<◌, ◌≤◌, ◌⊎◌, inl, inr, ℕ, Bool, true, false, Some, length, ap, sym, ◌∙◌, arith}
-use Rattle.ffi3_type_rules.specs.Tree.{Tree, tree_at}
-use Rattle.ffi3_type_rules.specs.Layout.{has_long_double}
-use Rattle.ffi3_type_rules.specs.Fault.{HasNoFault}
-use Rattle.ffi3_type_rules.specs.Signature.{is_promoted, is_for_calls, result_role, argument_role}
-use Rattle.ffi3_type_rules.proofs.Signatures.{IsSuited, first_too_many, first_in_result, first_in_argument, first_bad_fixed, first_promoted, right_with_no_fixed, right_with_fixed}
+use Rattle.ffi3_type_spec.specs.Tree.{Tree, tree_at}
+use Rattle.ffi3_type_spec.specs.Layout.{has_long_double}
+use Rattle.ffi3_type_spec.specs.Fault.{HasNoFault}
+use Rattle.ffi3_type_spec.specs.Signature.{is_promoted, is_for_calls, result_role, argument_role}
+use Rattle.ffi3_type_spec.proofs.Signatures.{IsSuited, first_too_many, first_in_result, first_in_argument, first_bad_fixed, first_promoted, right_with_no_fixed, right_with_fixed}
 use Rattle.ffi3_types.specs.FirstElement.{purpose_of, role_for}
 use Rattle.ffi3_types.proofs.sig.check_for.Goals.{in-Some+else-fixed-eq0+else-n-fixed+else-loop-i-2-test, in_default-fixed}
 use Rattle.ffi3_types.proofs.sig.check_for.Goals as goal

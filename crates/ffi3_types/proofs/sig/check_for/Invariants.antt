@@ -1,7 +1,7 @@
 use Rattle.std.proofs.Common.{◌≡◌, ◌≤◌, ◌<◌, ℕ, false}
-use Rattle.ffi3_type_rules.specs.Tree.{tree_at}
-use Rattle.ffi3_type_rules.specs.Signature.{is_promoted, argument_role}
-use Rattle.ffi3_type_rules.proofs.Signatures.{IsSuited}
+use Rattle.ffi3_type_spec.specs.Tree.{tree_at}
+use Rattle.ffi3_type_spec.specs.Signature.{is_promoted, argument_role}
+use Rattle.ffi3_type_spec.proofs.Signatures.{IsSuited}
 use Rattle.ffi3_types.specs.FirstElement.{purpose_of}
 use Rattle.ffi3_types.proofs.sig.check_for.Given as goal
 

@@ -1,5 +1,5 @@
 use Rattle.std.proofs.Common.{ap, sym, ◌∙◌, arith, length}
-use Rattle.ffi3_type_rules.proofs.Signatures.{fixed_within}
+use Rattle.ffi3_type_spec.proofs.Signatures.{fixed_within}
 use Rattle.ffi3_types.proofs.text.write_arguments.Goals as goal
 
 pub write_range-requires-clause-in_range : goal.write_range-requires-clause-in_range

@@ -1,7 +1,7 @@
 use Rattle.std.proofs.Common.{◌≡◌, ap, arith}
 use Rattle.std.proofs.lemmas.Grind.{common_steps}
-use Rattle.ffi3_type_rules.specs.Value.{value_nodes}
-use Rattle.ffi3_type_rules.proofs.Values.{value_at, nodes-value}
+use Rattle.ffi3_type_spec.specs.Value.{value_nodes}
+use Rattle.ffi3_type_spec.proofs.Values.{value_at, nodes-value}
 use Rattle.ffi3_values.specs.ValueOf.{value_of}
 use Rattle.ffi3_values.proofs.Values.get.Goals as goal
 

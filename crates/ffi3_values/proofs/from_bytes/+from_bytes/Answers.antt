@@ -1,12 +1,12 @@
 use Rattle.std.proofs.Common.{◌≡◌, inl, inr, [], Some, ap, sym, ◌∙◌, arith, length, length-take, length-drop, length-append}
-use Rattle.ffi3_type_rules.specs.Value.{struct_value, values_of}
-use Rattle.ffi3_type_rules.proofs.Members.{array_some, made_nodes, made_right, made_size, made_value, made_fit}
-use Rattle.ffi3_type_rules.specs.Tree.{Tree, LeftOutKind, left_out, long_double, complex, vector}
-use Rattle.ffi3_type_rules.specs.Fault.{left_out_kind, left_out_type, IsLaidOut}
-use Rattle.ffi3_type_rules.proofs.Layouts.{align_positive, end_before-turn}
-use Rattle.ffi3_type_rules.proofs.Values.{struct_by_elements, push_value}
-use Rattle.ffi3_type_rules.proofs.ValueElements.{fit_by_elements, push_fitting}
-use Rattle.ffi3_type_rules.proofs.ElementPlaces.{lies, part_is, right_here, room_before, room_here}
+use Rattle.ffi3_type_spec.specs.Value.{struct_value, values_of}
+use Rattle.ffi3_type_spec.proofs.Members.{array_some, made_nodes, made_right, made_size, made_value, made_fit}
+use Rattle.ffi3_type_spec.specs.Tree.{Tree, LeftOutKind, left_out, long_double, complex, vector}
+use Rattle.ffi3_type_spec.specs.Fault.{left_out_kind, left_out_type, IsLaidOut}
+use Rattle.ffi3_type_spec.proofs.Layouts.{align_positive, end_before-turn}
+use Rattle.ffi3_type_spec.proofs.Values.{struct_by_elements, push_value}
+use Rattle.ffi3_type_spec.proofs.ValueElements.{fit_by_elements, push_fitting}
+use Rattle.ffi3_type_spec.proofs.ElementPlaces.{lies, part_is, right_here, room_before, room_here}
 use Rattle.ffi3_types.specs.TreeOf.{tree_of}
 use Rattle.ffi3_values.proofs.from_bytes.+from_bytes.Goals as goal
 

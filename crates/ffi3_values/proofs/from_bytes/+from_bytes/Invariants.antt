@@ -1,8 +1,8 @@
 use Rattle.std.proofs.Common.{◌≡◌, ◌+◌, ◌*◌, ◌<◌, ℕ, length, true}
-use Rattle.ffi3_type_rules.specs.Tree.{nodes, all_nodes, trees_of, tree_at}
-use Rattle.ffi3_type_rules.specs.Layout.{layouts, end_before}
-use Rattle.ffi3_type_rules.specs.Value.{fits}
-use Rattle.ffi3_type_rules.proofs.Values.{value_at, element_value}
+use Rattle.ffi3_type_spec.specs.Tree.{nodes, all_nodes, trees_of, tree_at}
+use Rattle.ffi3_type_spec.specs.Layout.{layouts, end_before}
+use Rattle.ffi3_type_spec.specs.Value.{fits}
+use Rattle.ffi3_type_spec.proofs.Values.{value_at, element_value}
 use Rattle.ffi3_types.specs.TreeOf.{tree_of}
 use Rattle.ffi3_values.proofs.from_bytes.+from_bytes.Given as goal
 

@@ -1,8 +1,8 @@
 use Rattle.std.proofs.Common.{◌≡◌, subst}
 use Rattle.std.specs.Prelude.{IfOk}
-use Rattle.ffi3_type_rules.specs.Integer.{scalar_of}
-use Rattle.ffi3_type_rules.specs.Value.{leaf_value}
-use Rattle.ffi3_type_rules.proofs.Modulo.{bytes_of_bits}
+use Rattle.ffi3_type_spec.specs.Integer.{scalar_of}
+use Rattle.ffi3_type_spec.specs.Value.{leaf_value}
+use Rattle.ffi3_type_spec.proofs.Modulo.{bytes_of_bits}
 use Rattle.ffi3_types.specs.TreeOf.{tree_of}
 use Rattle.ffi3_values.specs.ValueOf.{value_of}
 use Rattle.ffi3_values.proofs.numbers.cast.Goals as goal

@@ -2,9 +2,9 @@ use Rattle.std.proofs.Common.{◌≡◌, ap, ◌∙◌, subst, of_z}
 use Rattle.std.specs.Int.{w128}
 use Rattle.std.proofs.lemmas.Int.{to_z-of_z}
 use Rattle.std.specs.Prelude.{IfOk}
-use Rattle.ffi3_type_rules.specs.Integer.{scalar_of}
-use Rattle.ffi3_type_rules.specs.Value.{leaf_value}
-use Rattle.ffi3_type_rules.proofs.Modulo.{modulo-fitting, bytes_of_bits}
+use Rattle.ffi3_type_spec.specs.Integer.{scalar_of}
+use Rattle.ffi3_type_spec.specs.Value.{leaf_value}
+use Rattle.ffi3_type_spec.proofs.Modulo.{modulo-fitting, bytes_of_bits}
 use Rattle.ffi3_types.specs.TreeOf.{tree_of}
 use Rattle.ffi3_values.specs.ValueOf.{value_of}
 use Rattle.ffi3_values.proofs.numbers.integer.Goals as goal

@@ -1,8 +1,8 @@
 use Rattle.std.proofs.Common.{◌+◌, ◌-◌, ◌%◌, ◌^◌, ◌≡◌, ◌∙◌, subst}
 use Rattle.std.specs.Prelude.{IfOk}
-use Rattle.ffi3_type_rules.specs.Integer.{scalar_of, number_of}
-use Rattle.ffi3_type_rules.specs.Value.{bytes_of, leaf_value}
-use Rattle.ffi3_type_rules.proofs.Modulo.{modulo-sub, bytes_of_bits}
+use Rattle.ffi3_type_spec.specs.Integer.{scalar_of, number_of}
+use Rattle.ffi3_type_spec.specs.Value.{bytes_of, leaf_value}
+use Rattle.ffi3_type_spec.proofs.Modulo.{modulo-sub, bytes_of_bits}
 use Rattle.ffi3_types.specs.TreeOf.{tree_of}
 use Rattle.ffi3_values.specs.ValueOf.{value_of}
 use Rattle.ffi3_values.proofs.numbers.sub.Goals as goal

@@ -1,7 +1,7 @@
 use Rattle.std.proofs.Common.{◌<◌, inl, inr, length, ap, sym, ◌∙◌, arith}
-use Rattle.ffi3_type_rules.proofs.Members.{made_nodes}
+use Rattle.ffi3_type_spec.proofs.Members.{made_nodes}
 use Rattle.ffi3_types.specs.TreeOf.{tree_of}
-use Rattle.ffi3_type_rules.proofs.Values.{all_fit-lengths}
+use Rattle.ffi3_type_spec.proofs.Values.{all_fit-lengths}
 use Rattle.ffi3_values.proofs.shape.+fits.Goals as goal
 
 pub all_fit-returns-then-len : goal.all_fit-returns-then-len

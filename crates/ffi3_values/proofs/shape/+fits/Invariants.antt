@@ -1,6 +1,6 @@
 use Rattle.std.proofs.Common.{◌≡◌, ◌+◌, ◌*◌, drop}
-use Rattle.ffi3_type_rules.specs.Tree.{nodes, all_nodes, trees_of}
-use Rattle.ffi3_type_rules.specs.Value.{all_fit, values_of}
+use Rattle.ffi3_type_spec.specs.Tree.{nodes, all_nodes, trees_of}
+use Rattle.ffi3_type_spec.specs.Value.{all_fit, values_of}
 use Rattle.ffi3_types.specs.TreeOf.{tree_of}
 use Rattle.ffi3_values.proofs.shape.+fits.Given as goal
 

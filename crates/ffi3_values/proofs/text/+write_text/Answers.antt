@@ -1,15 +1,15 @@
 use Rattle.std.proofs.Common.{◌≡◌, ◌++◌, ℕ, List, ap, sym, ◌∙◌, subst, arith, append-nil, append_assoc, [], ◌∷◌}
 use Rattle.std.specs.Prelude.{slice_index_or}
 use Rattle.std.specs.Prelude.{codes, OnOk}
-use Rattle.ffi3_type_rules.specs.Value.{fits, values_of}
-use Rattle.ffi3_type_rules.specs.ValueText.{value_texts_of}
+use Rattle.ffi3_type_spec.specs.Value.{fits, values_of}
+use Rattle.ffi3_type_spec.specs.ValueText.{value_texts_of}
 use Rattle.std.specs.List.{join_with_byte}
-use Rattle.ffi3_type_rules.specs.Tree.{trees_of}
-use Rattle.ffi3_type_rules.proofs.Members.{fitted_some, made_nodes, made_fit, made_text}
-use Rattle.ffi3_type_rules.specs.Tree.{tree_at}
-use Rattle.ffi3_type_rules.specs.ValueText.{value_text_of}
-use Rattle.ffi3_type_rules.proofs.ValueElements.{fitting_lengths, fitting_element}
-use Rattle.ffi3_type_rules.proofs.ValueTexts.{element_texts, length-element_texts, element_text, joined-none, joined-all, joined-turn-first, joined-turn-next}
+use Rattle.ffi3_type_spec.specs.Tree.{trees_of}
+use Rattle.ffi3_type_spec.proofs.Members.{fitted_some, made_nodes, made_fit, made_text}
+use Rattle.ffi3_type_spec.specs.Tree.{tree_at}
+use Rattle.ffi3_type_spec.specs.ValueText.{value_text_of}
+use Rattle.ffi3_type_spec.proofs.ValueElements.{fitting_lengths, fitting_element}
+use Rattle.ffi3_type_spec.proofs.ValueTexts.{element_texts, length-element_texts, element_text, joined-none, joined-all, joined-turn-first, joined-turn-next}
 use Rattle.ffi3_types.specs.TreeOf.{tree_of}
 use Rattle.ffi3_values.specs.ValueOf.{value_of}
 use Rattle.ffi3_values.proofs.text.+write_text.Goals as goal

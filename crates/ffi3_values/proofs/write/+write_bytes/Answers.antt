@@ -1,12 +1,12 @@
 use Rattle.std.proofs.Common.{◌≡◌, ◌+◌, ◌-◌, ◌++◌, drop, ap, sym, ◌∙◌, subst, arith, true, length-take, length-drop}
-use Rattle.ffi3_type_rules.specs.Value.{struct_value, values_of, IsWritten}
-use Rattle.ffi3_type_rules.proofs.Members.{array_some, made_nodes, made_right, made_size, made_fit, made_written}
-use Rattle.ffi3_type_rules.specs.Value.{fits}
-use Rattle.ffi3_type_rules.proofs.Layouts.{align_positive, end_before-turn}
-use Rattle.ffi3_type_rules.proofs.ElementPlaces.{lies, right_here, room_before, room_here}
-use Rattle.ffi3_type_rules.proofs.ValueElements.{fitting_lengths, fitting_element}
-use Rattle.ffi3_type_rules.proofs.Parts.{length_part}
-use Rattle.ffi3_type_rules.proofs.Writing.{leaf_written, turn_written, all_written}
+use Rattle.ffi3_type_spec.specs.Value.{struct_value, values_of, IsWritten}
+use Rattle.ffi3_type_spec.proofs.Members.{array_some, made_nodes, made_right, made_size, made_fit, made_written}
+use Rattle.ffi3_type_spec.specs.Value.{fits}
+use Rattle.ffi3_type_spec.proofs.Layouts.{align_positive, end_before-turn}
+use Rattle.ffi3_type_spec.proofs.ElementPlaces.{lies, right_here, room_before, room_here}
+use Rattle.ffi3_type_spec.proofs.ValueElements.{fitting_lengths, fitting_element}
+use Rattle.ffi3_type_spec.proofs.Parts.{length_part}
+use Rattle.ffi3_type_spec.proofs.Writing.{leaf_written, turn_written, all_written}
 use Rattle.ffi3_types.specs.TreeOf.{tree_of}
 use Rattle.ffi3_values.specs.ValueOf.{value_of}
 use Rattle.ffi3_values.proofs.write.+write_bytes.Goals as goal

@@ -1,7 +1,7 @@
 use Rattle.std.proofs.Common.{◌≡◌, ◌+◌, ◌*◌}
-use Rattle.ffi3_type_rules.specs.Tree.{nodes, all_nodes, trees_of}
-use Rattle.ffi3_type_rules.specs.Layout.{layouts, end_before}
-use Rattle.ffi3_type_rules.proofs.Writing.{IsWrittenBefore}
+use Rattle.ffi3_type_spec.specs.Tree.{nodes, all_nodes, trees_of}
+use Rattle.ffi3_type_spec.specs.Layout.{layouts, end_before}
+use Rattle.ffi3_type_spec.proofs.Writing.{IsWrittenBefore}
 use Rattle.ffi3_types.specs.TreeOf.{tree_of}
 use Rattle.ffi3_values.proofs.write.+write_bytes.Given as goal
 

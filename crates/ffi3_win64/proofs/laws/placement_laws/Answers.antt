@@ -1,7 +1,7 @@
-use Rattle.ffi3_place_rules.proofs.Alike.{arrays_as_elements}
-use Rattle.ffi3_win64_rules.specs.Win64.{win64}
-use Rattle.ffi3_win64_rules.proofs.Alike.{goes_by_layout}
-use Rattle.ffi3_win64_rules.proofs.Positions.{by_position}
+use Rattle.ffi3_place_spec.proofs.Alike.{arrays_as_elements}
+use Rattle.ffi3_win64_spec.specs.Win64.{win64}
+use Rattle.ffi3_win64_spec.proofs.Alike.{goes_by_layout}
+use Rattle.ffi3_win64_spec.proofs.Positions.{by_position}
 use Rattle.ffi3_win64.proofs.laws.placement_laws.Goals as goal
 
 pub returns-clause-positions : goal.returns-clause-positions

@@ -1,5 +1,5 @@
 use Rattle.std.proofs.Common.{◌+◌, ◌*◌, ◌%◌, refl, ap}
-use Rattle.ffi3_script_rules.specs.Made.{next_state, drawn}
+use Rattle.ffi3_script_spec.specs.Made.{next_state, drawn}
 use Rattle.ffi3_bench_script.proofs.draws.Draws.draw.Goals as goal
 
 pub returns-clause-moved : goal.returns-clause-moved

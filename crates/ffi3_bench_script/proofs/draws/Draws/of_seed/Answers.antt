@@ -1,5 +1,5 @@
 use Rattle.std.proofs.Common.{refl}
-use Rattle.ffi3_script_rules.specs.Made.{first_state}
+use Rattle.ffi3_script_spec.specs.Made.{first_state}
 use Rattle.ffi3_bench_script.proofs.draws.Draws.of_seed.Goals as goal
 
 pub returns : goal.returns

@@ -1,7 +1,7 @@
 use Rattle.std.proofs.Common.{◌≡◌, [], ◌∷◌, ◌++◌, ◌-◌, ap, ◌∙◌}
-use Rattle.ffi3_type_rules.specs.Tree.{u64}
-use Rattle.ffi3_script_rules.specs.Script.{sum}
-use Rattle.ffi3_script_rules.specs.Made.{made_call, types_at, own_total, with_arguments}
+use Rattle.ffi3_type_spec.specs.Tree.{u64}
+use Rattle.ffi3_script_spec.specs.Script.{sum}
+use Rattle.ffi3_script_spec.specs.Made.{made_call, types_at, own_total, with_arguments}
 use Rattle.ffi3_script_body.specs.ExprOf.{expression_of}
 use Rattle.ffi3_bench_script.specs.ShapesOf.{types_in}
 use Rattle.ffi3_bench_script.proofs.Loops.{body-first, body-later}

@@ -1,5 +1,5 @@
 use Rattle.std.proofs.Common.{◌≡◌, ◌+◌, ◌-◌, ◌*◌, ◌++◌, length}
-use Rattle.ffi3_script_rules.specs.Made.{made_main, made_calls, state_after}
+use Rattle.ffi3_script_spec.specs.Made.{made_main, made_calls, state_after}
 use Rattle.ffi3_script_body.specs.ExprOf.{script_moves_of}
 use Rattle.ffi3_bench_script.specs.KindOf.{state_of}
 use Rattle.ffi3_bench_script.specs.ShapesOf.{types_in}

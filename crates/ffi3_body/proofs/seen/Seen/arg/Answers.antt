@@ -1,5 +1,5 @@
 use Rattle.std.proofs.Common.{ap, sym, ◌∙◌}
-use Rattle.ffi3_type_rules.specs.Layout.{size_of}
+use Rattle.ffi3_type_spec.specs.Layout.{size_of}
 use Rattle.ffi3_body.proofs.Blocks.{argument_here}
 use Rattle.ffi3_body.proofs.seen.Seen.arg.Goals as goal
 

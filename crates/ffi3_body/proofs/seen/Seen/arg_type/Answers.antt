@@ -1,9 +1,9 @@
 use Rattle.std.proofs.Common.{◌≡◌, length, arith}
-use Rattle.ffi3_type_rules.specs.Tree.{tree_at}
-use Rattle.ffi3_type_rules.specs.Signature.{SignatureHasNoFault}
-use Rattle.ffi3_type_rules.proofs.Faults.{argument_is_result}
-use Rattle.ffi3_type_rules.proofs.Right.{argument_is_laid_out, argument_is_right}
-use Rattle.ffi3_place_rules.specs.Standard.{block_bytes}
+use Rattle.ffi3_type_spec.specs.Tree.{tree_at}
+use Rattle.ffi3_type_spec.specs.Signature.{SignatureHasNoFault}
+use Rattle.ffi3_type_spec.proofs.Faults.{argument_is_result}
+use Rattle.ffi3_type_spec.proofs.Right.{argument_is_laid_out, argument_is_right}
+use Rattle.ffi3_place_spec.specs.Standard.{block_bytes}
 use Rattle.ffi3_types.specs.TreeOf.{tree_of}
 use Rattle.ffi3_body.proofs.Blocks.{size_small, whole_within, block_small}
 use Rattle.ffi3_body.proofs.seen.Seen.arg_type.Goals as goal

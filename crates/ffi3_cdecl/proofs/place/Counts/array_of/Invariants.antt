@@ -1,5 +1,5 @@
 use Rattle.std.proofs.Common.{◌≡◌, reverse, length}
-use Rattle.ffi3_cdecl_rules.specs.Machine.{arrays}
+use Rattle.ffi3_cdecl_spec.specs.Machine.{arrays}
 use Rattle.ffi3_types.specs.TreeOf.{tree_of}
 use Rattle.ffi3_cdecl.proofs.place.Counts.array_of.Given as goal
 

@@ -1,5 +1,5 @@
 use Rattle.std.proofs.Common.{◌+◌, ◌*◌}
-use Rattle.ffi3_type_rules.specs.Tree.{nodes, all_nodes, trees_of}
+use Rattle.ffi3_type_spec.specs.Tree.{nodes, all_nodes, trees_of}
 use Rattle.ffi3_types.specs.TreeOf.{tree_of}
 use Rattle.ffi3_cdecl.proofs.text.Writer.+put_counts.Given as goal
 

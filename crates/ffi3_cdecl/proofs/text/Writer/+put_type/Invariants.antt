@@ -1,8 +1,8 @@
 use Rattle.std.proofs.Common.{◌≡◌, ◌+◌, ◌*◌, List, drop}
-use Rattle.ffi3_type_rules.specs.Tree.{nodes, all_nodes, trees_of}
+use Rattle.ffi3_type_spec.specs.Tree.{nodes, all_nodes, trees_of}
 use Rattle.ffi3_types.specs.TreeOf.{tree_of}
-use Rattle.ffi3_cdecl_rules.specs.Tokens.{Token}
-use Rattle.ffi3_cdecl_rules.specs.Canonical.{member_tokens}
+use Rattle.ffi3_cdecl_spec.specs.Tokens.{Token}
+use Rattle.ffi3_cdecl_spec.specs.Canonical.{member_tokens}
 use Rattle.ffi3_cdecl.specs.Going.{going}
 use Rattle.ffi3_cdecl.proofs.text.Writer.+put_type.Given as goal
 

@@ -1,6 +1,6 @@
 use Rattle.std.proofs.Common.{◌∷◌, ◌∙◌}
 use Rattle.std.proofs.lemmas.Result.{on_ok_weaker}
-use Rattle.ffi3_cdecl_rules.specs.Tokens.{number, close_square}
+use Rattle.ffi3_cdecl_spec.specs.Tokens.{number, close_square}
 use Rattle.ffi3_cdecl.proofs.text.Writer.put_count.Goals as goal
 
 pub returns : goal.returns

@@ -1,6 +1,6 @@
 use Rattle.std.proofs.Common.{◌∷◌, ◌∙◌}
 use Rattle.std.proofs.lemmas.Result.{on_ok_weaker}
-use Rattle.ffi3_cdecl_rules.specs.Tokens.{close_round}
+use Rattle.ffi3_cdecl_spec.specs.Tokens.{close_round}
 use Rattle.ffi3_cdecl.proofs.Writing.{ends_with_dots}
 use Rattle.ffi3_cdecl.proofs.text.Writer.put_end.Goals as goal
 

@@ -2,8 +2,8 @@ use Rattle.std.proofs.Common.{◌∷◌, ◌∙◌, ap}
 use Rattle.std.specs.Prelude.{slice_range}
 use Rattle.std.proofs.lemmas.Result.{on_ok_weaker}
 use Rattle.ffi3_types.specs.TreeOf.{tree_of}
-use Rattle.ffi3_cdecl_rules.specs.Tokens.{comma, dots, close_round}
-use Rattle.ffi3_cdecl_rules.specs.Prototype.{behind_commas}
+use Rattle.ffi3_cdecl_spec.specs.Tokens.{comma, dots, close_round}
+use Rattle.ffi3_cdecl_spec.specs.Prototype.{behind_commas}
 use Rattle.ffi3_cdecl.specs.Going.{going}
 use Rattle.ffi3_cdecl.proofs.Writing.{fixed_is}
 use Rattle.ffi3_cdecl.proofs.text.Writer.put_fixed.Goals as goal

@@ -1,6 +1,6 @@
 use Rattle.std.proofs.Common.{◌∷◌, ◌∙◌}
 use Rattle.std.proofs.lemmas.Result.{on_ok_weaker}
-use Rattle.ffi3_cdecl_rules.specs.Tokens.{complex_word}
+use Rattle.ffi3_cdecl_spec.specs.Tokens.{complex_word}
 use Rattle.ffi3_cdecl.proofs.text.Writer.put_long_complex.Goals as goal
 
 pub returns : goal.returns

@@ -1,7 +1,7 @@
 use Rattle.std.proofs.Common.{rules, ◌+◌, ◌<◌, ◌∙◌, ap}
 use Rattle.std.specs.Prelude.{slice_range}
 use Rattle.ffi3_types.specs.TreeOf.{tree_of}
-use Rattle.ffi3_cdecl_rules.specs.Prototype.{behind_commas}
+use Rattle.ffi3_cdecl_spec.specs.Prototype.{behind_commas}
 use Rattle.ffi3_cdecl.specs.Going.{going}
 use Rattle.ffi3_cdecl.proofs.Writing.{next_behind}
 use Rattle.ffi3_cdecl.proofs.text.Writer.put_more.Goals as goal

@@ -1,6 +1,6 @@
 use Rattle.std.proofs.Common.{◌≡◌, List, drop}
-use Rattle.ffi3_cdecl_rules.specs.Tokens.{Token}
-use Rattle.ffi3_cdecl_rules.specs.Canonical.{more_parameter_tokens}
+use Rattle.ffi3_cdecl_spec.specs.Tokens.{Token}
+use Rattle.ffi3_cdecl_spec.specs.Canonical.{more_parameter_tokens}
 use Rattle.ffi3_cdecl.specs.Going.{going}
 use Rattle.ffi3_cdecl.proofs.text.Writer.put_parameters.Given as goal
 

@@ -1,9 +1,9 @@
 use Rattle.std.proofs.Common.{◌<◌, length, arith, ap, sym, ◌∙◌}
 use Rattle.std.specs.Prelude.{slice_get}
-use Rattle.ffi3_type_rules.specs.Signature.{Signature}
-use Rattle.ffi3_place_rules.specs.declared.Plan.{Plan}
-use Rattle.ffi3_place_rules.specs.Standard.{plan_of}
-use Rattle.ffi3_place_rules.proofs.EachPlace.{places_length, read_is_there}
+use Rattle.ffi3_type_spec.specs.Signature.{Signature}
+use Rattle.ffi3_place_spec.specs.declared.Plan.{Plan}
+use Rattle.ffi3_place_spec.specs.Standard.{plan_of}
+use Rattle.ffi3_place_spec.proofs.EachPlace.{places_length, read_is_there}
 use Rattle.ffi3_cif.proofs.placed.Placed.place.Goals as goal
 
 pub get-requires : goal.get-requires

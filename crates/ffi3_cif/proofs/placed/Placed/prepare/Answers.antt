@@ -1,14 +1,14 @@
 use Rattle.std.proofs.Common.{◌≡◌, ◌++◌, ap, sym, ◌∙◌, subst}
 use Rattle.std.specs.List.{AllByRecursion, flat_map}
-use Rattle.ffi3_type_rules.specs.declared.limits.TheConstants.{LARGEST_TYPE}
-use Rattle.ffi3_type_rules.specs.declared.Role.TheVariants.{Anywhere}
-use Rattle.ffi3_type_rules.specs.Tree.{tree_at}
-use Rattle.ffi3_type_rules.proofs.Faults.{right_is_small}
-use Rattle.ffi3_type_rules.proofs.Placed.{placed_argument_is_laid_out}
-use Rattle.ffi3_place_rules.specs.declared.Plan.{Plan}
-use Rattle.ffi3_place_rules.specs.Standard.{plan_of}
-use Rattle.ffi3_type_rules.specs.Isa.{isa_of}
-use Rattle.ffi3_place_rules.specs.Sound.{PlaceRises, StandsIn, place_locs, hidden_locs, argument_locs, copy_locs, buffer_locs, call_locs}
+use Rattle.ffi3_type_spec.specs.declared.limits.TheConstants.{LARGEST_TYPE}
+use Rattle.ffi3_type_spec.specs.declared.Role.TheVariants.{Anywhere}
+use Rattle.ffi3_type_spec.specs.Tree.{tree_at}
+use Rattle.ffi3_type_spec.proofs.Faults.{right_is_small}
+use Rattle.ffi3_type_spec.proofs.Placed.{placed_argument_is_laid_out}
+use Rattle.ffi3_place_spec.specs.declared.Plan.{Plan}
+use Rattle.ffi3_place_spec.specs.Standard.{plan_of}
+use Rattle.ffi3_type_spec.specs.TargetIsa.{isa_of}
+use Rattle.ffi3_place_spec.specs.Sound.{PlaceRises, StandsIn, place_locs, hidden_locs, argument_locs, copy_locs, buffer_locs, call_locs}
 use Rattle.ffi3_cif.specs.Runs.{PlaceEndsWithin, HasNoRuns}
 use Rattle.ffi3_cif.proofs.Gather.{places_end}
 use Rattle.ffi3_cif.proofs.Empty.{all_front, all_back, none_in_empty}

@@ -1,10 +1,10 @@
 use Rattle.std.proofs.Common.{◌<◌, List, length, arith, ap, ◌∙◌, subst}
 use Rattle.std.specs.Prelude.{IsSomeAnd, slice_get}
-use Rattle.ffi3_type_rules.specs.Signature.{Signature}
-use Rattle.ffi3_place_rules.specs.declared.Place.{Place}
-use Rattle.ffi3_place_rules.specs.declared.Plan.{Plan}
-use Rattle.ffi3_place_rules.specs.Standard.{plan_of}
-use Rattle.ffi3_place_rules.proofs.EachPlace.{places_length, read_is_there}
+use Rattle.ffi3_type_spec.specs.Signature.{Signature}
+use Rattle.ffi3_place_spec.specs.declared.Place.{Place}
+use Rattle.ffi3_place_spec.specs.declared.Plan.{Plan}
+use Rattle.ffi3_place_spec.specs.Standard.{plan_of}
+use Rattle.ffi3_place_spec.proofs.EachPlace.{places_length, read_is_there}
 use Rattle.ffi3_cif.specs.Runs.{AreRunsOf, pieces_of}
 use Rattle.ffi3_cif.proofs.Gather.{as_many, runs_there}
 use Rattle.ffi3_cif.proofs.placed.Placed.runs.Goals as goal

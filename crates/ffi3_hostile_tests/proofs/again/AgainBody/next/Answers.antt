@@ -2,10 +2,10 @@ use Rattle.std.proofs.Common.{◌≡◌, ◌<◌, ℕ, true, false, Bool, List, 
 use Rattle.std.proofs.lemmas.Bool.{ne_eqb}
 use Rattle.std.proofs.lemmas.Result.{IfOk-weaker}
 use Rattle.std.specs.Prelude.{slice_index_or, if◌then◌else◌}
-use Rattle.ffi3_type_rules.specs.Tree.{scalar, s64}
-use Rattle.ffi3_type_rules.specs.Integer.{widened}
-use Rattle.ffi3_type_rules.specs.Value.{ValueTree, void_value, fits, bytes_of}
-use Rattle.ffi3_run_rules.specs.Move.{result_type_of, return}
+use Rattle.ffi3_type_spec.specs.Tree.{scalar, s64}
+use Rattle.ffi3_type_spec.specs.Integer.{widened}
+use Rattle.ffi3_type_spec.specs.Value.{ValueTree, void_value, fits, bytes_of}
+use Rattle.ffi3_semantics_spec.specs.Move.{result_type_of, return}
 use Rattle.ffi3_body.specs.SeenActivation.{arguments_of}
 use Rattle.ffi3_body.specs.Follow.{IsOfType, ResultsFollow}
 use Rattle.ffi3_hostile_tests.specs.Hostile.{again_signature, again_behaviour, argument, once_less}

@@ -1,5 +1,5 @@
-use Rattle.ffi3_type_rules.specs.Tree.{s8}
-use Rattle.ffi3_type_rules.proofs.Faults.{scalar_faults}
+use Rattle.ffi3_type_spec.specs.Tree.{s8}
+use Rattle.ffi3_type_spec.proofs.Faults.{scalar_faults}
 use Rattle.ffi3_hostile_tests.proofs.endless.TalkerBody.next.Goals as goal
 
 pub returns-clause-fits : goal.returns-clause-fits

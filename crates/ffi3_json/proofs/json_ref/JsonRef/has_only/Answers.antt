@@ -3,7 +3,7 @@ use Rattle.json.specs.Value.{value_view, members_view}
 use Rattle.serde_json.specs.Find.{as_object}
 use Rattle.ffi3_json.specs.InText.{members_in}
 use Rattle.ffi3_json.specs.KeyOf.{key_of}
-use Rattle.ffi3_script_rules.specs.Language.{has_only}
+use Rattle.ffi3_script_spec.specs.Language.{has_only}
 use Rattle.ffi3_json.specs.RefOf.{data_of, IsInRange}
 use Rattle.ffi3_json.proofs.InTexts.{members_read, only_read}
 use Rattle.ffi3_json.proofs.json_ref.JsonRef.has_only.Goals as goal

@@ -1,6 +1,6 @@
 use Rattle.std.proofs.Common.{sym, ap, subst, arith}
 use Rattle.serde_json.specs.Data.{depth, items_depth}
-use Rattle.ffi3_script_rules.specs.Language.{HasShortArrays}
+use Rattle.ffi3_script_spec.specs.Language.{HasShortArrays}
 use Rattle.ffi3_json.specs.RefOf.{items_of}
 use Rattle.ffi3_json.proofs.Items.{item-short, item-depth}
 use Rattle.ffi3_json.proofs.node.Nodes.get.Goals as goal

@@ -1,7 +1,7 @@
 use Rattle.std.proofs.Common.{◌≡◌, ℕ, ◌≤◌, true, List, [], ◌∷◌, length, arith}
 use Rattle.std.specs.Prelude.{slice_index_or}
-use Rattle.ffi3_type_rules.specs.Tree.{scalar, s64}
-use Rattle.ffi3_type_rules.specs.Value.{ValueTree, void_value, fits}
+use Rattle.ffi3_type_spec.specs.Tree.{scalar, s64}
+use Rattle.ffi3_type_spec.specs.Value.{ValueTree, void_value, fits}
 use Rattle.ffi3_body.specs.SeenActivation.{arguments_of}
 use Rattle.ffi3_body.specs.Follow.{ResultsFollow}
 use Rattle.ffi3_natives.specs.Natives.{calling_signatures, twice_behaviour}

@@ -1,9 +1,9 @@
 use Rattle.std.proofs.Common.{◌≡◌, List, [], Option, Some, None, reverse, sym, ap, ◌∙◌, rules}
-use Rattle.ffi3_type_rules.specs.Signature.{signature_at}
-use Rattle.ffi3_ask.specs.declared.standing.Standing.{Standing}
-use Rattle.ffi3_configuration.specs.declared.activation.OpenCall.{OpenCall}
-use Rattle.ffi3_configuration.specs.declared.activation.Waiting.{Waiting}
-use Rattle.ffi3_configuration.specs.Activations.{call_inside}
+use Rattle.ffi3_type_spec.specs.Signature.{signature_at}
+use Rattle.ffi3_next_move.specs.declared.standing.Standing.{Standing}
+use Rattle.ffi3_run_state.specs.declared.activation.OpenCall.{OpenCall}
+use Rattle.ffi3_run_state.specs.declared.activation.Waiting.{Waiting}
+use Rattle.ffi3_run_state.specs.Activations.{call_inside}
 use Rattle.ffi3_runner.specs.Agreeing.{seen_by, seen_by_callee, seen_by_main}
 use Rattle.ffi3_runner.proofs.Last.{block_high, block_low, last_call, last_none, served_call}
 use Rattle.ffi3_runner.proofs.Numbers.{agrees_as, asked_as}

@@ -1,12 +1,12 @@
 use Rattle.std.proofs.Common.{◌≡◌, ◌<◌, List, length, None, Some, Ok, Err, sym, subst, arith, rules}
 use Rattle.std.proofs.lemmas.List.{length-map}
-use Rattle.ffi3_type_rules.specs.Signature.{Signature, signature_at}
-use Rattle.ffi3_run_rules.specs.declared.Closure.{Closure}
-use Rattle.ffi3_run_rules.specs.Closures.{closure_at}
-use Rattle.ffi3_run_rules.specs.Move.{call}
+use Rattle.ffi3_type_spec.specs.Signature.{Signature, signature_at}
+use Rattle.ffi3_semantics_spec.specs.declared.Closure.{Closure}
+use Rattle.ffi3_semantics_spec.specs.Closures.{closure_at}
+use Rattle.ffi3_semantics_spec.specs.Move.{call}
 use Rattle.ffi3_invoke.specs.Calls.{entered_closure}
-use Rattle.ffi3_configuration.proofs.Blocks.{blocks_above}
-use Rattle.ffi3_configuration.proofs.Closed.{known_at}
+use Rattle.ffi3_run_state.proofs.Blocks.{blocks_above}
+use Rattle.ffi3_run_state.proofs.Closed.{known_at}
 use Rattle.ffi3_runner.proofs.Agreed.{entered_stands}
 use Rattle.ffi3_runner.proofs.Numbers.{does_at, func_below, own_at}
 use Rattle.ffi3_runner.proofs.Serving.{one_closure}

@@ -1,21 +1,21 @@
 use Rattle.std.proofs.Common.{◌≡◌, ℕ, inl, suc, ◌-◌, ◌++◌, true, List, length, take, drop, reverse, Some, refl, sym, ap, subst, rules, arith}
-use Rattle.ffi3_type_rules.specs.declared.limits.TheConstants.{STACK}
+use Rattle.ffi3_type_spec.specs.declared.limits.TheConstants.{STACK}
 use Rattle.std.proofs.lemmas.List.{length-map}
-use Rattle.ffi3_type_rules.specs.Signature.{Signature, signature_at}
-use Rattle.ffi3_type_rules.specs.Tree.{Tree}
-use Rattle.ffi3_type_rules.specs.Value.{void_value, fits}
+use Rattle.ffi3_type_spec.specs.Signature.{Signature, signature_at}
+use Rattle.ffi3_type_spec.specs.Tree.{Tree}
+use Rattle.ffi3_type_spec.specs.Value.{void_value, fits}
 use Rattle.ffi3_types.specs.TreeOf.{tree_of}
 use Rattle.ffi3_values.specs.ValueOf.{value_of}
-use Rattle.ffi3_run_rules.specs.Move.{call, make, free, print, return}
+use Rattle.ffi3_semantics_spec.specs.Move.{call, make, free, print, return}
 use Rattle.ffi3_body.specs.MoveOf.{move_of}
-use Rattle.ffi3_ask.specs.declared.standing.Standing.{Standing}
-use Rattle.ffi3_configuration.specs.declared.configuration.Configuration.{Configuration}
-use Rattle.ffi3_configuration.specs.Between.{run_state}
-use Rattle.ffi3_configuration.specs.Activations.{call_inside}
-use Rattle.ffi3_run_rules.specs.Meaning.{pointer_value}
-use Rattle.ffi3_configuration.specs.Going.{and_result}
-use Rattle.ffi3_configuration.proofs.Blocks.{blocks_above}
-use Rattle.ffi3_configuration.proofs.Moving.{cut_between, looks_as_itself}
+use Rattle.ffi3_next_move.specs.declared.standing.Standing.{Standing}
+use Rattle.ffi3_run_state.specs.declared.configuration.Configuration.{Configuration}
+use Rattle.ffi3_run_state.specs.Between.{run_state}
+use Rattle.ffi3_run_state.specs.Activations.{call_inside}
+use Rattle.ffi3_semantics_spec.specs.Meaning.{pointer_value}
+use Rattle.ffi3_run_state.specs.Going.{and_result}
+use Rattle.ffi3_run_state.proofs.Blocks.{blocks_above}
+use Rattle.ffi3_run_state.proofs.Moving.{cut_between, looks_as_itself}
 use Rattle.ffi3_runner.proofs.Agreed.{went_stands, returned_stands}
 use Rattle.ffi3_runner.proofs.Numbers.{func_below}
 use Rattle.ffi3_runner.proofs.Turning.{after_stands, asks_move, between_of, innermost_stands, later, move_fits, never_more, returns_type, short_by_few, turned_as, went_on, will_stand}

@@ -1,9 +1,9 @@
 use Rattle.std.proofs.Common.{◌≡◌, ◌<◌, List, Some, length, refl, sym, subst, rules}
 use Rattle.std.proofs.lemmas.List.{length-map}
-use Rattle.ffi3_type_rules.specs.Signature.{Signature}
-use Rattle.ffi3_run_rules.specs.Closures.{closure_at}
+use Rattle.ffi3_type_spec.specs.Signature.{Signature}
+use Rattle.ffi3_semantics_spec.specs.Closures.{closure_at}
 use Rattle.ffi3_invoke.specs.Calls.{entered_closure}
-use Rattle.ffi3_configuration.proofs.Closed.{known_at}
+use Rattle.ffi3_run_state.proofs.Closed.{known_at}
 use Rattle.ffi3_runner.proofs.Agreed.{accepted_stands}
 use Rattle.ffi3_runner.proofs.Numbers.{func_below, own_at}
 use Rattle.ffi3_runner.specs.Ready.{traced_or_not}

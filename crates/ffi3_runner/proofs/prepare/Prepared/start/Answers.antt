@@ -1,8 +1,8 @@
 use Rattle.std.proofs.Common.{false, None, Some, refl}
 use Rattle.ffi3_io.specs.Sink.{SinkState}
-use Rattle.ffi3_ask.specs.declared.standing.Standing.{Standing}
-use Rattle.ffi3_configuration.specs.declared.activation.Activation.{Activation}
-use Rattle.ffi3_configuration.specs.declared.activation.Who.TheVariants.{Main}
+use Rattle.ffi3_next_move.specs.declared.standing.Standing.{Standing}
+use Rattle.ffi3_run_state.specs.declared.activation.Activation.{Activation}
+use Rattle.ffi3_run_state.specs.declared.activation.Who.TheVariants.{Main}
 use Rattle.ffi3_runner.proofs.Main.{main_stands, start_between, starts_here}
 use Rattle.ffi3_runner.proofs.prepare.Prepared.start.Goals as goal
 

@@ -1,5 +1,5 @@
 use Rattle.std.proofs.Common.{position, bytes_eq, ap, ◌∙◌}
-use Rattle.ffi3_script_rules.specs.Values.{is_name_of}
+use Rattle.ffi3_script_spec.specs.Values.{is_name_of}
 use Rattle.ffi3_script.specs.Texts.{texts_of}
 use Rattle.ffi3_script.proofs.Numbering.{named-position}
 use Rattle.ffi3_script.proofs.names.FunctionNames.find.Goals as goal

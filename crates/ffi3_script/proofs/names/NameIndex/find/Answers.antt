@@ -1,5 +1,5 @@
 use Rattle.std.proofs.Common.{position, ap, ◌∙◌}
-use Rattle.ffi3_script_rules.specs.Values.{is_name_of}
+use Rattle.ffi3_script_spec.specs.Values.{is_name_of}
 use Rattle.ffi3_script.proofs.names.NameIndex.find.Goals as goal
 
 pub returns : goal.returns

@@ -2,7 +2,7 @@ use Rattle.std.proofs.Common.{◌+◌, ap, ◌∙◌, sym}
 use Rattle.std.proofs.lemmas.List.{length-map}
 use Rattle.std.proofs.Math.Logic.{∥∥₁_elim}
 use base.Stored.{Coded-set, coded_ℕ}
-use Rattle.ffi3_type_rules.specs.Signature.{signature_code, signature_list_code}
+use Rattle.ffi3_type_spec.specs.Signature.{signature_code, signature_list_code}
 use Rattle.ffi3_script.specs.FunctionOf.{function_of}
 use Rattle.ffi3_script.proofs.script.Script.main.Goals as goal
 

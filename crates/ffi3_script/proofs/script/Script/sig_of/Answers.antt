@@ -1,6 +1,6 @@
 use Rattle.std.proofs.Common.{◌<◌, length, arith}
 use Rattle.std.proofs.lemmas.List.{length-map}
-use Rattle.ffi3_script_rules.proofs.Tests.{and_left, and_right}
+use Rattle.ffi3_script_spec.proofs.Tests.{and_left, and_right}
 use Rattle.ffi3_script.specs.FunctionOf.{function_of}
 use Rattle.ffi3_script.proofs.Standing.{signature_below}
 use Rattle.ffi3_script.proofs.script.Script.sig_of.Goals as goal

@@ -1,5 +1,5 @@
 use Rattle.std.proofs.Common.{All, subst, sym}
-use Rattle.ffi3_type_rules.specs.Signature.{SignatureHasNoFault}
+use Rattle.ffi3_type_spec.specs.Signature.{SignatureHasNoFault}
 use Rattle.ffi3_script.proofs.Standing.{faultless}
 use Rattle.ffi3_script.proofs.script.Script.sigs.Goals as goal
 

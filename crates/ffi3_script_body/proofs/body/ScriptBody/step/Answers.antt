@@ -1,13 +1,13 @@
 use Rattle.std.proofs.Common.{◌≡◌, ◌+◌, ◌<◌, true, length, drop, refl, sym, ap, ◌∙◌, subst, arith}
 use Rattle.std.specs.Prelude.{option_map}
-use Rattle.ffi3_type_rules.specs.Tree.{trees_of}
-use Rattle.ffi3_type_rules.specs.Value.{all_fit, values_of}
-use Rattle.ffi3_run_rules.specs.Move.{MoveFits}
+use Rattle.ffi3_type_spec.specs.Tree.{trees_of}
+use Rattle.ffi3_type_spec.specs.Value.{all_fit, values_of}
+use Rattle.ffi3_semantics_spec.specs.Move.{MoveFits}
 use Rattle.ffi3_body.specs.SeenActivation.{arguments_of}
-use Rattle.ffi3_script_rules.specs.Meaning as meaning
-use Rattle.ffi3_script_rules.specs.Typed.{is_condition, act_is_typed}
-use Rattle.ffi3_script_rules.proofs.Fits.{body_fits}
-use Rattle.ffi3_script_rules.proofs.BodyRules.{condition_typed, act_typed}
+use Rattle.ffi3_script_spec.specs.Meaning as meaning
+use Rattle.ffi3_script_spec.specs.Typed.{is_condition, act_is_typed}
+use Rattle.ffi3_script_spec.proofs.Fits.{body_fits}
+use Rattle.ffi3_script_spec.proofs.BodyRules.{condition_typed, act_typed}
 use Rattle.ffi3_script_body.specs.ExprOf.{typed_of, act_of, script_move_of}
 use Rattle.ffi3_script_body.specs.BodyOf.{signature_of, setting_of, moves_of}
 use Rattle.ffi3_script_body.specs.KnownAt.{known_of}

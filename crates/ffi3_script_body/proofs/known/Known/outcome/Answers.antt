@@ -1,13 +1,13 @@
 use Rattle.std.proofs.Common.{◌≡◌, ap, ◌∙◌, subst, sym}
-use Rattle.ffi3_type_rules.specs.declared.Role.TheVariants.{Anywhere}
-use Rattle.ffi3_type_rules.specs.Tree.{pointer}
-use Rattle.ffi3_type_rules.specs.Signature.{signature_at}
-use Rattle.ffi3_type_rules.specs.Fault.{IsLaidOut}
-use Rattle.ffi3_type_rules.proofs.Faults.{scalar_faults}
+use Rattle.ffi3_type_spec.specs.declared.Role.TheVariants.{Anywhere}
+use Rattle.ffi3_type_spec.specs.Tree.{pointer}
+use Rattle.ffi3_type_spec.specs.Signature.{signature_at}
+use Rattle.ffi3_type_spec.specs.Fault.{IsLaidOut}
+use Rattle.ffi3_type_spec.proofs.Faults.{scalar_faults}
 use Rattle.ffi3_types.specs.TreeOf.{tree_of}
-use Rattle.ffi3_type_rules.specs.FirstFault.{first_fault}
-use Rattle.ffi3_type_rules.proofs.FirstFaults.{right_by_none}
-use Rattle.ffi3_script_rules.proofs.RightTypes.{any_result_type_is_right, result_is_laid_out, is_none-none}
+use Rattle.ffi3_type_spec.specs.FirstFault.{first_fault}
+use Rattle.ffi3_type_spec.proofs.FirstFaults.{right_by_none}
+use Rattle.ffi3_script_spec.proofs.RightTypes.{any_result_type_is_right, result_is_laid_out, is_none-none}
 use Rattle.ffi3_script_body.proofs.known.Known.outcome.Goals as goal
 
 pub zero-requires : goal.zero-requires

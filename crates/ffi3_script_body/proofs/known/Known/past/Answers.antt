@@ -1,7 +1,7 @@
 use Rattle.std.proofs.Common.{◌≡◌, ◌+◌, ◌-◌, ◌<◌, length, Some, None, ap, sym, ◌∙◌, arith}
 use Rattle.std.specs.Prelude.{slice_index_or}
 use Rattle.std.proofs.lemmas.List.{length-map, get_or-map, get_or_default}
-use Rattle.ffi3_type_rules.specs.Value.{void_value}
+use Rattle.ffi3_type_spec.specs.Value.{void_value}
 use Rattle.ffi3_script_body.specs.ExprOf.{act_of}
 use Rattle.ffi3_script_body.specs.KnownOf.{Past, pasts_of, past_type, past_value, is_there}
 use Rattle.ffi3_script_body.proofs.Pasts.{done-at, later-at, pasts-count, holds-at}

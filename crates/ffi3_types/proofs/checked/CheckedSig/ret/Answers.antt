@@ -1,4 +1,4 @@
-use Rattle.ffi3_type_rules.proofs.Right.{result_is_laid_out}
+use Rattle.ffi3_type_spec.proofs.Right.{result_is_laid_out}
 use Rattle.ffi3_types.proofs.checked.CheckedSig.ret.Goals as goal
 
 pub of-requires : goal.of-requires

@@ -1,4 +1,4 @@
-use Rattle.ffi3_type_rules.proofs.Faults.{right_anywhere}
+use Rattle.ffi3_type_spec.proofs.Faults.{right_anywhere}
 use Rattle.ffi3_types.specs.FirstElement.{role_of}
 use Rattle.ffi3_types.proofs.checked.CheckedType.check.Goals as goal
 

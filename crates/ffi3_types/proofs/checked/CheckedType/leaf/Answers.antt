@@ -1,6 +1,6 @@
 use Rattle.std.proofs.Common.{sym, subst}
-use Rattle.ffi3_type_rules.specs.Fault.{IsLaidOut}
-use Rattle.ffi3_type_rules.proofs.Faults.{scalar_faults}
+use Rattle.ffi3_type_spec.specs.Fault.{IsLaidOut}
+use Rattle.ffi3_type_spec.proofs.Faults.{scalar_faults}
 use Rattle.ffi3_types.proofs.checked.CheckedType.leaf.Goals as goal
 
 pub returns-clause-right : goal.returns-clause-right

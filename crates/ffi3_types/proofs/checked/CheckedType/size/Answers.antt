@@ -1,7 +1,7 @@
 use Rattle.std.proofs.Common.{arith, ap, sym, ◌∙◌}
-use Rattle.ffi3_type_rules.specs.declared.Role.TheVariants.{Anywhere}
-use Rattle.ffi3_type_rules.specs.Layout.{size_of}
-use Rattle.ffi3_type_rules.proofs.Faults.{right_is_small}
+use Rattle.ffi3_type_spec.specs.declared.Role.TheVariants.{Anywhere}
+use Rattle.ffi3_type_spec.specs.Layout.{size_of}
+use Rattle.ffi3_type_spec.proofs.Faults.{right_is_small}
 use Rattle.ffi3_types.specs.ScalarSize.{scalar_size_of}
 use Rattle.ffi3_types.specs.TreeOf.{tree_of}
 use Rattle.ffi3_types.proofs.Scalars.{sized_scalar}

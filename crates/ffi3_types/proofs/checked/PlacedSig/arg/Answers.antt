@@ -1,6 +1,6 @@
 use Rattle.std.proofs.Common.{◌<◌, length, sym, subst}
-use Rattle.ffi3_type_rules.specs.Signature.{Signature}
-use Rattle.ffi3_type_rules.proofs.Placed.{placed_argument_is_laid_out}
+use Rattle.ffi3_type_spec.specs.Signature.{Signature}
+use Rattle.ffi3_type_spec.proofs.Placed.{placed_argument_is_laid_out}
 use Rattle.ffi3_types.proofs.checked.PlacedSig.arg.Goals as goal
 
 pub of-requires : goal.of-requires

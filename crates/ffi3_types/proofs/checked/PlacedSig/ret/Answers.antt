@@ -1,4 +1,4 @@
-use Rattle.ffi3_type_rules.proofs.Placed.{placed_result_is_laid_out}
+use Rattle.ffi3_type_spec.proofs.Placed.{placed_result_is_laid_out}
 use Rattle.ffi3_types.proofs.checked.PlacedSig.ret.Goals as goal
 
 pub of-requires : goal.of-requires

@@ -1,4 +1,0 @@
-use Rattle.ffi3_ask.proofs.standing.Standing.in_function.Goals as goal
-
-pub returns-then-number-count : goal.returns-then-number-count
-returns-then-number-count g c = c.in_script.ensures _

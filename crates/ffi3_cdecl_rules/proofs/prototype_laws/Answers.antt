@@ -1,5 +1,0 @@
-use Rattle.ffi3_cdecl_rules.proofs.Prototypes.{prototype_laws}
-use Rattle.ffi3_cdecl_rules.proofs.prototype_laws.Goals as goal
-
-pub returns : goal.returns
-returns c = prototype_laws

@@ -1,0 +1,54 @@
+-- The numbers of what the words ask for lie in their ranges.
+use Rattle.std.proofs.Common.{◌≡◌, ◌&&◌, ℕ, Bool, true, false, cond, List, codes, Option, Some, None, nat_le, refl, subst, leb-true}
+use Rattle.std.specs.Option.{option_and_then, option_map}
+use Rattle.std.specs.Str.{bytes_eq}
+use Rattle.clap.specs.Words.{Row, Text, first_of}
+use Rattle.ffi3_type_spec.specs.declared.Target.{Target}
+use Rattle.ffi3_cli.specs.declared.words.Request.{Request}
+use Rattle.ffi3_cli.specs.declared.words.InputCommand.TheVariants.{Layout, Place, Run, Cdecl, Cplace, Explain, Arguments}
+use Rattle.ffi3_cli.specs.declared.words.Request.TheVariants.{OnInput, Bench}
+use Rattle.ffi3_cli.specs.WordCommands.{asked, bench_of, is_set, number_of, on_input, target_of, with_calls, with_target_of}
+use Rattle.ffi3_cli.specs.WordAnswers.{IsInRange}
+
+abbrev IfInRange : Option Request → Type 0
+IfInRange None = Unit {0}
+IfInRange (Some r) = IsInRange r
+
+calls_in : (seed calls : ℕ) (some not_many : Bool) → nat_le 1 calls ≡ some → nat_le calls 1000 ≡ not_many → IfInRange (cond (some && not_many) (Some (Bench seed calls)) None)
+calls_in seed calls true true e1 e2 = (leb-true 1 calls e1, leb-true calls 1000 e2)
+calls_in seed calls true false e1 e2 = tt
+calls_in seed calls false not_many e1 e2 = tt
+
+numbers_in : (seed calls : Option ℕ) → IfInRange (option_and_then (λ n. option_and_then (with_calls n) calls) seed)
+numbers_in None calls = tt
+numbers_in (Some seed) None = tt
+numbers_in (Some seed) (Some calls) =
+    calls_in seed calls (nat_le 1 calls) (nat_le calls 1000) refl refl
+
+places_in : (t : Option Target) → IfInRange (option_map (λ x. OnInput (Place x)) t)
+places_in None = tt
+places_in (Some t) = tt
+
+runs_in : (trace : Bool) (t : Option Target) → IfInRange (option_map (λ x. OnInput (Run x trace)) t)
+runs_in trace None = tt
+runs_in trace (Some t) = tt
+
+request_in : (is_layout is_cdecl is_cplace is_explain is_arguments is_bench is_place is_run : Bool) (target trace seed calls : Option Text) → IfInRange (cond is_layout (on_input Layout) (cond is_cdecl (on_input Cdecl) (cond is_cplace (on_input Cplace) (cond is_explain (on_input Explain) (cond is_arguments (on_input Arguments) (cond is_bench (bench_of seed calls) (cond is_place (with_target_of target (λ t. Place t)) (cond is_run (with_target_of target (λ t. Run t (is_set trace))) None))))))))
+request_in true b2 b3 b4 b5 b6 b7 b8 target trace seed calls = tt
+request_in false true b3 b4 b5 b6 b7 b8 target trace seed calls = tt
+request_in false false true b4 b5 b6 b7 b8 target trace seed calls = tt
+request_in false false false true b5 b6 b7 b8 target trace seed calls = tt
+request_in false false false false true b6 b7 b8 target trace seed calls = tt
+request_in false false false false false true b7 b8 target trace seed calls =
+    numbers_in (option_and_then number_of seed) (option_and_then number_of calls)
+request_in false false false false false false true b8 target trace seed calls = places_in (option_and_then target_of target)
+request_in false false false false false false false true target trace seed calls = runs_in (is_set trace) (option_and_then target_of target)
+request_in false false false false false false false false target trace seed calls = tt
+
+asked_in : (met : Option (Text × List Row)) → IfInRange (asked met)
+asked_in None = tt
+asked_in (Some p) =
+    request_in (bytes_eq p.0 (codes "layout")) (bytes_eq p.0 (codes "cdecl")) (bytes_eq p.0 (codes "cplace")) (bytes_eq p.0 (codes "explain")) (bytes_eq p.0 (codes "arguments")) (bytes_eq p.0 (codes "bench")) (bytes_eq p.0 (codes "place")) (bytes_eq p.0 (codes "run")) (first_of (codes "target") p.1) (first_of (codes "trace") p.1) (first_of (codes "seed") p.1) (first_of (codes "calls") p.1)
+
+pub in_range : (met : Option (Text × List Row)) (r : Request) → asked met ≡ Some r → IsInRange r
+in_range met r is = subst IfInRange is (asked_in met)

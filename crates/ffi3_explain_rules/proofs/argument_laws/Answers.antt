@@ -1,5 +1,0 @@
-use Rattle.ffi3_explain_rules.proofs.Arguments.{are_read}
-use Rattle.ffi3_explain_rules.proofs.argument_laws.Goals as goal
-
-pub returns : goal.returns
-returns c = are_read

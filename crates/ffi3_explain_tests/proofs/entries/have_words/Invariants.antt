@@ -1,8 +1,0 @@
-use Rattle.std.proofs.Common.{ℕ, ◌<◌}
-use Rattle.ffi3_machine.specs.Recorded.{event_at}
-use Rattle.ffi3_explain_rules.specs.Laws.{HasWords}
-use Rattle.ffi3_explain_tests.proofs.entries.have_words.Given as goal
-
-abbrev pub invariant-loop-i : goal.invariant-loop-i
-invariant-loop-i l =
-    (i : ℕ) → i < l.i → HasWords (event_at l.journal.events i).image

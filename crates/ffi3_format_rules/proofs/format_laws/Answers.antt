@@ -1,5 +1,0 @@
-use Rattle.ffi3_format_rules.proofs.Resolving.{format_laws}
-use Rattle.ffi3_format_rules.proofs.format_laws.Goals as goal
-
-pub returns : goal.returns
-returns c = format_laws

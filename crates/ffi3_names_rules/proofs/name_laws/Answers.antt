@@ -1,5 +1,0 @@
-use Rattle.ffi3_names_rules.proofs.Naming.{name_laws}
-use Rattle.ffi3_names_rules.proofs.name_laws.Goals as goal
-
-pub returns : goal.returns
-returns c = name_laws

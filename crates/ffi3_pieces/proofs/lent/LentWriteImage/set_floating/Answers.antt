@@ -1,5 +1,0 @@
-use Rattle.std.specs.Prelude.{refl}
-use Rattle.ffi3_pieces.proofs.lent.LentWriteImage.set_floating.Goals as goal
-
-pub returns-clause-wrote : goal.returns-clause-wrote
-returns-clause-wrote c = λ low high. (refl, c.set_floating.ensures.within low high)

@@ -1,8 +1,0 @@
-use Rattle.std.proofs.Common.{arith}
-use Rattle.ffi3_pieces.specs.Passing.{by_exchange}
-use Rattle.ffi3_pieces.proofs.Passing.{floating_count}
-use Rattle.ffi3_pieces.proofs.lent.set_floating.Goals as goal
-
-pub returns-clause-there : goal.returns-clause-there
-returns-clause-there c =
-    omega (arith, c.requires, floating_count (by_exchange c.args.machine.now.target) c.args.machine.now c.sp-m.ensures.machine.floating)

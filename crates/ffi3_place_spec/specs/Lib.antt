@@ -1,0 +1,17 @@
+pub mod MachineRegisters
+pub mod Scribble
+pub mod StubRegisters
+pub mod RegisterNames
+pub mod Standard
+pub mod Alike
+pub mod Image
+pub mod Event
+pub mod Holds
+pub mod Locs
+pub mod Sound
+pub mod Agrees
+pub mod Doublewords
+pub mod Sums
+pub mod Framed
+pub mod Planned
+pub mod ByStubs

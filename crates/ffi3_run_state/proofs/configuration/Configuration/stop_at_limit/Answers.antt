@@ -1,0 +1,13 @@
+use Rattle.std.proofs.Common.{List, sym, subst}
+use Rattle.ffi3_type_spec.specs.Signature.{Signature}
+use Rattle.ffi3_semantics_spec.specs.declared.Stop.TheVariants.{MoveLimit}
+use Rattle.ffi3_run_state.specs.Going.{StoppedBy}
+use Rattle.ffi3_run_state.proofs.Configuring.{stops_at_limit}
+use Rattle.ffi3_run_state.proofs.configuration.Configuration.stop_at_limit.Goals as goal
+
+pub returns-clause-turned : goal.returns-clause-turned
+returns-clause-turned g c = λ p base all first own events machine signatures is.
+    let o = g.O.Sink.state c.args.output.now in
+    let o' = g.O.Sink.state c.stop.new.output in
+    let by = subst (λ (ss : List Signature). StoppedBy ss MoveLimit o o' c.stop.result) (sym signatures) c.stop.ensures in
+    stops_at_limit p base all first own events c.args.self.now c.args.current machine o o' c.requires is c.stop.result by

@@ -1,0 +1,12 @@
+pub mod JsonPath
+pub mod SignatureReading
+pub mod Language
+pub mod ReasonText
+pub mod Script
+pub mod Values
+pub mod Bodies
+pub mod Meaning
+pub mod Natives
+pub mod Typed
+pub mod Made
+pub mod Reading

@@ -1,0 +1,13 @@
+pub mod Remainder
+pub mod SmallStep
+pub mod Path
+pub mod Left
+pub mod Depth
+pub mod Nested
+pub mod Open
+pub mod Interrupted
+pub mod TraceInterrupted
+pub mod SoFar
+pub mod Laws
+pub mod TracingOf
+pub mod MainTracing

@@ -1,0 +1,13 @@
+pub mod TargetIsa
+pub mod Tree
+pub mod Layout
+pub mod Fault
+pub mod Signature
+pub mod FirstFault
+pub mod Integer
+pub mod Same
+pub mod Value
+pub mod Text
+pub mod ValueText
+pub mod Names
+pub mod LayoutLaws
