@@ -13,14 +13,14 @@ use Rattle.ffi3_stubs.proofs.run_exit.Goals as goal
 
 pub run_steps-requires : goal.run_steps-requires
 run_steps-requires c =
-    let way : TakesSteps (steps_of (isa_of c.args.machine.now.target) Exit) (with_pc (stub_at (isa_of c.args.machine.now.target) Exit) c.args.machine.now) (after_exit (isa_of c.args.machine.now.target) (with_pc (stub_at (isa_of c.args.machine.now.target) Exit) c.args.machine.now)) = in_turn (isa_of c.args.machine.now.target) (steps_of (isa_of c.args.machine.now.target) Exit) (with_pc (stub_at (isa_of c.args.machine.now.target) Exit) c.args.machine.now) (after_exit (isa_of c.args.machine.now.target) (with_pc (stub_at (isa_of c.args.machine.now.target) Exit) c.args.machine.now)) refl (exit_way (isa_of c.args.machine.now.target) (with_pc (stub_at (isa_of c.args.machine.now.target) Exit) c.args.machine.now) refl (machine_at c.args.machine.now _ (exit_word (isa_of c.args.machine.now.target)) c.sp-sp.ensures.machine) c.requires.low c.requires.high) in
+    let way : TakesSteps (steps_of (isa_of c.args.machine.now.target) Exit) (with_pc (stub_at (isa_of c.args.machine.now.target) Exit) c.args.machine.now) (after_exit (isa_of c.args.machine.now.target) (with_pc (stub_at (isa_of c.args.machine.now.target) Exit) c.args.machine.now)) = in_turn (isa_of c.args.machine.now.target) (steps_of (isa_of c.args.machine.now.target) Exit) (with_pc (stub_at (isa_of c.args.machine.now.target) Exit) c.args.machine.now) (after_exit (isa_of c.args.machine.now.target) (with_pc (stub_at (isa_of c.args.machine.now.target) Exit) c.args.machine.now)) refl (exit_way (isa_of c.args.machine.now.target) (with_pc (stub_at (isa_of c.args.machine.now.target) Exit) c.args.machine.now) refl (machine_at c.args.machine.now _ (exit_word (isa_of c.args.machine.now.target)) c.facts.ensures) c.requires.low c.requires.high) in
     let many : c.exit_steps-n.result ≡ steps_of (isa_of c.args.machine.now.target) Exit = c.exit_steps-n.ensures ∙ ap (λ (i : Isa). steps_of i Exit) (c.isa.ensures ∙ ap isa_of (c.target.ensures ∙ ap (λ (s : State). s.target) c.go.ensures)) in
     let here : c.go.new.self ≡ (with_pc (stub_at (isa_of c.args.machine.now.target) Exit) c.args.machine.now) = c.go.ensures in
     record { way = (after_exit (isa_of c.args.machine.now.target) (with_pc (stub_at (isa_of c.args.machine.now.target) Exit) c.args.machine.now), subst (λ (s : State). TakesSteps c.exit_steps-n.result s (after_exit (isa_of c.args.machine.now.target) (with_pc (stub_at (isa_of c.args.machine.now.target) Exit) c.args.machine.now))) (sym here) (subst (λ (k : ℕ). TakesSteps k (with_pc (stub_at (isa_of c.args.machine.now.target) Exit) c.args.machine.now) (after_exit (isa_of c.args.machine.now.target) (with_pc (stub_at (isa_of c.args.machine.now.target) Exit) c.args.machine.now))) (sym many) way)) }
 
 pub returns : goal.returns
 returns c =
-    let way : TakesSteps (steps_of (isa_of c.args.machine.now.target) Exit) (with_pc (stub_at (isa_of c.args.machine.now.target) Exit) c.args.machine.now) (after_exit (isa_of c.args.machine.now.target) (with_pc (stub_at (isa_of c.args.machine.now.target) Exit) c.args.machine.now)) = in_turn (isa_of c.args.machine.now.target) (steps_of (isa_of c.args.machine.now.target) Exit) (with_pc (stub_at (isa_of c.args.machine.now.target) Exit) c.args.machine.now) (after_exit (isa_of c.args.machine.now.target) (with_pc (stub_at (isa_of c.args.machine.now.target) Exit) c.args.machine.now)) refl (exit_way (isa_of c.args.machine.now.target) (with_pc (stub_at (isa_of c.args.machine.now.target) Exit) c.args.machine.now) refl (machine_at c.args.machine.now _ (exit_word (isa_of c.args.machine.now.target)) c.sp-sp.ensures.machine) c.requires.low c.requires.high) in
+    let way : TakesSteps (steps_of (isa_of c.args.machine.now.target) Exit) (with_pc (stub_at (isa_of c.args.machine.now.target) Exit) c.args.machine.now) (after_exit (isa_of c.args.machine.now.target) (with_pc (stub_at (isa_of c.args.machine.now.target) Exit) c.args.machine.now)) = in_turn (isa_of c.args.machine.now.target) (steps_of (isa_of c.args.machine.now.target) Exit) (with_pc (stub_at (isa_of c.args.machine.now.target) Exit) c.args.machine.now) (after_exit (isa_of c.args.machine.now.target) (with_pc (stub_at (isa_of c.args.machine.now.target) Exit) c.args.machine.now)) refl (exit_way (isa_of c.args.machine.now.target) (with_pc (stub_at (isa_of c.args.machine.now.target) Exit) c.args.machine.now) refl (machine_at c.args.machine.now _ (exit_word (isa_of c.args.machine.now.target)) c.facts.ensures) c.requires.low c.requires.high) in
     let many : c.exit_steps-n.result ≡ steps_of (isa_of c.args.machine.now.target) Exit = c.exit_steps-n.ensures ∙ ap (λ (i : Isa). steps_of i Exit) (c.isa.ensures ∙ ap isa_of (c.target.ensures ∙ ap (λ (s : State). s.target) c.go.ensures)) in
     let here : c.go.new.self ≡ (with_pc (stub_at (isa_of c.args.machine.now.target) Exit) c.args.machine.now) = c.go.ensures in
     let all : c.run_steps.new.machine ≡ after_exit (isa_of c.args.machine.now.target) (with_pc (stub_at (isa_of c.args.machine.now.target) Exit) c.args.machine.now) = c.run_steps.ensures.only (after_exit (isa_of c.args.machine.now.target) (with_pc (stub_at (isa_of c.args.machine.now.target) Exit) c.args.machine.now)) (subst (λ (s : State). TakesSteps c.exit_steps-n.result s (after_exit (isa_of c.args.machine.now.target) (with_pc (stub_at (isa_of c.args.machine.now.target) Exit) c.args.machine.now))) (sym here) (subst (λ (k : ℕ). TakesSteps k (with_pc (stub_at (isa_of c.args.machine.now.target) Exit) c.args.machine.now) (after_exit (isa_of c.args.machine.now.target) (with_pc (stub_at (isa_of c.args.machine.now.target) Exit) c.args.machine.now))) (sym many) way)) in
@@ -29,5 +29,5 @@ returns c =
       whole = all;
       steps = done;
       counted = counted_steps (steps_of (isa_of c.args.machine.now.target) Exit) (with_pc (stub_at (isa_of c.args.machine.now.target) Exit) c.args.machine.now) c.run_steps.new.machine (some_exit (isa_of c.args.machine.now.target)) done;
-      says = subst (λ (x : State). HasLeft (isa_of c.args.machine.now.target) c.args.machine.now x) (sym all) (exit_says (isa_of c.args.machine.now.target) c.args.machine.now c.sp-sp.ensures.machine);
+      says = subst (λ (x : State). HasLeft (isa_of c.args.machine.now.target) c.args.machine.now x) (sym all) (exit_says (isa_of c.args.machine.now.target) c.args.machine.now c.facts.ensures);
     }

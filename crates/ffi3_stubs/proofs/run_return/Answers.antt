@@ -13,13 +13,13 @@ use Rattle.ffi3_stubs.proofs.run_return.Goals as goal
 
 pub run_steps-requires : goal.run_steps-requires
 run_steps-requires c =
-    let way : TakesSteps (steps_of (isa_of c.args.machine.now.target) Return) c.args.machine.now (after_return (isa_of c.args.machine.now.target) c.args.machine.now) = in_turn (isa_of c.args.machine.now.target) (steps_of (isa_of c.args.machine.now.target) Return) c.args.machine.now (after_return (isa_of c.args.machine.now.target) c.args.machine.now) refl (return_way (isa_of c.args.machine.now.target) c.args.machine.now c.requires.at c.sp-sp.ensures.machine) in
+    let way : TakesSteps (steps_of (isa_of c.args.machine.now.target) Return) c.args.machine.now (after_return (isa_of c.args.machine.now.target) c.args.machine.now) = in_turn (isa_of c.args.machine.now.target) (steps_of (isa_of c.args.machine.now.target) Return) c.args.machine.now (after_return (isa_of c.args.machine.now.target) c.args.machine.now) refl (return_way (isa_of c.args.machine.now.target) c.args.machine.now c.requires.at c.facts.ensures) in
     let many : c.return_steps-n.result ≡ steps_of (isa_of c.args.machine.now.target) Return = c.return_steps-n.ensures ∙ ap (λ (i : Isa). steps_of i Return) (c.isa.ensures ∙ ap isa_of c.target.ensures) in
     record { way = (after_return (isa_of c.args.machine.now.target) c.args.machine.now, subst (λ (k : ℕ). TakesSteps k c.args.machine.now (after_return (isa_of c.args.machine.now.target) c.args.machine.now)) (sym many) way) }
 
 pub returns : goal.returns
 returns c =
-    let way : TakesSteps (steps_of (isa_of c.args.machine.now.target) Return) c.args.machine.now (after_return (isa_of c.args.machine.now.target) c.args.machine.now) = in_turn (isa_of c.args.machine.now.target) (steps_of (isa_of c.args.machine.now.target) Return) c.args.machine.now (after_return (isa_of c.args.machine.now.target) c.args.machine.now) refl (return_way (isa_of c.args.machine.now.target) c.args.machine.now c.requires.at c.sp-sp.ensures.machine) in
+    let way : TakesSteps (steps_of (isa_of c.args.machine.now.target) Return) c.args.machine.now (after_return (isa_of c.args.machine.now.target) c.args.machine.now) = in_turn (isa_of c.args.machine.now.target) (steps_of (isa_of c.args.machine.now.target) Return) c.args.machine.now (after_return (isa_of c.args.machine.now.target) c.args.machine.now) refl (return_way (isa_of c.args.machine.now.target) c.args.machine.now c.requires.at c.facts.ensures) in
     let many : c.return_steps-n.result ≡ steps_of (isa_of c.args.machine.now.target) Return = c.return_steps-n.ensures ∙ ap (λ (i : Isa). steps_of i Return) (c.isa.ensures ∙ ap isa_of c.target.ensures) in
     let all : c.run_steps.new.machine ≡ after_return (isa_of c.args.machine.now.target) c.args.machine.now = c.run_steps.ensures.only (after_return (isa_of c.args.machine.now.target) c.args.machine.now) (subst (λ (k : ℕ). TakesSteps k c.args.machine.now (after_return (isa_of c.args.machine.now.target) c.args.machine.now)) (sym many) way) in
     let done : TakesSteps (steps_of (isa_of c.args.machine.now.target) Return) c.args.machine.now c.run_steps.new.machine = subst (λ (k : ℕ). TakesSteps k c.args.machine.now c.run_steps.new.machine) many (c.run_steps.ensures.steps) in
@@ -27,5 +27,5 @@ returns c =
       whole = all;
       steps = done;
       counted = counted_steps (steps_of (isa_of c.args.machine.now.target) Return) c.args.machine.now c.run_steps.new.machine (some_return (isa_of c.args.machine.now.target)) done;
-      says = subst (λ (x : State). HasReturned (isa_of c.args.machine.now.target) c.args.machine.now x) (sym all) (return_says (isa_of c.args.machine.now.target) c.args.machine.now c.sp-sp.ensures.machine);
+      says = subst (λ (x : State). HasReturned (isa_of c.args.machine.now.target) c.args.machine.now x) (sym all) (return_says (isa_of c.args.machine.now.target) c.args.machine.now c.facts.ensures);
     }

@@ -158,7 +158,7 @@ returns-clause-others g c =
     let all = call_stored std s sound c.sig-sig.ensures.faultless c.args.values.now m.target c.at-base.result c.result_place.result.now c.vector_count-count.result c.vectors.result (passing (scribbled (length m.events) m)) (passing c.begin_frame.new.machine) (passing c.store_places.new.machine) (passing c.store_hidden.new.machine) (passing c.put_count.new.machine) (c.at-base.ensures ∙ c.sp.ensures.value) low c.result_place.ensures c.vector_count-count.ensures c.vectors.ensures write registers c.requires.fit c.begin_frame.ensures.registers c.store_places.ensures.stand c.store_places.ensures.stays c.store_places.ensures.within c.store_places.ensures.unused c.store_hidden.ensures.stands c.store_hidden.ensures.stays c.store_hidden.ensures.within c.put_count.ensures.told c.put_count.ensures.stays c.put_count.ensures.within in
     let wrote = (call_within (frame_of std s) (passing (scribbled (length m.events) m)) (passing c.begin_frame.new.machine) (passing c.put_count.new.machine) (subst (λ n. c.begin_frame.new.machine.sp + n ≡ m.sp) c.frame.ensures c.begin_frame.ensures.sp) (subst (λ n. WroteWithin c.begin_frame.new.machine.sp (c.begin_frame.new.machine.sp + n) (passing (scribbled (length m.events) m)) (passing c.begin_frame.new.machine)) c.frame.ensures c.begin_frame.ensures.within) all.sp all.within) in
     let own : (l : Loc) → IsPlace 0 l → IsNoneOf (argument_locs (plan_of std s) ++ to_list std.vector_count) l → SameAt 0 l (scribbled (length m.events) m) c.put_count.new.machine = λ l h none.
-    own_register l (scribbled (length m.events) m) c.put_count.new.machine h wrote.target (length-scribbled_general _ _ _ ∙ sym c.sp-last.ensures.machine.general) (length-scribbled_floating _ ∙ sym c.sp-last.ensures.machine.floating) (all.others l h none) wrote.exchange in
+    own_register l (scribbled (length m.events) m) c.put_count.new.machine h wrote.target (length-scribbled_general _ _ _ ∙ sym c.facts.ensures.general) (length-scribbled_floating _ ∙ sym c.facts.ensures.floating) (all.others l h none) wrote.exchange in
     own
 
 pub returns-clause-free : goal.returns-clause-free
@@ -203,7 +203,7 @@ returns-clause-preserved g c =
     let all = call_stored std s sound c.sig-sig.ensures.faultless c.args.values.now m.target c.at-base.result c.result_place.result.now c.vector_count-count.result c.vectors.result (passing (scribbled (length m.events) m)) (passing c.begin_frame.new.machine) (passing c.store_places.new.machine) (passing c.store_hidden.new.machine) (passing c.put_count.new.machine) (c.at-base.ensures ∙ c.sp.ensures.value) low c.result_place.ensures c.vector_count-count.ensures c.vectors.ensures write registers c.requires.fit c.begin_frame.ensures.registers c.store_places.ensures.stand c.store_places.ensures.stays c.store_places.ensures.within c.store_places.ensures.unused c.store_hidden.ensures.stands c.store_hidden.ensures.stays c.store_hidden.ensures.within c.put_count.ensures.told c.put_count.ensures.stays c.put_count.ensures.within in
     let wrote = (call_within (frame_of std s) (passing (scribbled (length m.events) m)) (passing c.begin_frame.new.machine) (passing c.put_count.new.machine) (subst (λ n. c.begin_frame.new.machine.sp + n ≡ m.sp) c.frame.ensures c.begin_frame.ensures.sp) (subst (λ n. WroteWithin c.begin_frame.new.machine.sp (c.begin_frame.new.machine.sp + n) (passing (scribbled (length m.events) m)) (passing c.begin_frame.new.machine)) c.frame.ensures c.begin_frame.ensures.within) all.sp all.within) in
     let own : (l : Loc) → IsPlace 0 l → IsNoneOf (argument_locs (plan_of std s) ++ to_list std.vector_count) l → SameAt 0 l (scribbled (length m.events) m) c.put_count.new.machine = λ l h none.
-    own_register l (scribbled (length m.events) m) c.put_count.new.machine h wrote.target (length-scribbled_general _ _ _ ∙ sym c.sp-last.ensures.machine.general) (length-scribbled_floating _ ∙ sym c.sp-last.ensures.machine.floating) (all.others l h none) wrote.exchange in
+    own_register l (scribbled (length m.events) m) c.put_count.new.machine h wrote.target (length-scribbled_general _ _ _ ∙ sym c.facts.ensures.general) (length-scribbled_floating _ ∙ sym c.facts.ensures.floating) (all.others l h none) wrote.exchange in
     preserved_same std g.met.A.Abi.agrees s sound (scribbled (length m.events) m) c.put_count.new.machine own
 
 pub returns-clause-reserved : goal.returns-clause-reserved
@@ -218,7 +218,7 @@ returns-clause-reserved g c =
     let all = call_stored std s sound c.sig-sig.ensures.faultless c.args.values.now m.target c.at-base.result c.result_place.result.now c.vector_count-count.result c.vectors.result (passing (scribbled (length m.events) m)) (passing c.begin_frame.new.machine) (passing c.store_places.new.machine) (passing c.store_hidden.new.machine) (passing c.put_count.new.machine) (c.at-base.ensures ∙ c.sp.ensures.value) low c.result_place.ensures c.vector_count-count.ensures c.vectors.ensures write registers c.requires.fit c.begin_frame.ensures.registers c.store_places.ensures.stand c.store_places.ensures.stays c.store_places.ensures.within c.store_places.ensures.unused c.store_hidden.ensures.stands c.store_hidden.ensures.stays c.store_hidden.ensures.within c.put_count.ensures.told c.put_count.ensures.stays c.put_count.ensures.within in
     let wrote = (call_within (frame_of std s) (passing (scribbled (length m.events) m)) (passing c.begin_frame.new.machine) (passing c.put_count.new.machine) (subst (λ n. c.begin_frame.new.machine.sp + n ≡ m.sp) c.frame.ensures c.begin_frame.ensures.sp) (subst (λ n. WroteWithin c.begin_frame.new.machine.sp (c.begin_frame.new.machine.sp + n) (passing (scribbled (length m.events) m)) (passing c.begin_frame.new.machine)) c.frame.ensures c.begin_frame.ensures.within) all.sp all.within) in
     let own : (l : Loc) → IsPlace 0 l → IsNoneOf (argument_locs (plan_of std s) ++ to_list std.vector_count) l → SameAt 0 l (scribbled (length m.events) m) c.put_count.new.machine = λ l h none.
-    own_register l (scribbled (length m.events) m) c.put_count.new.machine h wrote.target (length-scribbled_general _ _ _ ∙ sym c.sp-last.ensures.machine.general) (length-scribbled_floating _ ∙ sym c.sp-last.ensures.machine.floating) (all.others l h none) wrote.exchange in
+    own_register l (scribbled (length m.events) m) c.put_count.new.machine h wrote.target (length-scribbled_general _ _ _ ∙ sym c.facts.ensures.general) (length-scribbled_floating _ ∙ sym c.facts.ensures.floating) (all.others l h none) wrote.exchange in
     reserved_stays std g.met.A.Abi.agrees s sound (scribbled (length m.events) m) c.put_count.new.machine own (length m.events) m _ refl g.met.A.Abi.target_is c.requires.target
 
 pub returns-clause-within : goal.returns-clause-within

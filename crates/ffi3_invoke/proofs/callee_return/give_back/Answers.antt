@@ -27,7 +27,7 @@ record_return-requires-clause-at_return g c =
     let entry = c.requires.called.0 in
     let called = c.requires.called.1 in
     let v = value_of c.args.value.now in
-    at_return std s agrees v incoming m given back called.target c.sp-sp.ensures.machine.stack c.requires.incoming c.requires.block c.give_result.ensures.writes c.give_result.ensures.reserved c.go_back.ensures.back c.go_back.ensures.reserved entry called
+    at_return std s agrees v incoming m given back called.target c.facts.ensures.stack c.requires.incoming c.requires.block c.give_result.ensures.writes c.give_result.ensures.reserved c.go_back.ensures.back c.go_back.ensures.reserved entry called
 
 pub record_return-requires-clause-low : goal.record_return-requires-clause-low
 record_return-requires-clause-low g c =
@@ -41,7 +41,7 @@ record_return-requires-clause-low g c =
     let entry = c.requires.called.0 in
     let called = c.requires.called.1 in
     let v = value_of c.args.value.now in
-    return_low std s agrees v incoming m given back called.target c.sp-sp.ensures.machine.stack c.requires.incoming c.requires.block c.give_result.ensures.writes c.give_result.ensures.reserved c.go_back.ensures.back c.go_back.ensures.reserved
+    return_low std s agrees v incoming m given back called.target c.facts.ensures.stack c.requires.incoming c.requires.block c.give_result.ensures.writes c.give_result.ensures.reserved c.go_back.ensures.back c.go_back.ensures.reserved
 
 pub record_return-requires-clause-high : goal.record_return-requires-clause-high
 record_return-requires-clause-high g c =
@@ -55,7 +55,7 @@ record_return-requires-clause-high g c =
     let entry = c.requires.called.0 in
     let called = c.requires.called.1 in
     let v = value_of c.args.value.now in
-    let top = return_high std s agrees v incoming m given back called.target c.sp-sp.ensures.machine.stack c.requires.incoming c.requires.block c.give_result.ensures.writes c.give_result.ensures.reserved c.go_back.ensures.back c.go_back.ensures.reserved in
+    let top = return_high std s agrees v incoming m given back called.target c.facts.ensures.stack c.requires.incoming c.requires.block c.give_result.ensures.writes c.give_result.ensures.reserved c.go_back.ensures.back c.go_back.ensures.reserved in
     omega (arith, top, c.frame.ensures)
 
 pub record_return-requires-clause-events : goal.record_return-requires-clause-events
@@ -70,7 +70,7 @@ record_return-requires-clause-events g c =
     let entry = c.requires.called.0 in
     let called = c.requires.called.1 in
     let v = value_of c.args.value.now in
-    let same = events_room std s agrees v incoming m given back called.target c.sp-sp.ensures.machine.stack c.requires.incoming c.requires.block c.give_result.ensures.writes c.give_result.ensures.reserved c.go_back.ensures.back c.go_back.ensures.reserved in
+    let same = events_room std s agrees v incoming m given back called.target c.facts.ensures.stack c.requires.incoming c.requires.block c.give_result.ensures.writes c.give_result.ensures.reserved c.go_back.ensures.back c.go_back.ensures.reserved in
     omega (arith, same, called.room)
 
 pub record_return-requires-clause-bytes : goal.record_return-requires-clause-bytes
@@ -85,7 +85,7 @@ record_return-requires-clause-bytes g c =
     let entry = c.requires.called.0 in
     let called = c.requires.called.1 in
     let v = value_of c.args.value.now in
-    let same = bytes_room std s agrees v incoming m given back called.target c.sp-sp.ensures.machine.stack c.requires.incoming c.requires.block c.give_result.ensures.writes c.give_result.ensures.reserved c.go_back.ensures.back c.go_back.ensures.reserved in
+    let same = bytes_room std s agrees v incoming m given back called.target c.facts.ensures.stack c.requires.incoming c.requires.block c.give_result.ensures.writes c.give_result.ensures.reserved c.go_back.ensures.back c.go_back.ensures.reserved in
     omega (arith, same, called.bytes, c.frame.ensures)
 
 pub returns : goal.returns
@@ -100,4 +100,4 @@ returns g c =
     let entry = c.requires.called.0 in
     let called = c.requires.called.1 in
     let v = value_of c.args.value.now in
-    returned std s agrees v incoming m given back called.target c.sp-sp.ensures.machine.stack c.requires.incoming c.requires.block c.give_result.ensures.writes c.give_result.ensures.reserved c.go_back.ensures.back c.go_back.ensures.reserved c.frame.result c.record_return.new.machine c.frame.ensures c.record_return.ensures c.go_back.ensures.kept (c.go_back.ensures.keeps (incoming.entry + std.link) v c.give_result.ensures.holds) entry called
+    returned std s agrees v incoming m given back called.target c.facts.ensures.stack c.requires.incoming c.requires.block c.give_result.ensures.writes c.give_result.ensures.reserved c.go_back.ensures.back c.go_back.ensures.reserved c.frame.result c.record_return.new.machine c.frame.ensures c.record_return.ensures c.go_back.ensures.kept (c.go_back.ensures.keeps (incoming.entry + std.link) v c.give_result.ensures.holds) entry called
