@@ -4,10 +4,10 @@ ghost use Rattle.std.specs.Prelude.{◌≡◌, ◌<◌, ◌≤◌, ◌++◌, IfO
 ghost use Rattle.std.specs.List.{concat};
 ghost use Rattle.ffi3_type_spec.specs.Signature.{SignatureIsPlaced};
 ghost use Rattle.ffi3_explain_spec.specs.Standards.{standard_of};
-ghost use Rattle.ffi3_app.specs.Commands.{place_text};
-ghost use Rattle.ffi3_app.specs.Declarations.{argument_line, named_lines};
+ghost use Rattle.ffi3_app_spec.specs.Commands.{place_text};
+ghost use Rattle.ffi3_app_spec.specs.Declarations.{argument_line, named_lines};
 ghost use Rattle.ffi3_names.specs.NamesOf.{names_of};
-ghost use Rattle.ffi3_io.specs.Written.{Wrote};
+ghost use Rattle.ffi3_io_spec.specs.Written.{Wrote};
 
 use crate::write::write_made_line;
 use ffi3_aapcs64::Aapcs64;

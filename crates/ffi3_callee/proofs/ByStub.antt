@@ -20,9 +20,9 @@ use Rattle.ffi3_place_spec.specs.ByStubs.{AgreesWithStubs}
 use Rattle.ffi3_place_spec.specs.Sound.{IsNoneOf, IsOneOf}
 use Rattle.ffi3_place_spec.proofs.Forbidden.{each_exists}
 use Rattle.ffi3_place_spec.proofs.Tests.{each_at}
-use Rattle.ffi3_memory.specs.Memory.{low_bytes, number_of}
-use Rattle.ffi3_machine.specs.State.{State, IsMachine, with_sp, with_x}
-use Rattle.ffi3_machine.specs.Stubs.{Entry}
+use Rattle.ffi3_machine_spec.specs.Memory.{low_bytes, number_of}
+use Rattle.ffi3_machine_spec.specs.State.{State, IsMachine, with_sp, with_x}
+use Rattle.ffi3_machine_spec.specs.Stubs.{Entry}
 use Rattle.ffi3_stubs.specs.Effects.{held}
 use Rattle.ffi3_stubs.specs.Calls.{CameFromWords, HasEntered, WentToWords, steps_of}
 use Rattle.ffi3_machine_transfer.specs.Passing.{by_exchange, passing, passing_if}

@@ -15,7 +15,7 @@ use Rattle.ffi3_place_spec.specs.declared.Loc.TheVariants.{G, F, S}
 use Rattle.ffi3_place_spec.specs.Standard.{Standard, frame_of}
 use Rattle.ffi3_place_spec.specs.Sound.{IsNoneOf}
 use Rattle.ffi3_place_spec.proofs.Tests.{and_left, and_right, each_of_eight, not_true}
-use Rattle.ffi3_machine.specs.State.{State, filled, stored}
+use Rattle.ffi3_machine_spec.specs.State.{State, filled, stored}
 use Rattle.ffi3_machine_transfer.specs.Stored.{IsPlace, IsWordPut, WroteOnly, byte_of, stack_byte, word_in}
 use Rattle.ffi3_marshal.proofs.Composing.{register_is_whole}
 use Rattle.ffi3_machine_transfer.proofs.Composing.{only_nothing, only_then, only_wider, same_byte, wrote_nothing, wrote_then, wrote_wider}

@@ -23,7 +23,7 @@ use Rattle.ffi3_place_spec.specs.Standard.{Standard, frame_of, plan_of}
 use Rattle.ffi3_place_spec.specs.Agrees.{AgreesWithMachine}
 use Rattle.ffi3_place_spec.specs.Sound.{Apart, IsSound, argument_locs, closed_to_arguments, closed_to_results}
 use Rattle.ffi3_place_spec.proofs.Tests.{and_left, and_right}
-use Rattle.ffi3_machine.specs.State.{HasReturnAddress, HasReturnAt, State, image_of, stack_at}
+use Rattle.ffi3_machine_spec.specs.State.{HasReturnAddress, HasReturnAt, State, image_of, stack_at}
 use Rattle.ffi3_machine_transfer.specs.Stored.{IsPlace, IsWritable, WroteWithin, byte_of, stack_byte, word_in}
 use Rattle.ffi3_machine_transfer.proofs.Composing.{wrote_then, wrote_wider}
 use Rattle.ffi3_marshal.proofs.Stepping.{each_read}

@@ -24,10 +24,10 @@ use Rattle.ffi3_place_spec.specs.Holds.{HoldsResult, Kept, SameIn}
 use Rattle.ffi3_place_spec.specs.Sound.{IsNoneOf, IsOneOf, IsSound, result_locs}
 use Rattle.ffi3_place_spec.proofs.Tests.{each_at}
 use Rattle.ffi3_place_spec.proofs.OnMachine.{as_before}
-use Rattle.ffi3_memory.specs.Memory.{number_of}
-use Rattle.ffi3_machine.specs.State.{State, HasReturnAddress, HasReturnAt, IsMachine, image_of, stack_at, with_x, x_of}
+use Rattle.ffi3_machine_spec.specs.Memory.{number_of}
+use Rattle.ffi3_machine_spec.specs.State.{State, HasReturnAddress, HasReturnAt, IsMachine, image_of, stack_at, with_x, x_of}
 use Rattle.ffi3_machine.specs.MachineStep.{even}
-use Rattle.ffi3_machine.specs.Stubs.{Exit, exchanged_at}
+use Rattle.ffi3_machine_spec.specs.Stubs.{Exit, exchanged_at}
 use Rattle.ffi3_stubs.specs.Calls.{HasLeft, left_to, steps_of, CameFromWords}
 use Rattle.ffi3_machine_transfer.specs.Passing.{by_exchange, passing, passing_if}
 use Rattle.ffi3_machine_transfer.specs.Stored.{IsPlace, SameAt, WroteWithin, with_journal_of, word_in}

@@ -5,8 +5,8 @@ use Rattle.std.proofs.lemmas.Bool.{cases_lt}
 use Rattle.std.proofs.lemmas.List.{drop_at, ext_get_or, get_or-drop, take_at}
 use Rattle.std.proofs.lemmas.Nat.{le_bytes_8}
 use Rattle.ffi3_type_spec.proofs.Parts.{index_part, length_part}
-use Rattle.ffi3_memory.specs.Memory.{number_of}
-use Rattle.ffi3_machine.specs.State.{State, AreBytes, IsMachine, scribbled}
+use Rattle.ffi3_machine_spec.specs.Memory.{number_of}
+use Rattle.ffi3_machine_spec.specs.State.{State, AreBytes, IsMachine, scribbled}
 use Rattle.ffi3_machine.proofs.Words.{bytes-drop, bytes-take}
 use Rattle.ffi3_machine_transfer.specs.Passing.{by_exchange, passing, passing_if, words_at}
 use Rattle.ffi3_machine_transfer.specs.Stored.{WroteOnly}

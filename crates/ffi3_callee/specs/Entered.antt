@@ -4,8 +4,8 @@ use Rattle.std.specs.List.{AllByRecursion}
 use Rattle.ffi3_type_spec.specs.TargetIsa.{isa_of}
 use Rattle.ffi3_place_spec.specs.declared.Loc.{Loc}
 use Rattle.ffi3_place_spec.specs.Standard.{Standard}
-use Rattle.ffi3_machine.specs.State.{State, with_sp, with_x}
-use Rattle.ffi3_machine.specs.Stubs.{Entry}
+use Rattle.ffi3_machine_spec.specs.State.{State, with_sp, with_x}
+use Rattle.ffi3_machine_spec.specs.Stubs.{Entry}
 use Rattle.ffi3_stubs.specs.Calls.{after_entry, steps_of}
 use Rattle.ffi3_machine_transfer.specs.Passing.{by_exchange, passing, steps_if}
 use Rattle.ffi3_machine_transfer.specs.Stored.{SameAt, WroteWithin, with_journal_of}

@@ -9,8 +9,8 @@ use Rattle.ffi3_place_spec.specs.Image.{Image, register}
 use Rattle.ffi3_place_spec.specs.Standard.{Standard}
 use Rattle.ffi3_place_spec.specs.Agrees.{saved_registers}
 use Rattle.ffi3_place_spec.specs.Sound.{IsNoneOf, IsOneOf}
-use Rattle.ffi3_machine.specs.State.{State, HasReturnAddress, HasReturnAt, returned, with_pc, with_sp, with_x}
-use Rattle.ffi3_machine.specs.Stubs.{Exit, stub_at}
+use Rattle.ffi3_machine_spec.specs.State.{State, HasReturnAddress, HasReturnAt, returned, with_pc, with_sp, with_x}
+use Rattle.ffi3_machine_spec.specs.Stubs.{Exit, stub_at}
 use Rattle.ffi3_stubs.specs.Calls.{after_exit, steps_of}
 use Rattle.ffi3_machine_transfer.specs.Passing.{by_exchange, passing, steps_if}
 use Rattle.ffi3_machine_transfer.specs.Stored.{IsPlace, SameAt, WroteWithin, with_journal_of}

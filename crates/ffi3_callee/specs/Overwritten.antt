@@ -5,7 +5,7 @@ use Rattle.ffi3_type_spec.specs.Signature.{Signature}
 use Rattle.ffi3_place_spec.specs.declared.Loc.{Loc}
 use Rattle.ffi3_place_spec.specs.declared.Loc.TheVariants.{S}
 use Rattle.ffi3_place_spec.specs.Standard.{Standard, frame_of}
-use Rattle.ffi3_machine.specs.State.{State}
+use Rattle.ffi3_machine_spec.specs.State.{State}
 use Rattle.ffi3_machine_transfer.specs.Stored.{IsPlace, WroteOnly, WroteWithin, byte_of, stack_byte, word_in}
 use Rattle.ffi3_callee.specs.Poison.{MarkFalls, is_free, is_register}
 

@@ -14,7 +14,7 @@ use Rattle.ffi3_place_spec.specs.declared.Res.{Res}
 use Rattle.ffi3_place_spec.specs.declared.Res.TheVariants.{Nothing, Direct as DirectRes, Hidden}
 use Rattle.ffi3_place_spec.specs.Standard.{Standard, frame_of, plan_of}
 use Rattle.ffi3_place_spec.specs.Sound.{closed_to_arguments}
-use Rattle.ffi3_machine.specs.State.{State}
+use Rattle.ffi3_machine_spec.specs.State.{State}
 use Rattle.ffi3_machine_transfer.specs.Stored.{IsPlace, WroteWithin, byte_of, stack_byte, word_in}
 
 -- ---- a byte of a place: byte k of a register, or of the stack from an offset of the frame on

@@ -5,7 +5,7 @@ ghost use Rattle.ffi3_type_spec.specs.Value.{ValueTree, fits};
 ghost use Rattle.ffi3_values.specs.ValueOf.{value_of};
 ghost use Rattle.ffi3_place_spec.specs.Standard.{block_bytes, frame_of};
 ghost use Rattle.ffi3_place_spec.specs.Holds.{HoldsResult, Kept};
-ghost use Rattle.ffi3_machine.specs.State.{image_of};
+ghost use Rattle.ffi3_machine_spec.specs.State.{image_of};
 ghost use Rattle.ffi3_callee.specs.Answered.{HasAnswered};
 ghost use Rattle.ffi3_callee.specs.GoneBack.{returned_by};
 ghost use Rattle.ffi3_callee.specs.Loaded.{image_from};

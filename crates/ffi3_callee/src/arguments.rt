@@ -5,7 +5,7 @@ ghost use Rattle.ffi3_type_spec.specs.declared.limits.TheConstants.{STACK, STACK
 ghost use Rattle.ffi3_type_spec.specs.Layout.{size_of};
 ghost use Rattle.ffi3_place_spec.specs.Sound.{PlaceHasAll, IsWithin};
 ghost use Rattle.ffi3_cif.specs.Runs.{AreRunsOf, Neighbours, Rises, pieces_of};
-ghost use Rattle.ffi3_machine.specs.State.{stack_at};
+ghost use Rattle.ffi3_machine_spec.specs.State.{stack_at};
 ghost use Rattle.ffi3_machine_transfer.specs.Passing.{passing};
 ghost use Rattle.ffi3_machine_transfer.specs.Stored.{IsPlace, WroteOnly};
 ghost use Rattle.ffi3_machine_transfer.specs.Runs.{RunLies};

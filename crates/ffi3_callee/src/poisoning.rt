@@ -5,7 +5,7 @@ ghost use Rattle.std.specs.Int.{w64, to_le_bytes};
 ghost use Rattle.ffi3_type_spec.specs.declared.limits.TheConstants.{ENTRY, STACK, STACK_TOP};
 ghost use Rattle.ffi3_type_spec.specs.Value.{ValueTree};
 ghost use Rattle.ffi3_place_spec.specs.Standard.{frame_of};
-ghost use Rattle.ffi3_machine.specs.State.{HasReturnAddress};
+ghost use Rattle.ffi3_machine_spec.specs.State.{HasReturnAddress};
 ghost use Rattle.ffi3_machine_transfer.specs.Stored.{IsPlace, IsWordPut, IsWritable};
 ghost use Rattle.ffi3_callee.specs.Poison.{IsPoisoned, address_has, byte_number, carries, copy_has, hidden_has, is_argument_register, is_leaf_byte, piece_has, place_has};
 ghost use Rattle.ffi3_callee.specs.Received.{OwnsAtEntry};

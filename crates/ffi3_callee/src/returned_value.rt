@@ -10,7 +10,7 @@ ghost use Rattle.ffi3_place_spec.specs.Holds.{HoldsResult};
 ghost use Rattle.ffi3_place_spec.specs.Sound.{result_locs};
 ghost use Rattle.ffi3_place_spec.specs.MachineRegisters.{to_list};
 ghost use Rattle.ffi3_type_spec.specs.declared.limits.TheConstants.{STACK, STACK_TOP};
-ghost use Rattle.ffi3_machine.specs.State.{State, stack_at};
+ghost use Rattle.ffi3_machine_spec.specs.State.{State, stack_at};
 ghost use Rattle.ffi3_machine_transfer.specs.Passing.{passing};
 ghost use Rattle.ffi3_machine_transfer.specs.Stored.{IsWritable, KeepsPadding, WroteOnly, WroteWithin};
 ghost use Rattle.ffi3_callee.specs.Loaded.{image_from};

@@ -12,8 +12,8 @@ use Rattle.ffi3_place_spec.specs.declared.Loc.TheVariants.{G, F, S}
 use Rattle.ffi3_place_spec.specs.MachineRegisters.{link_place, link_register, to_list, pushed_bytes}
 use Rattle.ffi3_place_spec.specs.StubRegisters.{call_loads, call_scratch, exit_scratch, result_loads}
 use Rattle.ffi3_place_spec.specs.Sound.{IsNoneOf, IsOneOf}
-use Rattle.ffi3_machine.specs.State.{State, HasReturnAddress, HasReturnAt, IsMachine, IsSlot, called, linked_general, linked_stack, lowered, with_x, x_of}
-use Rattle.ffi3_machine.specs.Stubs.{Call, Return, exchanged_at}
+use Rattle.ffi3_machine_spec.specs.State.{State, HasReturnAddress, HasReturnAt, IsMachine, IsSlot, called, linked_general, linked_stack, lowered, with_x, x_of}
+use Rattle.ffi3_machine_spec.specs.Stubs.{Call, Return, exchanged_at}
 use Rattle.ffi3_stubs.specs.Calls.{CameFromExchange, HasCalled, HasReturned, IsLinked, called_stack, steps_of, target_of}
 use Rattle.ffi3_machine_transfer.specs.Passing.{by_exchange, passing_if}
 use Rattle.ffi3_machine_transfer.specs.Stored.{IsPlace, SameAt}

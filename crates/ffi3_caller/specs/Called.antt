@@ -8,9 +8,9 @@ use Rattle.ffi3_place_spec.specs.StubRegisters.{call_loads, call_scratch, exit_s
 use Rattle.ffi3_place_spec.specs.MachineRegisters.{pushed_bytes}
 use Rattle.ffi3_place_spec.specs.StubRegisters.{result_loads}
 use Rattle.ffi3_place_spec.specs.Sound.{IsNoneOf, IsOneOf, IsOnStackOrIn}
-use Rattle.ffi3_machine.specs.State.{State, HasReturnAddress, called, filled, linked_stack, lowered, scribbled, with_pc}
-use Rattle.ffi3_machine.specs.State.{with_sp, with_x}
-use Rattle.ffi3_machine.specs.Stubs.{Call, Return, stub_at}
+use Rattle.ffi3_machine_spec.specs.State.{State, HasReturnAddress, called, filled, linked_stack, lowered, scribbled, with_pc}
+use Rattle.ffi3_machine_spec.specs.State.{with_sp, with_x}
+use Rattle.ffi3_machine_spec.specs.Stubs.{Call, Return, stub_at}
 use Rattle.ffi3_stubs.specs.Calls.{after_call, after_return, steps_of}
 use Rattle.ffi3_machine_transfer.specs.Passing.{by_exchange, passing, steps_if}
 use Rattle.ffi3_machine_transfer.specs.Stored.{IsPlace, SameAt, word_in}

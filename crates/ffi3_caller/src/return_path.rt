@@ -5,7 +5,7 @@ ghost use Rattle.ffi3_type_spec.specs.declared.limits.TheConstants.{RETURN, STAC
 ghost use Rattle.ffi3_type_spec.specs.Value.{ValueTree};
 ghost use Rattle.ffi3_place_spec.specs.Holds.{OwnResult};
 ghost use Rattle.ffi3_place_spec.specs.Standard.{frame_of};
-ghost use Rattle.ffi3_machine.specs.State.{image_of};
+ghost use Rattle.ffi3_machine_spec.specs.State.{image_of};
 ghost use Rattle.ffi3_machine_transfer.specs.Passing.{by_exchange};
 ghost use Rattle.ffi3_machine_transfer.specs.Stored.{SameAt};
 ghost use Rattle.ffi3_caller.specs.Called.{HasComeBack, at_frame, come_back_if};

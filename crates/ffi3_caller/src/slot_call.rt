@@ -7,7 +7,7 @@ ghost use Rattle.ffi3_type_spec.specs.Value.{ValueTree};
 ghost use Rattle.ffi3_place_spec.specs.MachineRegisters.{pushed_bytes};
 ghost use Rattle.ffi3_place_spec.specs.Holds.{FillArguments, Holds, OwnsArguments, OwnsHidden, RegisterHolds};
 ghost use Rattle.ffi3_place_spec.specs.Standard.{frame_of, plan_of};
-ghost use Rattle.ffi3_machine.specs.State.{image_of, IsSlot};
+ghost use Rattle.ffi3_machine_spec.specs.State.{image_of, IsSlot};
 ghost use Rattle.ffi3_machine_transfer.specs.Passing.{by_exchange, passing};
 ghost use Rattle.ffi3_machine_transfer.specs.Stored.{SameAt};
 ghost use Rattle.ffi3_caller.specs.Called.{SlotIsCalled, called_if, told};

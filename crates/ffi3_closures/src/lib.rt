@@ -16,10 +16,10 @@ ghost use Rattle.ffi3_semantics_spec.specs.Closures.{
 };
 ghost use Rattle.ffi3_type_spec.specs.declared.Target.{Target};
 ghost use Rattle.ffi3_type_spec.specs.TargetIsa.{isa_of};
-ghost use Rattle.ffi3_machine.specs.State.{IsSlot, begun_code, free_slot, with_code};
+ghost use Rattle.ffi3_machine_spec.specs.State.{IsSlot, begun_code, free_slot, with_code};
 ghost use Rattle.ffi3_machine.specs.MachineStep.{TakesSteps};
 ghost use Rattle.ffi3_closures.specs.Reaching.{reached};
-ghost use Rattle.ffi3_closures.specs.Slots.{HoldsMap, live_count, live_slot, slot_head};
+ghost use Rattle.ffi3_machine_spec.specs.Slots.{HoldsMap, live_count, live_slot, slot_head};
 
 use arrayvec::ArrayVec;
 use ffi3_machine::{CODE, Machine, free_word};

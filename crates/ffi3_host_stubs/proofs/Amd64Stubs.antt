@@ -1,11 +1,11 @@
 -- The four stubs of AMD64, wherever they and the exchange region stand.
 use Rattle.std.proofs.Common.{◌≡◌, ◌≢◌, ◌⊎◌, inl, inr, ⊎_elim, ℕ, ◌+◌, ◌-◌, ◌*◌, ◌<◌, ◌≤◌, false, List, [], ◌++◌, length, refl, ap, ◌∙◌, arith, pos, negsuc}
-use Rattle.ffi3_memory.specs.Memory.{number_of, low_bytes}
+use Rattle.ffi3_machine_spec.specs.Memory.{number_of, low_bytes}
 use Rattle.ffi3_type_spec.specs.declared.Isa.TheVariants.{Amd64}
 use Rattle.ffi3_place_spec.specs.declared.Loc.{Loc}
 use Rattle.ffi3_place_spec.specs.declared.Loc.TheVariants.{G}
 use Rattle.ffi3_place_spec.specs.StubRegisters.{call_loads, stub_area, callee_saved_words, entry_stores, result_loads}
-use Rattle.ffi3_machine.specs.Stubs.{Entry, Exit, Call, Return, amd64_row, load, store, sum, jump, calls_at, returns, exchange_loads, exchange_stores, area_loads, area_stores}
+use Rattle.ffi3_machine_spec.specs.Stubs.{Entry, Exit, Call, Return, amd64_row, load, store, sum, jump, calls_at, returns, exchange_loads, exchange_stores, area_loads, area_stores}
 use Rattle.ffi3_stubs.specs.Calls.{same_loc, is_in}
 use Rattle.ffi3_stubs.proofs.Amd64Segments.{is_plain, are_moved, are_saved}
 use Rattle.ffi3_stubs.proofs.Reading.{are_apart, are_disjoint, place, misses, are_spread, in_neither}

@@ -1,7 +1,7 @@
 -- What the four stubs do, wherever they and the exchange region stand: which registers came from where, which went where, and what stays.
 use Rattle.std.specs.Prelude.{◌≡◌, ℕ, ◌+◌, ◌-◌, ◌<◌, ◌≤◌, ◌⊎◌, ⊤, false, List, [], ◌∷◌, ◌++◌, length}
 use Rattle.std.specs.List.{AllByRecursion}
-use Rattle.ffi3_memory.specs.Memory.{number_of, low_bytes}
+use Rattle.ffi3_machine_spec.specs.Memory.{number_of, low_bytes}
 use Rattle.ffi3_type_spec.specs.declared.Isa.{Isa}
 use Rattle.ffi3_type_spec.specs.declared.Isa.TheVariants.{Amd64, Aarch64, Riscv}
 use Rattle.ffi3_place_spec.specs.declared.Loc.{Loc}
@@ -10,7 +10,7 @@ use Rattle.ffi3_place_spec.specs.MachineRegisters.{general_registers, stack_poin
 use Rattle.ffi3_place_spec.specs.StubRegisters.{area_bytes}
 use Rattle.ffi3_place_spec.specs.StubRegisters.{call_loads, entry_stores, callee_saved_words, stub_area, result_loads, call_scratch, entry_scratch, exit_scratch}
 use Rattle.ffi3_machine.specs.MachineStep.{IsAligned}
-use Rattle.ffi3_machine.specs.Stubs.{StubName, Entry, Exit, Call, Return, exchanged_at}
+use Rattle.ffi3_machine_spec.specs.Stubs.{StubName, Entry, Exit, Call, Return, exchanged_at}
 use Rattle.ffi3_stubs.specs.Calls.{is_in, steps_of, target_of}
 use Rattle.ffi3_host_stubs.specs.Processor.{Processor, half, bytes_at, word_at, IsStackAligned, TakesSteps, HasCode}
 

@@ -5,9 +5,9 @@ use Rattle.ffi3_type_spec.specs.declared.Isa.TheVariants.{Amd64, Aarch64, Riscv}
 use Rattle.ffi3_place_spec.specs.declared.Loc.TheVariants.{G}
 use Rattle.ffi3_place_spec.specs.MachineRegisters.{stack_pointer}
 use Rattle.ffi3_place_spec.specs.StubRegisters.{callee_saved_words, area_bytes, result_loads}
-use Rattle.ffi3_isa.specs.Amd64.{rex, mod_rm}
-use Rattle.ffi3_machine.specs.Stubs.{Row, address, load, store, sum, jump, returns, StubName, Entry, Exit, Call, Return}
-use Rattle.ffi3_machine.specs.Stubs.{rows, row_bytes, sp_rows, area_loads, exchange_loads, return_base}
+use Rattle.ffi3_machine_spec.specs.Encoding.{rex, mod_rm}
+use Rattle.ffi3_machine_spec.specs.Stubs.{Row, address, load, store, sum, jump, returns, StubName, Entry, Exit, Call, Return}
+use Rattle.ffi3_machine_spec.specs.Stubs.{rows, row_bytes, sp_rows, area_loads, exchange_loads, return_base}
 
 pub data HostRow : Type 0 where
   -- the value of a register into another

@@ -3,7 +3,7 @@ ghost use Rattle.std.specs.Prelude.{◌≡◌, ◌+◌, ◌≤◌, true};
 ghost use Rattle.ffi3_type_spec.specs.declared.limits.TheConstants.{STACK, STACK_TOP};
 ghost use Rattle.ffi3_type_spec.specs.Value.{fits};
 ghost use Rattle.ffi3_values.specs.ValueOf.{value_of};
-ghost use Rattle.ffi3_machine.specs.State.{after_arrive};
+ghost use Rattle.ffi3_machine_spec.specs.State.{after_arrive};
 ghost use Rattle.ffi3_machine_transfer.specs.Passing.{by_exchange};
 ghost use Rattle.ffi3_callee.specs.GoneBack.{IsAtReturn, returned_by};
 ghost use Rattle.ffi3_callee.specs.Received.{IsIncoming};

@@ -5,8 +5,8 @@ ghost use Rattle.ffi3_type_spec.specs.Tree.{trees_of};
 ghost use Rattle.ffi3_type_spec.specs.Value.{all_fit, values_of};
 ghost use Rattle.ffi3_place_spec.specs.Standard.{frame_of};
 ghost use Rattle.ffi3_semantics_spec.specs.Closures.{closure_at};
-ghost use Rattle.ffi3_machine.specs.State.{IsSlot};
-ghost use Rattle.ffi3_closures.specs.Slots.{HoldsMap};
+ghost use Rattle.ffi3_machine_spec.specs.State.{IsSlot};
+ghost use Rattle.ffi3_machine_spec.specs.Slots.{HoldsMap};
 ghost use Rattle.ffi3_invoke.specs.Calls.{HasPassed};
 
 use ffi3_caller::{call, store_args};

@@ -10,8 +10,8 @@ ghost use Rattle.ffi3_type_spec.specs.Value.{all_fit, fits, value_in, values_of}
 ghost use Rattle.ffi3_values.specs.ValueOf.{value_of};
 ghost use Rattle.ffi3_place_spec.specs.Standard.{frame_of, need_of};
 ghost use Rattle.ffi3_semantics_spec.specs.Closures.{closure_at};
-ghost use Rattle.ffi3_machine.specs.State.{IsSlot};
-ghost use Rattle.ffi3_closures.specs.Slots.{HoldsMap};
+ghost use Rattle.ffi3_machine_spec.specs.State.{IsSlot};
+ghost use Rattle.ffi3_machine_spec.specs.Slots.{HoldsMap};
 ghost use Rattle.ffi3_callee.specs.Received.{IsIncoming};
 ghost use Rattle.ffi3_invoke.specs.Calls.{HasBegun, HasEnded, IsCalled};
 

@@ -4,7 +4,7 @@ ghost use Rattle.ffi3_isa.specs.declared.Instr.{Instr};
 ghost use Rattle.ffi3_isa.specs.Registers.{HasRegistersBelow};
 ghost use Rattle.ffi3_type_spec.specs.TargetIsa.{isa_of};
 ghost use Rattle.ffi3_place_spec.specs.MachineRegisters.{stack_pointer};
-ghost use Rattle.ffi3_machine.specs.State.{IsMachine, State};
+ghost use Rattle.ffi3_machine_spec.specs.State.{IsMachine, State};
 ghost use Rattle.ffi3_machine.specs.MachineStep.{
   IsInRange,
   IsInstructionAt,

@@ -7,17 +7,17 @@ use Rattle.std.proofs.lemmas.Bool.{cases_lt}
 use Rattle.std.proofs.lemmas.List.{ext_get_or, get_or-set_same, get_or-set_other, drop_at, take_at}
 use Rattle.std.proofs.lemmas.List.FromFn.{length-map-range_with_len, get_or-map-range_with_len}
 use Rattle.std.proofs.lemmas.Nat.{from_le_bytes-to_le_bytes_8}
-use Rattle.ffi3_memory.specs.Memory.{number_of, low_bytes}
+use Rattle.ffi3_machine_spec.specs.Memory.{number_of, low_bytes}
 use Rattle.ffi3_type_spec.specs.declared.limits.TheConstants.{STACK}
 use Rattle.ffi3_type_spec.proofs.Parts.{index_part}
 use Rattle.ffi3_type_spec.specs.declared.Target.{Target}
 use Rattle.ffi3_type_spec.specs.TargetIsa.{isa_of}
 use Rattle.ffi3_place_spec.specs.MachineRegisters.{is_zero_register}
 use Rattle.ffi3_place_spec.specs.StubRegisters.{has_stubs}
-use Rattle.ffi3_machine.specs.State.{State, x_of, with_x, with_general, with_floating}
+use Rattle.ffi3_machine_spec.specs.State.{State, x_of, with_x, with_general, with_floating}
 use Rattle.ffi3_place_spec.specs.declared.Loc.{Loc}
 use Rattle.ffi3_place_spec.specs.declared.Loc.TheVariants.{G, F, S}
-use Rattle.ffi3_machine.specs.Stubs.{exchanged_at}
+use Rattle.ffi3_machine_spec.specs.Stubs.{exchanged_at}
 use Rattle.ffi3_marshal.proofs.Ranges.{range_length}
 use Rattle.ffi3_machine_transfer.specs.Stored.{IsPlace, SameAt, byte_of, word_in}
 use Rattle.ffi3_machine_transfer.specs.Passing.{by_exchange, words_at, passing_if, passing, steps_if}

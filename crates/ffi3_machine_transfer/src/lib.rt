@@ -11,7 +11,7 @@ ghost use Rattle.ffi3_place_spec.specs.Standard.{frame_of, plan_of};
 ghost use Rattle.ffi3_place_spec.specs.Holds.{FillArguments, OwnsArguments};
 ghost use Rattle.ffi3_place_spec.specs.Sound.{Apart, AreApart, hidden_locs, IsPieceOf, IsWhole, PlaceHasAll, piece_locs, place_locs, place_size, stack_words_for, IsWithin};
 ghost use Rattle.ffi3_type_spec.specs.declared.limits.TheConstants.{STACK, STACK_TOP};
-ghost use Rattle.ffi3_machine.specs.State.{image_of};
+ghost use Rattle.ffi3_machine_spec.specs.State.{image_of};
 ghost use Rattle.ffi3_machine_transfer.specs.Passing.{passing};
 ghost use Rattle.ffi3_machine_transfer.specs.Stored.{IsPlace, IsPut, IsSet, IsSetAndFilled, IsStored, IsWordPut, IsWritable, KeepsUnused, PieceStands, Stays, WroteWithin};
 ghost use Rattle.ffi3_cif.specs.Runs.{AreRunsOf, pieces_of};

@@ -2,7 +2,7 @@
 ghost use Rattle.std.specs.Prelude.{◌≡◌, ◌<◌, slice_index, false};
 ghost use Rattle.ffi3_type_spec.specs.TargetIsa.{isa_of};
 ghost use Rattle.ffi3_place_spec.specs.MachineRegisters.{is_zero_register};
-ghost use Rattle.ffi3_machine.specs.State.{with_floating, with_general};
+ghost use Rattle.ffi3_machine_spec.specs.State.{with_floating, with_general};
 ghost use Rattle.ffi3_machine_transfer.specs.Passing.{by_exchange, passing};
 
 use ffi3_machine::{Machine, Target};

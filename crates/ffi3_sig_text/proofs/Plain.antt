@@ -5,7 +5,7 @@ use Rattle.std.specs.Fmt.{decimal}
 use Rattle.std.specs.List.{join_with_byte}
 use Rattle.ffi3_type_spec.specs.Tree.{Tree, void, scalar, left_out, structure, array, Trees, no_trees, tree}
 use Rattle.ffi3_type_spec.specs.Text.{text_of, texts_of}
-use Rattle.ffi3_sig_text.specs.SigText.{told_text, told_texts}
+use Rattle.ffi3_format_spec.specs.SigText.{told_text, told_texts}
 
 -- the type has nothing that is left out
 abbrev mutual

@@ -4,7 +4,7 @@
 ghost use Rattle.std.specs.Prelude.{◌≡◌, ◌++◌, ◌≤◌, ◌<◌, [], OnOk, IfOk, ℕ, Some, length, slice_index_or, slice_range};
 ghost use Rattle.ffi3_type_spec.specs.Tree.{array, trees_of};
 ghost use Rattle.ffi3_types.specs.TreeOf.{tree_of};
-ghost use Rattle.ffi3_sig_text.specs.SigText.{FixesSome, told_arguments, told_list, told_signature, told_text, told_texts};
+ghost use Rattle.ffi3_format_spec.specs.SigText.{FixesSome, told_arguments, told_list, told_signature, told_text, told_texts};
 
 use ffi3_types::{Bytes, FfiType, Fields, NoMemory, Sig};
 use std::alloc::Global;

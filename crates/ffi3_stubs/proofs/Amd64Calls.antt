@@ -1,12 +1,12 @@
 -- What the four stubs of AMD64 leave, in readable words.
 use Rattle.std.proofs.Common.{◌≡◌, ◌+◌, ◌-◌, ◌≤◌, ◌++◌, false, length, refl, ap, ◌∙◌, arith, length-set, ◌⊎◌, inl, inr, ⊎_elim, ℕ, ◌*◌, ◌<◌, min}
-use Rattle.ffi3_memory.specs.Memory.{number_of}
+use Rattle.ffi3_machine_spec.specs.Memory.{number_of}
 use Rattle.ffi3_type_spec.specs.declared.Isa.TheVariants.{Amd64}
 use Rattle.ffi3_type_spec.specs.declared.limits.TheConstants.{STACK, STACK_TOP}
 use Rattle.ffi3_place_spec.specs.declared.Loc.{Loc}
 use Rattle.ffi3_place_spec.specs.declared.Loc.TheVariants.{G}
-use Rattle.ffi3_machine.specs.declared.stub.TheConstants.{EXCHANGE}
-use Rattle.ffi3_machine.specs.State.{State, IsMachine, x_of, with_pc}
+use Rattle.ffi3_machine_spec.specs.declared.stub.TheConstants.{EXCHANGE}
+use Rattle.ffi3_machine_spec.specs.State.{State, IsMachine, x_of, with_pc}
 use Rattle.ffi3_place_spec.specs.StubRegisters.{call_loads, entry_stores, callee_saved_words, stub_area, result_loads}
 use Rattle.ffi3_stubs.specs.Effects.{held, addressed, with_sp_by, amd64_placed, amd64_called, amd64_saved, amd64_entered, amd64_restored, amd64_left, amd64_returned}
 use Rattle.ffi3_stubs.specs.Calls.{same_loc, is_in, HasCalled, HasEntered, HasLeft, HasReturned}

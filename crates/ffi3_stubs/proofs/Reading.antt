@@ -5,14 +5,14 @@ use Rattle.std.proofs.lemmas.List.{get_or-set_same, get_or-set_other, length-tak
 use Rattle.std.proofs.lemmas.Slice.{drop-append-drop}
 use Rattle.std.specs.Prelude.{◌&&◌, ◌||◌, ◌==◌, not, nat_lt, slice_index, slice_set}
 use Rattle.std.specs.List.{replace_range}
-use Rattle.ffi3_memory.specs.Memory.{number_of, low_bytes}
+use Rattle.ffi3_machine_spec.specs.Memory.{number_of, low_bytes}
 use Rattle.ffi3_type_spec.specs.declared.Isa.{Isa}
 use Rattle.ffi3_type_spec.specs.declared.limits.TheConstants.{STACK, STACK_TOP, STACK_BYTES}
 use Rattle.ffi3_place_spec.specs.declared.Loc.{Loc}
 use Rattle.ffi3_place_spec.specs.declared.Loc.TheVariants.{G, F, S}
 use Rattle.ffi3_place_spec.specs.MachineRegisters.{stack_pointer}
-use Rattle.ffi3_machine.specs.State.{State, x_of, stack_at}
-use Rattle.ffi3_machine.specs.Stubs.{load, size_of, exchanged_at}
+use Rattle.ffi3_machine_spec.specs.State.{State, x_of, stack_at}
+use Rattle.ffi3_machine_spec.specs.Stubs.{load, size_of, exchanged_at}
 use Rattle.ffi3_stubs.specs.Effects.{received, held, exchanged, saved, from_exchange, to_exchange, from_area, to_area}
 use Rattle.ffi3_stubs.specs.Calls.{same_loc, is_in, CameFromExchange, WentToExchange, CameFromArea, CameFromWords, WentToArea}
 use Rattle.ffi3_stubs.proofs.Region.{written, below}

@@ -1,6 +1,6 @@
 -- Where the stubs lead, by any instruction set.
 use Rattle.std.proofs.Common.{◌≡◌, ℕ, ◌+◌, ◌<◌, ◌≤◌, ◌^◌, refl, sym, ap, ◌∙◌, subst, arith, lit<, length-set}
-use Rattle.ffi3_memory.specs.Memory.{number_of}
+use Rattle.ffi3_machine_spec.specs.Memory.{number_of}
 use Rattle.ffi3_type_spec.specs.declared.Isa.{Isa}
 use Rattle.ffi3_type_spec.specs.declared.Isa.TheVariants.{Amd64, Aarch64, Riscv}
 use Rattle.std.specs.Prelude.{slice_index}
@@ -8,9 +8,9 @@ use Rattle.ffi3_type_spec.specs.declared.limits.TheConstants.{STACK, STACK_TOP}
 use Rattle.ffi3_place_spec.specs.declared.Loc.TheVariants.{G}
 use Rattle.ffi3_place_spec.specs.MachineRegisters.{pushed_bytes}
 use Rattle.ffi3_place_spec.specs.StubRegisters.{area_bytes, entry_stores, callee_saved_words, result_loads}
-use Rattle.ffi3_machine.specs.declared.stub.TheConstants.{EXCHANGE}
-use Rattle.ffi3_machine.specs.State.{State, IsMachine, x_of, stack_at, with_pc}
-use Rattle.ffi3_machine.specs.Stubs.{Call, Entry, Exit, Return, stub_at}
+use Rattle.ffi3_machine_spec.specs.declared.stub.TheConstants.{EXCHANGE}
+use Rattle.ffi3_machine_spec.specs.State.{State, IsMachine, x_of, stack_at, with_pc}
+use Rattle.ffi3_machine_spec.specs.Stubs.{Call, Entry, Exit, Return, stub_at}
 use Rattle.ffi3_machine.proofs.Words.{x_word, stack_word}
 use Rattle.ffi3_stubs.specs.Effects.{addressed, addressed_twice, with_sp_by, riscv_restored, riscv_given, aarch64_saved, aarch64_passed, aarch64_taken}
 use Rattle.ffi3_stubs.specs.Calls.{steps_of, after_call, after_entry, after_exit, after_return}

@@ -2,7 +2,7 @@
 use Rattle.std.specs.Prelude.{◌≡◌, ℕ, ◌+◌, ◌-◌, ◌<◌, ◌≤◌, ◌⊎◌, min, Bool, false, ◌==◌, ◌||◌, ⊤, List, [], ◌∷◌, ◌++◌}
 use Rattle.std.specs.Prelude.{length, take, drop, get_or, slice_index}
 use Rattle.std.specs.List.{AllByRecursion, replace_range}
-use Rattle.ffi3_memory.specs.Memory.{number_of, low_bytes}
+use Rattle.ffi3_machine_spec.specs.Memory.{number_of, low_bytes}
 use Rattle.ffi3_type_spec.specs.declared.Isa.{Isa}
 use Rattle.ffi3_type_spec.specs.declared.Isa.TheVariants.{Amd64, Aarch64, Riscv}
 use Rattle.ffi3_type_spec.specs.declared.limits.TheConstants.{STACK, RETURN}
@@ -11,9 +11,9 @@ use Rattle.ffi3_place_spec.specs.declared.Loc.TheVariants.{G, F}
 use Rattle.ffi3_place_spec.specs.MachineRegisters.{pushed_bytes}
 use Rattle.ffi3_place_spec.specs.StubRegisters.{call_scratch, entry_scratch, exit_scratch, call_loads}
 use Rattle.ffi3_place_spec.specs.StubRegisters.{entry_stores, callee_saved_words, stub_area, area_bytes, result_loads}
-use Rattle.ffi3_machine.specs.State.{State, x_of, stack_at, lowered}
+use Rattle.ffi3_machine_spec.specs.State.{State, x_of, stack_at, lowered}
 use Rattle.ffi3_machine.specs.MachineStep.{even}
-use Rattle.ffi3_machine.specs.Stubs.{StubName, Call, Entry, Exit, Return, exchanged_at}
+use Rattle.ffi3_machine_spec.specs.Stubs.{StubName, Call, Entry, Exit, Return, exchanged_at}
 use Rattle.ffi3_stubs.specs.Effects.{held, held_in, amd64_called, amd64_entered, amd64_left, amd64_returned}
 use Rattle.ffi3_stubs.specs.Effects.{aarch64_called, aarch64_entered, aarch64_left, aarch64_returned, riscv_called}
 use Rattle.ffi3_stubs.specs.Effects.{riscv_entered, riscv_left, riscv_returned}

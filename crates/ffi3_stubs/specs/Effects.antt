@@ -1,7 +1,7 @@
 -- What stubs do to the machine, segment by segment.
 use Rattle.std.specs.Prelude.{ℕ, ◌+◌, ◌-◌, ◌%◌, ◌^◌, min, List, [], ◌∷◌, length, slice_index, slice_set}
 use Rattle.std.specs.List.{replace_range}
-use Rattle.ffi3_memory.specs.Memory.{number_of, low_bytes}
+use Rattle.ffi3_machine_spec.specs.Memory.{number_of, low_bytes}
 use Rattle.ffi3_type_spec.specs.declared.Isa.{Isa}
 use Rattle.ffi3_type_spec.specs.declared.Isa.TheVariants.{Amd64, Aarch64, Riscv}
 use Rattle.ffi3_type_spec.specs.declared.limits.TheConstants.{STACK}
@@ -10,10 +10,10 @@ use Rattle.ffi3_place_spec.specs.declared.Loc.TheVariants.{G, F, S}
 use Rattle.ffi3_place_spec.specs.MachineRegisters.{stack_pointer}
 use Rattle.ffi3_place_spec.specs.StubRegisters.{call_loads, callee_saved_words, stub_area, entry_stores}
 use Rattle.ffi3_place_spec.specs.StubRegisters.{area_bytes, result_loads}
-use Rattle.ffi3_machine.specs.declared.stub.TheConstants.{EXCHANGE}
-use Rattle.ffi3_machine.specs.State.{State, x_of, stack_at}
+use Rattle.ffi3_machine_spec.specs.declared.stub.TheConstants.{EXCHANGE}
+use Rattle.ffi3_machine_spec.specs.State.{State, x_of, stack_at}
 use Rattle.ffi3_machine.specs.MachineStep.{even}
-use Rattle.ffi3_machine.specs.Stubs.{load, size_of, exchanged_at}
+use Rattle.ffi3_machine_spec.specs.Stubs.{load, size_of, exchanged_at}
 
 -- the count after one instruction more
 abbrev pub counted : State → ℕ

@@ -5,8 +5,8 @@ ghost use Rattle.std.specs.Prelude.{◌≡◌, ◌≤◌, ◌+◌, ◌%◌, ◌^
 ghost use Rattle.ffi3_type_spec.specs.TargetIsa.{isa_of};
 ghost use Rattle.ffi3_place_spec.specs.MachineRegisters.{pushed_bytes};
 ghost use Rattle.ffi3_place_spec.specs.StubRegisters.{area_bytes};
-ghost use Rattle.ffi3_machine.specs.State.{State, IsSlot, with_pc, x_of};
-ghost use Rattle.ffi3_machine.specs.Stubs.{Call, Entry, Exit, Return, stub_at};
+ghost use Rattle.ffi3_machine_spec.specs.State.{State, IsSlot, with_pc, x_of};
+ghost use Rattle.ffi3_machine_spec.specs.Stubs.{Call, Entry, Exit, Return, stub_at};
 ghost use Rattle.ffi3_machine.specs.MachineStep.{TakesSteps};
 ghost use Rattle.ffi3_stubs.specs.Calls.{
   HasCalled,

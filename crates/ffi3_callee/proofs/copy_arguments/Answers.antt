@@ -8,7 +8,7 @@ use Rattle.ffi3_place_spec.specs.Standard.{block_bytes, frame_of, plan_of, round
 use Rattle.ffi3_type_spec.specs.declared.limits.TheConstants.{STACK_TOP}
 use Rattle.ffi3_machine_transfer.specs.Passing.{passing}
 use Rattle.ffi3_marshal.proofs.Arguments.{lies_more}
-use Rattle.ffi3_body.specs.SeenActivation.{block_offset}
+use Rattle.ffi3_semantics_spec.specs.SeenActivation.{block_offset}
 use Rattle.ffi3_body.proofs.Blocks.{whole_within}
 use Rattle.ffi3_callee.proofs.Copying.{all_copied, found_at, found_stays, one_more_copied, ready_at}
 use Rattle.ffi3_callee.proofs.copy_arguments.Goals as goal

@@ -3,7 +3,7 @@ use Rattle.ffi3_type_spec.specs.TargetIsa.{isa_of}
 use Rattle.ffi3_type_spec.proofs.Placed.{faultless_is_plain}
 use Rattle.ffi3_place_spec.specs.Holds.{OwnsArguments}
 use Rattle.ffi3_place_spec.specs.Standard.{block_bytes, frame_of, plan_of}
-use Rattle.ffi3_machine.specs.State.{scribbled, scribbled_floating, scribbled_general}
+use Rattle.ffi3_machine_spec.specs.State.{scribbled, scribbled_floating, scribbled_general}
 use Rattle.ffi3_machine_transfer.specs.Passing.{by_exchange, passing}
 use Rattle.ffi3_callee.specs.Entered.{IsEntered, entered_if}
 use Rattle.ffi3_callee.specs.Loaded.{AreFound, image_from}

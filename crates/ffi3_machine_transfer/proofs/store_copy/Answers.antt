@@ -3,7 +3,7 @@ use Rattle.ffi3_type_spec.specs.declared.limits.TheConstants.{STACK, STACK_TOP}
 use Rattle.ffi3_machine_transfer.specs.Passing.{passing}
 use Rattle.ffi3_type_spec.specs.Layout.{size_of}
 use Rattle.ffi3_values.specs.ValueOf.{value_of}
-use Rattle.ffi3_machine.specs.State.{stack_at}
+use Rattle.ffi3_machine_spec.specs.State.{stack_at}
 use Rattle.ffi3_machine_transfer.specs.Stored.{IsPlace}
 use Rattle.ffi3_machine_transfer.specs.Standing.{IsCopied}
 use Rattle.ffi3_machine_transfer.proofs.Imaged.{copied_there, taken, within_there}

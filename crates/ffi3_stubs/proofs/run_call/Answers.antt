@@ -1,8 +1,8 @@
 use Rattle.std.proofs.Common.{◌≡◌, ℕ, ap, ◌∙◌, subst, sym, refl}
 use Rattle.ffi3_type_spec.specs.declared.Isa.{Isa}
 use Rattle.ffi3_type_spec.specs.TargetIsa.{isa_of}
-use Rattle.ffi3_machine.specs.State.{State, with_pc}
-use Rattle.ffi3_machine.specs.Stubs.{Call, stub_at}
+use Rattle.ffi3_machine_spec.specs.State.{State, with_pc}
+use Rattle.ffi3_machine_spec.specs.Stubs.{Call, stub_at}
 use Rattle.ffi3_machine.specs.MachineStep.{TakesSteps}
 use Rattle.ffi3_stubs.specs.Calls.{steps_of, after_call, HasCalled}
 use Rattle.ffi3_stubs.proofs.Standing.{in_turn}

@@ -1,6 +1,6 @@
 use Rattle.ffi3_type_spec.specs.declared.Target.TheVariants.{Amd64, Aapcs64, Riscv, Win64, Apple}
 use Rattle.ffi3_script.specs.ScriptOf.{script_of}
-use Rattle.ffi3_app.specs.Commands.{place_text}
+use Rattle.ffi3_app_spec.specs.Commands.{place_text}
 use Rattle.ffi3_app.proofs.Pieces.{placed_by}
 use Rattle.ffi3_app.proofs.place.place.Goals as goal
 

@@ -2,7 +2,7 @@ use Rattle.std.proofs.Common.{rules, ◌≡◌, ap, ◌∙◌}
 use Rattle.std.specs.Prelude.{Err, Ok}
 use Rattle.ffi3_script.specs.ScriptOf.{script_of}
 use Rattle.std.specs.List.{concat}
-use Rattle.ffi3_app.specs.Commands.{place_lines, place_text}
+use Rattle.ffi3_app_spec.specs.Commands.{place_lines, place_text}
 use Rattle.ffi3_app.proofs.Pieces.{continues_on, continues_ended, continues_done, lines_of, lines_end}
 use Rattle.ffi3_names.specs.NamesOf.{names_of}
 use Rattle.ffi3_app.proofs.Named.{wrote_unnamed}

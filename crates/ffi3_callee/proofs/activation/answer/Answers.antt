@@ -2,7 +2,7 @@ use Rattle.std.proofs.Common.{◌+◌, ◌-◌, ap, subst, sym, ◌∙◌}
 use Rattle.ffi3_values.specs.ValueOf.{value_of}
 use Rattle.ffi3_place_spec.specs.Holds.{HoldsResult}
 use Rattle.ffi3_place_spec.specs.Standard.{frame_of, plan_of}
-use Rattle.ffi3_machine.specs.State.{image_of}
+use Rattle.ffi3_machine_spec.specs.State.{image_of}
 use Rattle.ffi3_machine_transfer.specs.Passing.{passing}
 use Rattle.ffi3_callee.specs.Loaded.{image_from}
 use Rattle.ffi3_callee.specs.Received.{hidden_of}

@@ -3,7 +3,7 @@ use Rattle.ffi3_type_spec.specs.Layout.{size_of}
 use Rattle.ffi3_place_spec.specs.Sound.{PlaceHasAll}
 use Rattle.ffi3_cif.specs.Runs.{AreRunsOf, pieces_of}
 use Rattle.ffi3_type_spec.specs.declared.limits.TheConstants.{STACK, STACK_TOP}
-use Rattle.ffi3_machine.specs.State.{stack_at, stored}
+use Rattle.ffi3_machine_spec.specs.State.{stack_at, stored}
 use Rattle.ffi3_machine_transfer.specs.Passing.{passing}
 use Rattle.ffi3_machine_transfer.specs.Stored.{IsPlace}
 use Rattle.ffi3_machine_transfer.specs.Standing.{PlaceLies}

@@ -2,8 +2,8 @@ use Rattle.std.proofs.Common.{◌≡◌, ◌-◌, Bool, true, false, ap, sym, �
 use Rattle.ffi3_type_spec.specs.TargetIsa.{isa_of}
 use Rattle.ffi3_place_spec.specs.MachineRegisters.{pushed_bytes}
 use Rattle.ffi3_place_spec.specs.StubRegisters.{area_bytes}
-use Rattle.ffi3_machine.specs.State.{with_pc, with_x}
-use Rattle.ffi3_machine.specs.Stubs.{Exit, stub_at}
+use Rattle.ffi3_machine_spec.specs.State.{with_pc, with_x}
+use Rattle.ffi3_machine_spec.specs.Stubs.{Exit, stub_at}
 use Rattle.ffi3_stubs.specs.Calls.{after_exit}
 use Rattle.ffi3_machine_transfer.specs.Passing.{by_exchange}
 use Rattle.ffi3_callee.specs.GoneBack.{gone_back_if}

@@ -3,8 +3,8 @@ use Rattle.ffi3_type_spec.specs.declared.limits.TheConstants.{STACK, STACK_TOP}
 use Rattle.ffi3_type_spec.specs.TargetIsa.{isa_of}
 use Rattle.ffi3_place_spec.specs.MachineRegisters.{pushed_bytes}
 use Rattle.ffi3_place_spec.specs.StubRegisters.{area_bytes}
-use Rattle.ffi3_machine.specs.State.{State, with_pc, with_x, x_of}
-use Rattle.ffi3_machine.specs.Stubs.{Exit, stub_at}
+use Rattle.ffi3_machine_spec.specs.State.{State, with_pc, with_x, x_of}
+use Rattle.ffi3_machine_spec.specs.Stubs.{Exit, stub_at}
 use Rattle.ffi3_stubs.specs.Calls.{HasLeft, after_exit, steps_of}
 use Rattle.ffi3_machine_transfer.proofs.Passing.{told_there}
 use Rattle.ffi3_callee.proofs.return_path.leave_by_stub.Goals as goal

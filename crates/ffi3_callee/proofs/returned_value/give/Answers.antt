@@ -6,7 +6,7 @@ use Rattle.ffi3_type_spec.proofs.Placed.{faultless_is_plain}
 use Rattle.ffi3_values.specs.ValueOf.{value_of}
 use Rattle.ffi3_place_spec.specs.Standard.{plan_of}
 use Rattle.ffi3_place_spec.proofs.OnMachine.{as_before}
-use Rattle.ffi3_machine.specs.State.{stack_at}
+use Rattle.ffi3_machine_spec.specs.State.{stack_at}
 use Rattle.ffi3_type_spec.specs.declared.limits.TheConstants.{STACK_TOP}
 use Rattle.ffi3_machine_transfer.specs.Passing.{passing}
 use Rattle.ffi3_machine_transfer.specs.Standing.{PiecesStand}

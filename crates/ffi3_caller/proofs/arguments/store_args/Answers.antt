@@ -4,7 +4,7 @@ use Rattle.ffi3_type_spec.specs.declared.limits.TheConstants.{STACK, STACK_TOP}
 use Rattle.ffi3_place_spec.specs.Standard.{plan_of, frame_of}
 use Rattle.ffi3_place_spec.specs.Sound.{IsWhole, IsNoneOf, argument_locs, hidden_locs, place_locs}
 use Rattle.ffi3_place_spec.specs.MachineRegisters.{to_list}
-use Rattle.ffi3_machine.specs.State.{scribbled}
+use Rattle.ffi3_machine_spec.specs.State.{scribbled}
 use Rattle.ffi3_machine_transfer.specs.Passing.{passing}
 use Rattle.ffi3_machine_transfer.specs.Stored.{stack_byte, IsPlace, IsWritable, SameAt, WroteWithin}
 use Rattle.ffi3_machine_transfer.specs.Standing.{AllKeepUnused}

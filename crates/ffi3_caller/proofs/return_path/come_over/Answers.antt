@@ -1,6 +1,6 @@
 use Rattle.std.proofs.Common.{◌≡◌, ◌+◌, Bool, true, false, ap, sym, ◌∙◌, arith}
 use Rattle.ffi3_type_spec.specs.TargetIsa.{isa_of}
-use Rattle.ffi3_machine.specs.State.{State, with_x}
+use Rattle.ffi3_machine_spec.specs.State.{State, with_x}
 use Rattle.ffi3_stubs.specs.Calls.{after_return}
 use Rattle.ffi3_machine_transfer.specs.Passing.{by_exchange}
 use Rattle.ffi3_caller.specs.Called.{come_back_if}

@@ -1,7 +1,7 @@
 use Rattle.std.proofs.Common.{◌≡◌, ◌+◌, length, ap, sym, ◌∙◌, subst, arith}
 use Rattle.ffi3_type_spec.specs.TargetIsa.{isa_of}
 use Rattle.ffi3_place_spec.specs.Standard.{frame_of}
-use Rattle.ffi3_machine.specs.State.{after_enter, scribbled_floating, scribbled_general}
+use Rattle.ffi3_machine_spec.specs.State.{after_enter, scribbled_floating, scribbled_general}
 use Rattle.ffi3_callee.specs.Given.{ReservedStay}
 use Rattle.ffi3_callee.specs.Received.{IsReceived, OwnsAtEntry}
 use Rattle.ffi3_invoke.specs.Calls.{entry_at}

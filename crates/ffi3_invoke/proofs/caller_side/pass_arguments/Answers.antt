@@ -1,7 +1,7 @@
 use Rattle.std.proofs.Common.{sym, ◌∙◌, subst, arith}
 use Rattle.std.specs.Prelude.{IsSome}
 use Rattle.ffi3_semantics_spec.specs.Closures.{closure_at}
-use Rattle.ffi3_closures.specs.Slots.{HoldsMap}
+use Rattle.ffi3_machine_spec.specs.Slots.{HoldsMap}
 use Rattle.ffi3_invoke.specs.Calls.{AreStored}
 use Rattle.ffi3_invoke.proofs.Passed.{passed}
 use Rattle.ffi3_invoke.proofs.caller_side.pass_arguments.Goals as goal

@@ -3,7 +3,7 @@ use Rattle.ffi3_type_spec.specs.declared.limits.TheConstants.{STACK}
 use Rattle.ffi3_type_spec.specs.Layout.{size_of}
 use Rattle.ffi3_type_spec.specs.Value.{IsWritten}
 use Rattle.ffi3_values.specs.ValueOf.{value_of}
-use Rattle.ffi3_machine.specs.State.{stored}
+use Rattle.ffi3_machine_spec.specs.State.{stored}
 use Rattle.ffi3_machine_transfer.specs.Passing.{passing}
 use Rattle.ffi3_machine_transfer.specs.Runs.{IsRunStored}
 use Rattle.ffi3_machine_transfer.proofs.RunStoring.{run_stored}

@@ -16,17 +16,17 @@ use Rattle.ffi3_cdecl_spec.specs.Prototype.{Prototype, read_as, sign_unsaid, IsP
 use Rattle.ffi3_cdecl_spec.specs.Reading as declaration
 use Rattle.ffi3_cdecl_spec.specs.Telling.{tell}
 use Rattle.ffi3_cdecl_spec.specs.Tokens.{signed}
-use Rattle.ffi3_cdecl.specs.ReadingFor.{IsReadingEverywhere}
+use Rattle.ffi3_cdecl_spec.specs.ReadingFor.{IsReadingEverywhere}
 use Rattle.ffi3_format_spec.specs.Format.{format_of, resolved_signature}
-use Rattle.ffi3_sig_text.specs.SigText.{told_signature}
+use Rattle.ffi3_format_spec.specs.SigText.{told_signature}
 use Rattle.ffi3_diagnostics_spec.specs.Positions.{words_at, placed_words}
 use Rattle.ffi3_diagnostics_spec.specs.ToldText.{told_words, lines_at}
 use Rattle.ffi3_place_spec.specs.Standard.{Standard, plan_of}
-use Rattle.ffi3_text.specs.PlaceLines.{argument_place, argument_text, place_text_of, sig_text_of}
+use Rattle.ffi3_text_spec.specs.PlaceLines.{argument_place, argument_text, place_text_of, sig_text_of}
 use Rattle.ffi3_type_spec.specs.TargetIsa.{isa_of}
-use Rattle.ffi3_cli.specs.Words.{target_word}
+use Rattle.ffi3_cli_spec.specs.Words.{target_word}
 use Rattle.ffi3_explain_spec.specs.Standards.{standard_of}
-use Rattle.ffi3_app.specs.Commands.{arguments_from}
+use Rattle.ffi3_app_spec.specs.Commands.{arguments_from}
 
 -- ---- what is read
 

@@ -9,8 +9,8 @@ use Rattle.ffi3_type_spec.specs.declared.Isa.TheVariants.{Amd64, Aarch64, Riscv}
 use Rattle.ffi3_type_spec.specs.TargetIsa.{isa_of}
 use Rattle.ffi3_type_spec.specs.declared.limits.TheConstants.{STACK, STACK_TOP, STACK_BYTES, CODE, CODE_BYTES, RETURN}
 use Rattle.ffi3_type_spec.specs.declared.limits.TheConstants.{SLOTS, SLOT_BYTES}
-use Rattle.ffi3_machine.specs.declared.stub.TheConstants.{EXCHANGE_BYTES}
-use Rattle.ffi3_memory.specs.Memory.{number_of, low_bytes}
+use Rattle.ffi3_machine_spec.specs.declared.stub.TheConstants.{EXCHANGE_BYTES}
+use Rattle.ffi3_machine_spec.specs.Memory.{number_of, low_bytes}
 use Rattle.ffi3_place_spec.specs.declared.Loc.TheVariants.{G, F}
 use Rattle.ffi3_place_spec.specs.Image.{Image}
 use Rattle.ffi3_place_spec.specs.Event.{EventKind, enters, leaves, Event}

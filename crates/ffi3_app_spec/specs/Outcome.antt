@@ -13,16 +13,16 @@ use Rattle.ffi3_script_spec.specs.Made.{made}
 use Rattle.ffi3_script_spec.specs.Reading.{Reading, too_long, not_json, bad_script, script, IsReading}
 use Rattle.ffi3_script_spec.specs.Natives.{NamedNative, names_of, program_beside}
 use Rattle.ffi3_riscv_spec.specs.Riscv.{riscv}
-use Rattle.ffi3_bench.specs.BenchText.{HasWholeJournal, bench_text}
-use Rattle.ffi3_machine.specs.State.{State}
-use Rattle.ffi3_runner.specs.RunMatches.{RunMatches, WrotePart}
-use Rattle.ffi3_runner.specs.RunInterrupted.{RunWasInterrupted}
-use Rattle.ffi3_io.specs.Sink.{Adds, SinkState}
-use Rattle.ffi3_io.specs.Written.{TookText}
-use Rattle.ffi3_cli.specs.declared.words.InputCommand.{InputCommand}
-use Rattle.ffi3_cli.specs.declared.words.InputCommand.TheVariants.{Layout, Place, Run, Cdecl, Cplace, Explain, Arguments}
-use Rattle.ffi3_cli.specs.declared.words.Request.{Request}
-use Rattle.ffi3_cli.specs.declared.words.Request.TheVariants.{OnInput, Bench}
+use Rattle.ffi3_app_spec.specs.BenchText.{HasWholeJournal, bench_text}
+use Rattle.ffi3_machine_spec.specs.State.{State}
+use Rattle.ffi3_run_spec.specs.RunMatches.{RunMatches, WrotePart}
+use Rattle.ffi3_run_spec.specs.RunInterrupted.{RunWasInterrupted}
+use Rattle.ffi3_io_spec.specs.Sink.{Adds, SinkState}
+use Rattle.ffi3_io_spec.specs.Written.{TookText}
+use Rattle.ffi3_cli_spec.specs.declared.words.InputCommand.{InputCommand}
+use Rattle.ffi3_cli_spec.specs.declared.words.InputCommand.TheVariants.{Layout, Place, Run, Cdecl, Cplace, Explain, Arguments}
+use Rattle.ffi3_cli_spec.specs.declared.words.Request.{Request}
+use Rattle.ffi3_cli_spec.specs.declared.words.Request.TheVariants.{OnInput, Bench}
 use Rattle.ffi3_cdecl_spec.specs.Grammar.{Declaration}
 use Rattle.ffi3_cdecl_spec.specs.Prototype.{read_as, sign_unsaid}
 use Rattle.ffi3_cdecl_spec.specs.Reading as declaration
@@ -33,10 +33,10 @@ use Rattle.ffi3_image_spec.specs.declared.Question.TheVariants.{Explained, BySta
 use Rattle.ffi3_image_spec.specs.Answer as image
 use Rattle.ffi3_image_spec.specs.Answer.{Answer, IsAnswer}
 use Rattle.ffi3_explain_spec.specs.Standards.{standard_of}
-use Rattle.ffi3_app.specs.Commands.{layout_text, place_text}
-use Rattle.ffi3_app.specs.Declarations.{Input, too_many_bytes, not_utf8, a_text, IsReadAs, IsReadWidely, offset_line}
-use Rattle.ffi3_app.specs.Declarations.{reason_line, marked_line, unexpected_line, fault_line, sign_line}
-use Rattle.ffi3_app.specs.Declarations.{cdecl_text, cplace_text}
+use Rattle.ffi3_app_spec.specs.Commands.{layout_text, place_text}
+use Rattle.ffi3_app_spec.specs.Declarations.{Input, too_many_bytes, not_utf8, a_text, IsReadAs, IsReadWidely, offset_line}
+use Rattle.ffi3_app_spec.specs.Declarations.{reason_line, marked_line, unexpected_line, fault_line, sign_line}
+use Rattle.ffi3_app_spec.specs.Declarations.{cdecl_text, cplace_text}
 
 -- WHAT A COMMAND COMES TO: its input is refused with a line; or a text is told; or a program is run by a standard, traced or not, and told; or the bench of a seed and a number of calls is run and told
 pub data Outcome : Type 0 where

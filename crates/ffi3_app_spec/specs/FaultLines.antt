@@ -1,7 +1,7 @@
 -- The lines of faults that a status tells, and what a sink shows where one of them was handed in.
 use Rattle.std.specs.Prelude.{ℕ, List, codes}
-use Rattle.ffi3_io.specs.Sink.{AddsSome, Rose, SinkState}
-use Rattle.ffi3_io.specs.Written.{TookText}
+use Rattle.ffi3_io_spec.specs.Sink.{AddsSome, Rose, SinkState}
+use Rattle.ffi3_io_spec.specs.Written.{TookText}
 use Rattle.ffi3_semantics_spec.specs.Lines.{a_line}
 
 abbrev pub read_fault_line : List ℕ

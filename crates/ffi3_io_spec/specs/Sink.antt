@@ -1,6 +1,6 @@
 -- What a write takes, where the sink tells it. Bytes taken are `None` where the sink does not tell them.
 use Rattle.std.specs.Prelude.{◌≡◌, ℕ, ◌<◌, List, ◌++◌, take, length, Option, Some}
-pub use Rattle.ffi3_io.specs.Count.{Rose}
+pub use Rattle.ffi3_io_spec.specs.Count.{Rose}
 
 -- A SINK: the bytes that it took, where it tells them, and its count of faults
 pub record SinkState : Type 0 where

@@ -10,11 +10,11 @@ use Rattle.ffi3_place_spec.specs.declared.Loc.TheVariants.{G, F, S}
 use Rattle.ffi3_place_spec.specs.MachineRegisters.{stack_pointer}
 use Rattle.ffi3_place_spec.specs.StubRegisters.{call_loads, entry_stores, callee_saved_words, stub_area, area_bytes}
 use Rattle.ffi3_place_spec.specs.StubRegisters.{result_loads}
-use Rattle.ffi3_isa.specs.Amd64.{rex, mod_rm}
-use Rattle.ffi3_machine.specs.declared.stub.TheConstants.{STUBS, EXCHANGE}
-use Rattle.ffi3_machine.specs.declared.stub.Stub.{Stub}
-use Rattle.ffi3_machine.specs.declared.stub.Stub.TheVariants as stub
-use Rattle.ffi3_machine.specs.State.{free_word}
+use Rattle.ffi3_machine_spec.specs.Encoding.{rex, mod_rm}
+use Rattle.ffi3_machine_spec.specs.declared.stub.TheConstants.{STUBS, EXCHANGE}
+use Rattle.ffi3_machine_spec.specs.declared.stub.Stub.{Stub}
+use Rattle.ffi3_machine_spec.specs.declared.stub.Stub.TheVariants as stub
+use Rattle.ffi3_machine_spec.specs.State.{free_word}
 
 -- ---- rows
 

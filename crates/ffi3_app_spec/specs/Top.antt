@@ -1,16 +1,16 @@
 -- What each status of the top call says, with its cause.
 use Rattle.std.specs.Prelude.{◌≡◌, ℕ, true, false, ◌+◌, List, [], drop, Some}
-use Rattle.ffi3_io.specs.Sink.{Rose, SinkState}
-use Rattle.ffi3_io.specs.Source.{LosesSome, SourceState}
-use Rattle.ffi3_status.specs.FaultLines.{read_fault_line, write_fault_line, no_memory_line, ReportsFault}
+use Rattle.ffi3_io_spec.specs.Sink.{Rose, SinkState}
+use Rattle.ffi3_io_spec.specs.Source.{LosesSome, SourceState}
+use Rattle.ffi3_app_spec.specs.FaultLines.{read_fault_line, write_fault_line, no_memory_line, ReportsFault}
 use Rattle.ffi3_script_spec.specs.Reading.{max_length}
 use Rattle.ffi3_script_spec.specs.Natives.{NamedNative}
-use Rattle.ffi3_machine.specs.State.{State}
-use Rattle.ffi3_cli.specs.declared.words.InputCommand.{InputCommand}
-use Rattle.ffi3_cli.specs.declared.words.Request.{Request}
-use Rattle.ffi3_cli.specs.declared.words.Request.TheVariants.{OnInput, Bench}
-use Rattle.ffi3_cli.specs.Words.{Takes, IsRefused}
-use Rattle.ffi3_app.specs.Outcome.{Outcome, refuses, tells, runs, benches, IsOutcome, reads_input, IsDone, IsDoneInPart}
+use Rattle.ffi3_machine_spec.specs.State.{State}
+use Rattle.ffi3_cli_spec.specs.declared.words.InputCommand.{InputCommand}
+use Rattle.ffi3_cli_spec.specs.declared.words.Request.{Request}
+use Rattle.ffi3_cli_spec.specs.declared.words.Request.TheVariants.{OnInput, Bench}
+use Rattle.ffi3_cli_spec.specs.Words.{Takes, IsRefused}
+use Rattle.ffi3_app_spec.specs.Outcome.{Outcome, refuses, tells, runs, benches, IsOutcome, reads_input, IsDone, IsDoneInPart}
 
 -- ---- what the world around shows, before the call and after it
 

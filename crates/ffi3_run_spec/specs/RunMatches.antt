@@ -2,8 +2,8 @@
 use Rattle.std.specs.Prelude.{◌≡◌, ℕ, ◌+◌, ◌*◌, ◌%◌, ◌^◌, ◌≤◌, take}
 use Rattle.std.specs.List.{AllByRecursion}
 use Rattle.ffi3_type_spec.specs.Value.{ValueTree}
-use Rattle.ffi3_io.specs.Sink.{Adds, SinkState}
-use Rattle.ffi3_io.specs.Written.{TookText}
+use Rattle.ffi3_io_spec.specs.Sink.{Adds, SinkState}
+use Rattle.ffi3_io_spec.specs.Written.{TookText}
 use Rattle.ffi3_place_spec.specs.Image.{register}
 use Rattle.ffi3_place_spec.specs.Standard.{Standard}
 use Rattle.ffi3_semantics_spec.specs.Meaning.{Program, returned, meaning_of}
@@ -11,9 +11,9 @@ use Rattle.ffi3_semantics_spec.specs.Trace.{trace_of}
 use Rattle.ffi3_semantics_spec.specs.Lines.{Tracing, text_of_run}
 use Rattle.ffi3_semantics_spec.specs.Journal.{JournalOf, IsWhole, stack_top}
 use Rattle.ffi3_small_step_spec.specs.Depth.{deepest}
-use Rattle.ffi3_machine.specs.State.{State, image_of}
-use Rattle.ffi3_closures.specs.Slots.{HoldsMap}
-use Rattle.ffi3_run_state.specs.CallSteps.{call_steps, steps_in, returns_in}
+use Rattle.ffi3_machine_spec.specs.State.{State, image_of}
+use Rattle.ffi3_machine_spec.specs.Slots.{HoldsMap}
+use Rattle.ffi3_run_spec.specs.CallSteps.{call_steps, steps_in, returns_in}
 
 -- THE RUN IS TOLD WHOLE: the output took exactly the text of the direct meaning, the journal is that meaning's call tree, the code region holds the bytes of the closures that are live, no byte was written beyond the stack that the tree's calls take, the instructions of these calls and no others are counted, and the reserved registers hold 0, as at first.
 pub record RunMatches (tracing : Tracing) (std : Standard) (p : Program) (before after : SinkState) (machine : State)

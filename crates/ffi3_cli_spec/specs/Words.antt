@@ -4,11 +4,11 @@ use Rattle.clap.specs.Words.{Text, fault_of, subcommand_of}
 use Rattle.ffi3_type_spec.specs.declared.limits.TheConstants.{MOST_CALLS}
 use Rattle.ffi3_type_spec.specs.declared.Target.{Target}
 use Rattle.ffi3_type_spec.specs.declared.Target.TheVariants.{Amd64, Aapcs64, Riscv, Win64, Apple}
-use Rattle.ffi3_cli.specs.declared.words.InputCommand.{InputCommand}
-use Rattle.ffi3_cli.specs.declared.words.InputCommand.TheVariants.{Layout, Place, Run, Cdecl, Cplace, Explain, Arguments}
-use Rattle.ffi3_cli.specs.declared.words.Request.{Request}
-use Rattle.ffi3_cli.specs.declared.words.Request.TheVariants.{OnInput, Bench}
-use Rattle.ffi3_cli.specs.WordCommands.{Addresses, LacksNumbers, program, asked}
+use Rattle.ffi3_cli_spec.specs.declared.words.InputCommand.{InputCommand}
+use Rattle.ffi3_cli_spec.specs.declared.words.InputCommand.TheVariants.{Layout, Place, Run, Cdecl, Cplace, Explain, Arguments}
+use Rattle.ffi3_cli_spec.specs.declared.words.Request.{Request}
+use Rattle.ffi3_cli_spec.specs.declared.words.Request.TheVariants.{OnInput, Bench}
+use Rattle.ffi3_cli_spec.specs.WordCommands.{Addresses, LacksNumbers, program, asked}
 
 abbrev pub target_word : Target → Text
 target_word Amd64 = codes "amd64"

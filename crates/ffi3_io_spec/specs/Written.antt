@@ -1,8 +1,8 @@
 -- What came of a text that was handed to a sink, in one piece or in several.
 use Rattle.std.specs.Prelude.{◌≡◌, ℕ, ◌≤◌, List, take, length, Result, Ok, Err}
-use Rattle.ffi3_io.specs.Sink.{Adds, AddsSome, Rose, SinkState}
-use Rattle.ffi3_io.specs.declared.IoError.{IoError}
-use Rattle.ffi3_io.specs.declared.IoError.TheVariants.{NoMemory, Failed}
+use Rattle.ffi3_io_spec.specs.Sink.{Adds, AddsSome, Rose, SinkState}
+use Rattle.ffi3_io_spec.specs.declared.IoError.{IoError}
+use Rattle.ffi3_io_spec.specs.declared.IoError.TheVariants.{NoMemory, Failed}
 
 -- the text was taken whole, and no fault counted
 pub record TookText (text : List ℕ) (before after : SinkState) : Type 0 where

@@ -11,7 +11,7 @@ use Rattle.ffi3_semantics_spec.specs.Meaning.{Program, meaning_of, most_moves}
 use Rattle.ffi3_semantics_spec.specs.Trace.{trace_of}
 use Rattle.ffi3_script_spec.specs.Meaning.{program_of}
 use Rattle.ffi3_script_spec.specs.Made.{made}
-use Rattle.ffi3_machine.specs.State.{State}
+use Rattle.ffi3_machine_spec.specs.State.{State}
 
 abbrev pub greatest : List ℕ → ℕ
 greatest [] = 0

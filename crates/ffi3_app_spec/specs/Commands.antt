@@ -5,8 +5,8 @@ use Rattle.ffi3_type_spec.specs.Tree.{Tree}
 use Rattle.ffi3_type_spec.specs.Signature.{Signature, Position, at_result, at_argument}
 use Rattle.ffi3_place_spec.specs.Standard.{Standard}
 use Rattle.ffi3_script_spec.specs.Script.{Script}
-use Rattle.ffi3_text.specs.LayoutLines.{layout_text_of}
-use Rattle.ffi3_text.specs.PlaceLines.{sig_text_of, place_text_of}
+use Rattle.ffi3_text_spec.specs.LayoutLines.{layout_text_of}
+use Rattle.ffi3_text_spec.specs.PlaceLines.{sig_text_of, place_text_of}
 
 -- the arguments of a list of types, from number j on
 abbrev pub arguments_from : ℕ → List Tree → List Position

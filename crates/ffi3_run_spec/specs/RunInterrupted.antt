@@ -1,6 +1,6 @@
 -- What a run of main tells and leaves that was interrupted: within an item's lines by a write that failed, or elsewhere by want of memory.
 use Rattle.std.specs.Prelude.{◌≡◌, ℕ, ◌+◌, ◌%◌, ◌^◌, ◌≤◌, Bool, List, ◌++◌, length, take}
-use Rattle.ffi3_io.specs.Sink.{Adds, SinkState}
+use Rattle.ffi3_io_spec.specs.Sink.{Adds, SinkState}
 use Rattle.ffi3_place_spec.specs.Standard.{Standard}
 use Rattle.ffi3_semantics_spec.specs.Closures.{Closures}
 use Rattle.ffi3_semantics_spec.specs.Journal.{JournalOf, IsWhole, stack_top}
@@ -12,9 +12,9 @@ use Rattle.ffi3_small_step_spec.specs.Depth.{deepest}
 use Rattle.ffi3_small_step_spec.specs.Left.{IsLeft, in_a_move}
 use Rattle.ffi3_small_step_spec.specs.Path.{main_start}
 use Rattle.ffi3_small_step_spec.specs.Remainder.{as_main}
-use Rattle.ffi3_machine.specs.State.{State}
-use Rattle.ffi3_closures.specs.Slots.{HoldsMap}
-use Rattle.ffi3_run_state.specs.CallSteps.{steps_in}
+use Rattle.ffi3_machine_spec.specs.State.{State}
+use Rattle.ffi3_machine_spec.specs.Slots.{HoldsMap}
+use Rattle.ffi3_run_spec.specs.CallSteps.{steps_in}
 
 -- THE RUN IS TOLD IN PART. A first part of its trace is done. The output took the text of that, and of the next item's lines a proper part where it was interrupted in them, and nothing elsewhere. An event is recorded before its lines; the journal answers wholly to what is done and to the item whose event came last, if that is the next. No byte was written beyond the stack that those calls take, and their instructions are counted and no others. These closures, whose code is there, and these moves are left where the direct meaning has come to with what is done; the rest of it is left to do.
 pub record RunWasInterrupted (tracing : Tracing) (std : Standard) (p : Program) (in_line : Bool)

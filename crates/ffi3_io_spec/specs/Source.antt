@@ -1,6 +1,6 @@
 -- What reads give, and where they end. Bytes left are `None` where the source does not tell them.
 use Rattle.std.specs.Prelude.{◌≡◌, ℕ, ◌+◌, ◌<◌, ◌≤◌, ◌↔◌, List, [], ◌++◌, take, drop, length, Option, Some, None}
-pub use Rattle.ffi3_io.specs.Count.{Rose}
+pub use Rattle.ffi3_io_spec.specs.Count.{Rose}
 
 -- A SOURCE: the bytes that it has left, where it tells them, and its count of faults
 pub record SourceState : Type 0 where

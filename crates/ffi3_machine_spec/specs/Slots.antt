@@ -7,7 +7,7 @@ use Rattle.ffi3_type_spec.specs.declared.Isa.{Isa}
 use Rattle.ffi3_type_spec.specs.declared.Isa.TheVariants.{Amd64, Aarch64, Riscv}
 use Rattle.ffi3_type_spec.specs.TargetIsa.{isa_of}
 use Rattle.ffi3_type_spec.specs.declared.limits.TheConstants.{ENTRY}
-use Rattle.ffi3_machine.specs.State.{free_slot}
+use Rattle.ffi3_machine_spec.specs.State.{free_slot}
 use Rattle.ffi3_semantics_spec.specs.declared.Closure.{Closure}
 use Rattle.ffi3_semantics_spec.specs.Closures.{Closures, slots, slot_bytes}
 

@@ -15,8 +15,8 @@ use Rattle.ffi3_place_spec.specs.declared.Place.TheVariants.{Direct, ByRef}
 use Rattle.ffi3_place_spec.specs.declared.Res.{Res}
 use Rattle.ffi3_place_spec.specs.declared.Res.TheVariants.{Nothing, Direct as DirectRes, Hidden}
 use Rattle.ffi3_place_spec.specs.Standard.{Standard, plan_of}
-use Rattle.ffi3_text.specs.Registers.{loc_name}
-use Rattle.ffi3_text.specs.declared.place.Part.{Part}
+use Rattle.ffi3_text_spec.specs.Registers.{loc_name}
+use Rattle.ffi3_text_spec.specs.declared.Part.{Part}
 
 abbrev pub is_on_stack : Loc → Bool
 is_on_stack (S n w) = true
