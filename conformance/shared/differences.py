@@ -9,9 +9,8 @@ import re
 from dataclasses import dataclass, replace
 from typing import Callable
 
-from cases import is_narrow
 from places import UPPER, Piece, Place, Stand
-from signature import FLOATING, SIZES, WIDE
+from signature import FLOATING, SIZES, WIDE, is_narrow
 
 
 @dataclass(frozen=True)

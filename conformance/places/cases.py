@@ -7,7 +7,7 @@ callee's. What a place holds beside a value's own bytes is docs/RULES.md, sectio
 from random import Random
 
 from places import X87
-from signature import FLOATING, INTEGERS, SIZES, VALUE_BYTES, leaves_of
+from signature import FLOATING, SIZES, VALUE_BYTES, is_narrow, leaves_of
 
 RETURN_ADDRESS_OF_HIDDEN = {"amd64": "g0", "aapcs64": None, "riscv": None, "win64": "g0", "apple": None}
 # To how many bytes a target's standard, not ffi3's own profile, says that a narrow integer is extended: compiled code
@@ -29,10 +29,6 @@ def values_for(signature, number, seed):
     def bytes_of(kind):
         return [random.randbytes(VALUE_BYTES[leaf]) for leaf, _ in leaves_of(kind)]
     return [bytes_of(kind) for kind in signature.arguments], bytes_of(signature.result)
-
-
-def is_narrow(kind):
-    return kind in INTEGERS and SIZES[kind] < 8
 
 
 def extended(target, kind, value):

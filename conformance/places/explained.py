@@ -14,7 +14,7 @@ from random import Random
 import batch
 import cases
 import places
-from signature import SIZES, value_text
+from signature import SIZES, is_narrow, value_text
 
 
 
@@ -56,7 +56,7 @@ def wanted(target, kind, layout, leaves, piece, holds):
     for at, byte in cases.leaf_bytes(kind, layout, leaves):
         if piece.offset <= at < piece.offset + piece.length:
             found[at - piece.offset] = byte
-    if cases.is_narrow(kind):
+    if is_narrow(kind):
         return cases.extended(target, kind, leaves[0])[:len(holds)]
     if target == "riscv" and piece.place.kind == "f" and piece.length == 4:
         found[4:] = b"\xff" * 4
@@ -135,7 +135,7 @@ def read_bytes(image, signature, plan, layouts):
             seen |= {*own}
             found[what] += [each for at in own for each in bytes_at(image, piece.place, at - piece.offset, 1)]
             is_boxed = image.target == "riscv" and piece.place.kind == "f" and piece.length == 4
-            if (cases.is_narrow(kind) and not cases.is_packed(image.target, signature, i, piece)) or is_boxed:
+            if (is_narrow(kind) and not cases.is_packed(image.target, signature, i, piece)) or is_boxed:
                 found[EXTENSION] += bytes_at(image, piece.place, piece.length, 8 - piece.length)
     if plan.result.reference:
         found[HIDDEN] += bytes_at(image, plan.result.reference, 0, 8)

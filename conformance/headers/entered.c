@@ -2,7 +2,7 @@
    behind its dots; and one of zlib's where that is asked for. It is stripped before it is looked at. */
 #include <stdarg.h>
 #include <stdio.h>
-#include "headers/entered.h"
+#include "by_hand/entered.h"
 #ifdef WITH_ZLIB
 #include <string.h>
 #include <zlib.h>

@@ -22,6 +22,10 @@ OF_C_ALONE = ("longdouble", *COMPLEX)
 VALUE_BYTES = SIZES | {"x87": 10, "binary128": 16}
 
 
+def is_narrow(kind):
+    return kind in INTEGERS and SIZES[kind] < 8
+
+
 @dataclass(frozen=True)
 class Array:
     """So many elements of one type."""

@@ -7,7 +7,7 @@
 #include <string.h>
 
 #include "player.h"
-#include "wide.h"
+#include "../shared/wide.h"
 
 #define MOST_LEAVES 4096
 #define MOST_ARGUMENTS 64

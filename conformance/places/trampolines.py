@@ -9,7 +9,7 @@ import pathlib
 import random
 import re
 
-FORMATS = pathlib.Path(__file__).resolve().parent.parent / "docs" / "FORMATS.md"
+FORMATS = pathlib.Path(__file__).resolve().parent.parent.parent / "docs" / "FORMATS.md"
 CODE, CODE_SIZE, SLOT, SLOTS = 0x10000, 0x4000, 64, 256
 ENTRY, PAGE = 0x1000, 0x1000
 STEPS = 3

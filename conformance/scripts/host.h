@@ -6,7 +6,7 @@
 #include <stdlib.h>
 #include <string.h>
 
-#include "wide.h"
+#include "../shared/wide.h"
 
 typedef unsigned long address;
 

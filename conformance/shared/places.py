@@ -4,9 +4,11 @@ import json
 import re
 import subprocess
 from dataclasses import dataclass, field
+from pathlib import Path
 
 from signature import script_of
 
+PROGRAM = Path(__file__).resolve().parent.parent.parent / "crates/ffi3/out/ffi3"
 LONGEST_SCRIPT = 1 << 20
 
 GENERAL = {

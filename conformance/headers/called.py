@@ -217,8 +217,8 @@ def made(compiler: headers.Compiler, folder: Path) -> subprocess.CompletedProces
     """Makes the program `tried` of tried.c, with the trap, which is compiled for Linux on every target."""
     target = compiler.target
     # (the linker for RISC-V takes minutes to relax the calls of thousands of functions)
-    own = ["-w", "-fno-builtin", *["-mno-relax"] * (target == "riscv"), f"-I{HERE / 'headers'}"]
-    trap = [f"-DRETURN_ADDRESS={ENTRY[target][0]}", f"-DHIDDEN_BACK={ENTRY[target][1]}", HERE / "headers/trap.c"]
+    own = ["-w", "-fno-builtin", *["-mno-relax"] * (target == "riscv"), f"-I{HERE / 'by_hand'}"]
+    trap = [f"-DRETURN_ADDRESS={ENTRY[target][0]}", f"-DHIDDEN_BACK={ENTRY[target][1]}", HERE / "by_hand/trap.c"]
     linked = ["-static", "-no-pie", "-o", folder / "tried", *trap]
     if target != "apple":
         return headers.run(*compiler.words, *own, *linked, folder / "tried.c")

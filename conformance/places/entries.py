@@ -17,7 +17,7 @@ import differences
 import places
 from frames import GENERAL, Image, dumped, returned, words_of
 from places import LINK, LONGEST_SCRIPT
-from signature import SIZES, json_value, object_of
+from signature import SIZES, is_narrow, json_value, object_of
 
 CALLS = 40  # of one script
 # docs/RULES.md, section 11: what a callee keeps, general and floating registers; and what neither side writes.
@@ -216,7 +216,7 @@ def fill_above(image, place, size, byte):
 
 def narrow(signature, plan):
     return [(stand.pieces[0].place, SIZES[kind]) for kind, stand in zip(signature.arguments, plan.arguments)
-            if cases.is_narrow(kind)]
+            if is_narrow(kind)]
 
 
 def no_vectors_counted(image, signature, plan):
@@ -309,13 +309,13 @@ def result_in_the_other_register(image, signature, plan):
 
 def result_extended_by_zeros(image, signature, plan):
     """A narrow result is zero-extended."""
-    if cases.is_narrow(signature.result):
+    if is_narrow(signature.result):
         fill_above(image, plan.result.pieces[0].place, SIZES[signature.result], b"\0")
 
 
 def result_not_extended(image, signature, plan):
     """A narrow result is not extended."""
-    if cases.is_narrow(signature.result):
+    if is_narrow(signature.result):
         fill_above(image, plan.result.pieces[0].place, SIZES[signature.result], b"\x5a")
 
 

@@ -5,7 +5,7 @@ The bytes are those that a test, crates/ffi3_call_tests/src/stub_bytes.rt, finds
 come of them is docs/RULES.md, section 12: `ROWS` is its table, `STEPS` has its counts, and the functions before them
 say what a row does to registers and memory. Nothing here looks into the bytes.
 
-Alone it does for all targets what `run` does of stubs: conformance/stubs.py [SEED]
+Alone it does for all targets what `run` does of stubs: conformance/places/stubs.py [SEED]
 """
 
 import random
@@ -16,7 +16,7 @@ from pathlib import Path
 sys.dont_write_bytecode = True
 import trampolines  # noqa: E402
 
-TEST = Path(__file__).resolve().parent.parent / "crates" / "ffi3_call_tests" / "src" / "stub_bytes.rt"
+TEST = Path(__file__).resolve().parent.parent.parent / "crates" / "ffi3_call_tests" / "src" / "stub_bytes.rt"
 ISA = {"amd64": "amd64", "aapcs64": "aarch64", "riscv": "riscv", "win64": "amd64", "apple": "aarch64"}
 NAMES = ["entry", "exit", "call", "return"]
 WHOLE = "a whole call"

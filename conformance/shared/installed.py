@@ -6,7 +6,8 @@ import pathlib
 import shutil
 import subprocess
 
-LINES = (pathlib.Path(__file__).resolve().parent.parent / "tools/packages.txt").read_text().splitlines()
+LINES = (pathlib.Path(__file__).resolve().parent.parent.parent / "tools/packages.txt").read_text().splitlines()
+NOT_INSTALLED = 77  # the status where a package is missing, and no other fault's
 PACKAGES = {name: package for package, *names in map(str.split, LINES) for name in names}
 
 
