@@ -14,8 +14,7 @@ pub fn set_register(machine: &mut Machine, at: Loc, word: u64)
     ensures put { (base : ℕ) → IsWordPut base at word machine.old machine.new }
     ensures mark { machine.new.mark ≡ machine.old.mark }
 {
-    // its contract tells what is true of every machine
-    let _m = machine.sp();
+    machine.facts();
     match at {
         Loc::G(r) => machine.set_g(r, word),
         Loc::F(r) => machine.set_f(r, word),

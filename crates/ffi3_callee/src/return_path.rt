@@ -34,8 +34,7 @@ fn leave_by_stub(machine: &mut Machine, area: u64)
     ensures says { HasLeft (isa_of machine.old.target) (with_x AREA_AT area machine.old) machine.new }
     ensures counted { machine.new.steps ≡ (machine.old.steps + steps_of (isa_of machine.old.target) Exit) % 2 ^ 64 }
 {
-    // its contract tells what is true of every machine
-    let _m = machine.sp();
+    machine.facts();
     machine.set_x(AREA_AT, area);
     run_exit(machine);
 }
@@ -47,8 +46,7 @@ fn go<A: Abi>(machine: &mut Machine, cif: &Cif<A>, incoming: Incoming)
     ensures whole { machine.new ≡ gone_back_if (by_exchange machine.old.target) A.standard incoming.entry machine.old }
     ensures back { HasGoneBack A.standard incoming.entry machine.old machine.new }
 {
-    // its contract tells what is true of every machine
-    let _m = machine.sp();
+    machine.facts();
     let exchanged = by_exchange(machine.target());
     if exchanged {
         let area = incoming.entry() - A::SAVE;

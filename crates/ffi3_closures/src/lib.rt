@@ -159,8 +159,7 @@ impl Table {
         ensures steps { TakesSteps 3 machine.old machine.new }
     {
         let _slots = &self.slots;
-        // its contract tells what is true of every machine
-        let _sp = machine.sp();
+        machine.facts();
         for _k in 0..3u8 {
             let _step = machine.step();
         }

@@ -147,8 +147,8 @@ impl Machine {
         &self.journal
     }
 
-    // What is true of every machine. It does nothing.
-    fn known(&self)
+    /// What is true of every machine: its contract tells it, and it does nothing.
+    pub fn facts(&self)
         ensures { IsMachine self.now }
     {
         let _sp = self.sp;

@@ -285,8 +285,7 @@ fn store_copy(
     requires sized { length bytes.old ≡ size_of ty.now }
     ensures { IsCopied base ty.now (value_of value.now) at copy (passing machine.old) (passing machine.new) }
 {
-    // its contract tells what is true of every machine
-    let _m = machine.sp();
+    machine.facts();
     let first = base.address();
     let size = ty.size();
     bytes.copy_from_slice(machine.lend_stack(first + copy as u64, size));

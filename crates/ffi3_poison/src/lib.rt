@@ -188,8 +188,7 @@ fn poison_frame<A: Abi>(machine: &mut Machine, cif: &Cif<A>, base: StackBase, by
     requires { base + frame_of A.standard cif.now ≤ STACK_TOP }
     ensures { IsFrameDone A.standard cif.now base byte (frame_of A.standard cif.now) machine.old machine.new }
 {
-    // its contract tells what is true of every machine
-    let _m = machine.sp();
+    machine.facts();
     let start = base.address();
     for n in 0..cif.frame() {
         if !carries(cif, Loc::S(n as u32, 1), 0) {

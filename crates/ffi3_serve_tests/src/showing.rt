@@ -49,8 +49,7 @@ pub fn show_call<A: Abi>(
     ensures target { machine.new.target ≡ machine.old.target }
     ensures code { machine.new.code ≡ machine.old.code }
 {
-    // its contract tells what is true of every machine
-    let _sp = machine.sp();
+    machine.facts();
     pass_arguments(machine, table, cif, values, ptr);
     poison(machine, cif, byte);
 }

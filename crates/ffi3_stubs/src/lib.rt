@@ -91,8 +91,7 @@ pub fn run_call(machine: &mut Machine)
     ensures counted { machine.new.steps ≡ (machine.old.steps + steps_of (isa_of machine.old.target) Call) % 2 ^ 64 }
     ensures says { HasCalled (isa_of machine.old.target) machine.old machine.new }
 {
-    // its contract tells what is true of every machine
-    let _sp = machine.sp();
+    machine.facts();
     machine.go(Stub::Call);
     let n = call_steps(machine.target().isa());
     run_steps(machine, n);
@@ -109,7 +108,7 @@ pub fn run_entry(machine: &mut Machine)
     ensures counted { machine.new.steps ≡ (machine.old.steps + steps_of (isa_of machine.old.target) Entry) % 2 ^ 64 }
     ensures says { HasEntered (isa_of machine.old.target) machine.old machine.new }
 {
-    let _sp = machine.sp();
+    machine.facts();
     let n = entry_steps(machine.target().isa());
     run_steps(machine, n);
 }
@@ -125,7 +124,7 @@ pub fn run_exit(machine: &mut Machine)
     ensures counted { machine.new.steps ≡ (machine.old.steps + steps_of (isa_of machine.old.target) Exit) % 2 ^ 64 }
     ensures says { HasLeft (isa_of machine.old.target) machine.old machine.new }
 {
-    let _sp = machine.sp();
+    machine.facts();
     machine.go(Stub::Exit);
     let n = exit_steps(machine.target().isa());
     run_steps(machine, n);
@@ -140,7 +139,7 @@ pub fn run_return(machine: &mut Machine)
     ensures counted { machine.new.steps ≡ (machine.old.steps + steps_of (isa_of machine.old.target) Return) % 2 ^ 64 }
     ensures says { HasReturned (isa_of machine.old.target) machine.old machine.new }
 {
-    let _sp = machine.sp();
+    machine.facts();
     let n = return_steps(machine.target().isa());
     run_steps(machine, n);
 }

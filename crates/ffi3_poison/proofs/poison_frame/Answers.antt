@@ -19,7 +19,7 @@ loop-n-preserved g c =
     let n = c.loop-n.n in
     let before = c.loop-n.invariant in
     let inside : c.loop-n.n < frame_of g.A.Abi.standard c.args.cif.now = omega (arith, c.loop-n-test.true, c.frame-n-end.ensures) in
-    let sized : length c.loop-n.machine.stack ≡ STACK_BYTES = before.only.within.size ∙ c.sp-m.ensures.machine.stack in
+    let sized : length c.loop-n.machine.stack ≡ STACK_BYTES = before.only.within.size ∙ c.facts.ensures.stack in
     elim c.if-not-carries.branch [
       | then-not-carries w ↦ (
           let has : carries g.A.Abi.standard c.args.cif.now (S c.loop-n.n 1) 0 ≡ false = sym c.carries.ensures ∙ w.if-not-carries.true in

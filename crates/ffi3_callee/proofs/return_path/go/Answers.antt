@@ -39,7 +39,7 @@ returns-then-exchanged-clause-back g c =
     let same : std.target ≡ m.target = g.met.A.Abi.target_is ∙ sym c.requires.target in
     let laws = laws_of std m.target g.met.A.Abi.by_stubs same e in
     let area : c.entry.result - c.SAVE.result ≡ entry - std.save = omega (arith, c.entry.ensures, c.SAVE.ensures, g.met.A.Abi.save_is) in
-    gone_by_stub std g.met.A.Abi.agrees laws (c.entry.result - c.SAVE.result) entry m c.leave_by_stub.new.machine c.sp-m.ensures.machine same area (omega (arith, c.requires.incoming.low, c.requires.incoming.entry)) (omega (arith, c.requires.incoming.high)) e c.leave_by_stub.ensures.says c.leave_by_stub.ensures.counted
+    gone_by_stub std g.met.A.Abi.agrees laws (c.entry.result - c.SAVE.result) entry m c.leave_by_stub.new.machine c.facts.ensures same area (omega (arith, c.requires.incoming.low, c.requires.incoming.entry)) (omega (arith, c.requires.incoming.high)) e c.leave_by_stub.ensures.says c.leave_by_stub.ensures.counted
 
 pub returns-else-exchanged-clause-back : goal.returns-else-exchanged-clause-back
 returns-else-exchanged-clause-back g c =

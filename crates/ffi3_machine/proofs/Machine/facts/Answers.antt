@@ -3,7 +3,7 @@ use Rattle.ffi3_type_spec.specs.declared.limits.TheConstants.{STACK, STACK_BYTES
 use Rattle.ffi3_machine_spec.specs.declared.stub.TheConstants.{EXCHANGE}
 use Rattle.ffi3_machine_spec.specs.State.{IsMachine}
 use Rattle.ffi3_machine.proofs.Words.{whole}
-use Rattle.ffi3_machine.proofs.Machine.known.Goals as goal
+use Rattle.ffi3_machine.proofs.Machine.facts.Goals as goal
 
 pub returns : goal.returns
 returns c =
