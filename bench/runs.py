@@ -5,7 +5,10 @@ import json
 import os
 import re
 import subprocess
+import sys
+from pathlib import Path
 
+BUILT = Path(__file__).resolve().parent.parent / "crates/ffi3/out/ffi3"
 STACK = 1048576
 LARGEST = 4096
 ROUNDS = 25
@@ -37,6 +40,11 @@ WIDE_FORMS = {
     "members with commas": ("void f(struct{int*a", ",*a", ";}s)", "ffi3: too large: "),
     "types behind the dots": ("int f(int,...,int", ",int", ")", "ffi3: too many arguments: "),
 }
+
+
+def program():
+    """The program that the first word names, or the one that `./check` leaves."""
+    return Path(sys.argv[1] if len(sys.argv) > 1 else BUILT).resolve()
 
 
 def text_of(signature, body, main):
