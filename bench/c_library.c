@@ -1,6 +1,6 @@
 /* Times ffi3_place beside libffi's ffi_prep_cif: c_library FILE DECLARATIONS, with the same functions in both: one signature a
    line, and one declaration a line. Writes the nanoseconds that each takes for all of them, the best of a few rounds. */
-#include "../conformance/libffi.c"
+#include "../conformance/places/libffi.c"
 
 #include <ffi3.h>
 #include <time.h>

@@ -1,7 +1,7 @@
 /* Times libffi's ffi_prep_cif: prep_cif FILE, with one signature a line. Writes the nanoseconds of processor time for all of
    them, the best of a few rounds. */
 #define ABI FFI_DEFAULT_ABI
-#include "../conformance/libffi.c"
+#include "../conformance/places/libffi.c"
 
 #include <time.h>
 

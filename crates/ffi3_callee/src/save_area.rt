@@ -7,7 +7,7 @@ ghost use Rattle.ffi3_place_spec.specs.Agrees.{saved_registers};
 ghost use Rattle.ffi3_machine_transfer.specs.Stored.{Stays, WroteOnly, WroteWithin, word_in};
 ghost use Rattle.ffi3_callee.specs.Saved.{AreGivenBack, AreSaved, HiddenLies, IsRestorable, IsSaveable, hidden_word, saved_word, with_given_back, with_register, with_saved, with_word, word_to_save};
 
-use crate::poisoning;
+use crate::registers;
 use ffi3_machine::{Machine, StackBase};
 use ffi3_machine_transfer::own_word;
 use ffi3_place::{Abi, Loc, SaveWord};
@@ -79,7 +79,7 @@ pub fn set_register(machine: &mut Machine, at: Loc, word: u64)
     ensures stays { Stays STACK_TOP (saved_registers (SaveWord.Register at ∷ [])) machine.old machine.new }
     ensures within { WroteWithin STACK_TOP STACK_TOP machine.old machine.new }
 {
-    poisoning::set_register(machine, at, word);
+    registers::set_register(machine, at, word);
 }
 
 // Sets the register of a word that has one.

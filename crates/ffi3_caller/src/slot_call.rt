@@ -13,7 +13,7 @@ ghost use Rattle.ffi3_machine_transfer.specs.Stored.{SameAt};
 ghost use Rattle.ffi3_caller.specs.Called.{SlotIsCalled, called_if, told};
 
 use ffi3_cif::Cif;
-use ffi3_machine::Machine;
+use ffi3_machine::{CALL_SP_AT, CALLEE_AT, Machine};
 use ffi3_machine_transfer::by_exchange;
 use ffi3_place::Abi;
 use ffi3_stubs::run_call;
@@ -23,8 +23,8 @@ fn tell(machine: &mut Machine, addr: u64)
     ensures { machine.new ≡ told addr machine.old }
 {
     let sp = machine.sp();
-    machine.set_x(512, addr);
-    machine.set_x(520, sp);
+    machine.set_x(CALLEE_AT, addr);
+    machine.set_x(CALL_SP_AT, sp);
 }
 
 // Calls a slot with what stands in the registers that a call passes.
