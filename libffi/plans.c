@@ -28,7 +28,8 @@ static uint64_t hash_of(const struct key *key)
 
 static inline bool has_nodes(const struct plan *plan, const struct key *key)
 {
-    return plan->nodes_count == key->length && memcmp(nodes_of(plan), key->nodes, key->length * sizeof *key->nodes) == 0;
+    return plan->nodes_count == key->length &&
+           memcmp(nodes_of(plan), key->nodes, key->length * sizeof *key->nodes) == 0;
 }
 
 /* A place of a table, and the plan of a word, or, if that is 0, of a key, which stands there; or the place in which it
