@@ -33,8 +33,7 @@ pub fn answer<A: Abi>(machine: &mut Machine, cif: &Cif<A>, value: &Value)
     ensures sp { (returned_by machine.new).sp ≡ machine.old.sp + A.standard.link }
     ensures answered { HasAnswered A.standard cif.now machine.old machine.new }
 {
-    // its contract tells what is true of every machine
-    let _entry = machine.sp();
+    machine.facts();
     let incoming = receive(machine, cif);
     give_result(machine, cif, &incoming, value);
     go_back(machine, cif, incoming);

@@ -28,8 +28,7 @@ fn copy_runs(machine: &mut Machine, base: StackBase, runs: &Runs, to: u64)
     requires rising { Neighbours Rises runs.now }
     ensures { AreRunsMoved base to runs.now (passing machine.old) (passing machine.new) }
 {
-    // its contract tells what is true of every machine
-    let _m = machine.sp();
+    machine.facts();
     let from = base.address();
     for i in (0..runs.len()).rev() {
         let run = runs.get(i);
@@ -55,8 +54,8 @@ fn copy_register(machine: &mut Machine, base: StackBase, piece: &Piece, to: u64)
     requires within { IsWithin (base - to) piece.now }
     ensures { IsPieceMoved base to piece.now (passing machine.old) (passing machine.new) }
 {
-    // their contracts tell what is true of every machine, and where the base lies
-    let _m = machine.sp();
+    machine.facts();
+    // its contract tells where the base lies
     let _at = base.address();
     if !is_on_stack(piece.loc) {
         let bytes = place_bytes(machine, base, piece.loc);
@@ -96,8 +95,8 @@ pub fn copy_argument(
     ensures read { IsRead base (passing machine.old) ty.now place.now (stack_at to (size_of ty.now) (passing machine.new)) }
     ensures only { WroteOnly to (to + size_of ty.now) (passing machine.old) (passing machine.new) }
 {
-    // their contracts tell what is true of every machine, and where the base lies
-    let _m = machine.sp();
+    machine.facts();
+    // its contract tells where the base lies
     let _at = base.address();
     match place {
         Place::Direct(pieces) => {

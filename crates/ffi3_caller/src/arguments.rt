@@ -90,6 +90,5 @@ pub fn store_args<A: Abi>(machine: &mut Machine, cif: &Cif<A>, values: &Values)
     store_hidden(machine, base, cif.result_place());
     let count = A::vector_count();
     put_count(machine, base, count, cif.vectors() as u64);
-    // its contract tells what is true of every machine
-    let _last = machine.sp();
+    machine.facts();
 }

@@ -43,9 +43,9 @@ pub fn give_back<A: Abi>(machine: &mut Machine, cif: &Cif<A>, incoming: Incoming
     requires fits { fits cif.now.result_type (value_of value.now) ≡ true }
     ensures { HasReturned A.standard cif.now (value_of value.now) machine.old machine.new }
 {
-    // their contracts tell what is true of every interface and of every machine
+    // its contract tells what is true of every interface
     let _sig = cif.sig();
-    let _sp = machine.sp();
+    machine.facts();
     give_result(machine, cif, &incoming, value);
     go_back(machine, cif, incoming);
     record_return(machine, cif.frame());

@@ -50,9 +50,9 @@ pub fn accept<A: Abi>(machine: &mut Machine, cif: &Cif<A>) -> Incoming
     ensures in_callee { HasReturnAddress machine.old → 2 ≤ machine.old.spare_events → A.standard.link + frame_of A.standard cif.now + frame_of A.standard cif.now ≤ machine.old.spare_bytes →
         IsInCallee A.standard (record { signature = cif.now; event = entry_at A.standard cif.now machine.old }) machine.new }
 {
-    // their contracts tell what is true of every interface and of every machine
+    // its contract tells what is true of every interface
     let _sig = cif.sig();
-    let _sp = machine.sp();
+    machine.facts();
     let bytes = A::LINK + cif.frame();
     machine.enter(bytes);
     receive(machine, cif)

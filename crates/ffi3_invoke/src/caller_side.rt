@@ -35,12 +35,12 @@ pub fn pass_arguments<A: Abi>(
     requires live { IsSome (closure_at table.now ptr) }
     ensures { HasPassed A.standard cif.now values.now ptr machine.old machine.new }
 {
-    // their contracts tell what is true of every interface and of every machine
+    // its contract tells what is true of every interface
     let _sig = cif.sig();
-    let _sp = machine.sp();
+    machine.facts();
     store_args(machine, cif, values);
-    let _stored = machine.sp();
+    machine.facts();
     call(machine, cif, ptr);
-    let _called = machine.sp();
+    machine.facts();
     table.run_trampoline(machine);
 }

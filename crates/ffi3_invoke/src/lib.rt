@@ -53,8 +53,7 @@ pub fn begin_call<A: Abi>(
     ensures incoming { IsIncoming A.standard cif.now result }
     ensures block { result.block ≡ machine.new.sp }
 {
-    // its contract tells what is true of every machine
-    let _sp = machine.sp();
+    machine.facts();
     pass_arguments(machine, table, cif, values, ptr);
     accept(machine, cif)
 }
@@ -77,8 +76,7 @@ pub fn end_call<A: Abi>(
     ensures sized { length out.new ≡ length out.old }
     ensures value { value_in cif.now.result_type out.new ≡ value_of value.now }
 {
-    // its contract tells what is true of every machine
-    let _sp = machine.sp();
+    machine.facts();
     give_back(machine, cif, incoming, value);
     come_back(machine, cif);
     load_result(machine, cif, out);

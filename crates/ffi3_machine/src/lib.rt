@@ -16,7 +16,8 @@ mod stub;
 
 pub use calls::closure_register;
 pub use ffi3_machine_spec::stub::{
-    EXCHANGE, EXCHANGE_BYTES, EXCHANGE_END, STUBS, STUBS_BYTES, STUBS_END, Stub,
+    AREA_AT, CALL_SP_AT, CALLEE_AT, ENTRY_SP_AT, EXCHANGE, EXCHANGE_BYTES, EXCHANGE_END,
+    RETURN_SP_AT, STUBS, STUBS_BYTES, STUBS_END, Stub,
 };
 pub use ffi3_memory::NoMemory;
 use ffi3_memory::Region;
@@ -146,8 +147,8 @@ impl Machine {
         &self.journal
     }
 
-    // What is true of every machine. It does nothing.
-    fn known(&self)
+    /// What is true of every machine: its contract tells it, and it does nothing.
+    pub fn facts(&self)
         ensures { IsMachine self.now }
     {
         let _sp = self.sp;

@@ -27,7 +27,7 @@ pub(crate) fn begin_stack(stack: &mut Region)
 }
 
 /// Clears the exchange region.
-#[tactic(auto, unfolding(crate::specs::State::begun_exchange))]
+#[tactic(auto, unfolding(ffi3_machine_spec::specs::State::begun_exchange))]
 pub(crate) fn begin_exchange(exchange: &mut Region)
     requires base { exchange.old.base ≡ EXCHANGE }
     requires length { length exchange.old.bytes ≡ EXCHANGE_BYTES }

@@ -30,7 +30,7 @@ impl Machine {
         ensures value { result ≡ self.now.sp }
         ensures machine { IsMachine self.now }
     {
-        self.known();
+        self.facts();
         self.sp
     }
 

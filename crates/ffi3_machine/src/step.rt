@@ -66,7 +66,7 @@ impl Machine {
         ensures trapped { OnErr result (self.new ≡ self.old) }
         ensures machine { IsMachine self.old }
     {
-        self.known();
+        self.facts();
         let pc = self.pc;
         let Some((instr, size)) = self.decoded() else {
             return Err(Trap { pc });

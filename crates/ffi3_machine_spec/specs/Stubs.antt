@@ -11,7 +11,8 @@ use Rattle.ffi3_place_spec.specs.MachineRegisters.{stack_pointer}
 use Rattle.ffi3_place_spec.specs.StubRegisters.{call_loads, entry_stores, callee_saved_words, stub_area, area_bytes}
 use Rattle.ffi3_place_spec.specs.StubRegisters.{result_loads}
 use Rattle.ffi3_machine_spec.specs.Encoding.{rex, mod_rm}
-use Rattle.ffi3_machine_spec.specs.declared.stub.TheConstants.{STUBS, EXCHANGE}
+use Rattle.ffi3_machine_spec.specs.declared.stub.TheConstants.{STUBS, EXCHANGE, AREA_AT, CALLEE_AT, CALL_SP_AT}
+use Rattle.ffi3_machine_spec.specs.declared.stub.TheConstants.{ENTRY_SP_AT, RETURN_SP_AT}
 use Rattle.ffi3_machine_spec.specs.declared.stub.Stub.{Stub}
 use Rattle.ffi3_machine_spec.specs.declared.stub.Stub.TheVariants as stub
 use Rattle.ffi3_machine_spec.specs.State.{free_word}
@@ -99,14 +100,14 @@ sp_rows Aarch64 base through at = load (G through) base at ∷ sum 31 through (p
 sp_rows Riscv base through at = load (G 2) base at ∷ []
 
 abbrev pub call_jump : Isa → List Row
-call_jump Amd64 = jump (calls_at 11 512) ∷ []
-call_jump Aarch64 = load (G 16) 17 512 ∷ jump (calls 16) ∷ []
-call_jump Riscv = load (G 7) 6 512 ∷ jump (calls 7) ∷ []
+call_jump Amd64 = jump (calls_at 11 CALLEE_AT) ∷ []
+call_jump Aarch64 = load (G 16) 17 CALLEE_AT ∷ jump (calls 16) ∷ []
+call_jump Riscv = load (G 7) 6 CALLEE_AT ∷ jump (calls 7) ∷ []
 
 abbrev pub rows : Isa → StubName → List Row
 rows isa Call =
     address (call_base isa)
-    ∷ (sp_rows isa (call_base isa) 16 520
+    ∷ (sp_rows isa (call_base isa) 16 CALL_SP_AT
     ++ (exchange_loads (call_base isa) (call_loads isa)
     ++ call_jump isa))
 rows isa Entry =
@@ -114,10 +115,10 @@ rows isa Entry =
     ∷ (area_stores (stack_pointer isa) 0 (stub_area isa)
     ++ (address (entry_base isa)
     ∷ (exchange_stores (entry_base isa) (entry_stores isa)
-    ++ sp_rows isa (entry_base isa) 16 528)))
+    ++ sp_rows isa (entry_base isa) 16 ENTRY_SP_AT)))
 rows isa Exit =
     address (return_base isa)
-    ∷ (sp_rows isa (return_base isa) 17 536
+    ∷ (sp_rows isa (return_base isa) 17 AREA_AT
     ++ (area_loads (stack_pointer isa) 0 (callee_saved_words isa)
     ++ (exchange_loads (return_base isa) (result_loads isa)
     ++ (sum (stack_pointer isa) (stack_pointer isa) (pos (area_bytes isa))
@@ -125,7 +126,7 @@ rows isa Exit =
 rows isa Return =
     address (return_base isa)
     ∷ (exchange_stores (return_base isa) (result_loads isa)
-    ++ sp_rows isa (return_base isa) 17 544)
+    ++ sp_rows isa (return_base isa) 17 RETURN_SP_AT)
 
 -- ---- the rows' bytes
 

@@ -1,4 +1,4 @@
-//! Values at the places of a plan: what a caller stores for its callee.
+//! Stores a caller's values at the places of a plan, on the modelled machine.
 #![tactic(auto)]
 
 ghost use Rattle.std.specs.Prelude.{◌≡◌, ℕ, ◌+◌, ◌-◌, ◌≤◌, length, true};
@@ -285,8 +285,7 @@ fn store_copy(
     requires sized { length bytes.old ≡ size_of ty.now }
     ensures { IsCopied base ty.now (value_of value.now) at copy (passing machine.old) (passing machine.new) }
 {
-    // its contract tells what is true of every machine
-    let _m = machine.sp();
+    machine.facts();
     let first = base.address();
     let size = ty.size();
     bytes.copy_from_slice(machine.lend_stack(first + copy as u64, size));

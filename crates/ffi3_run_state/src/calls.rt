@@ -119,8 +119,7 @@ impl<S: Drop> Configuration<S> {
             IsAsking p base all first own events (run_state p.signatures current self.old machine.old output) (asks.call ptr sig args.now) →
             Turned p base all first own (suc self.old.moves) self.new machine.new output Turn.NoMemory) }
     {
-        // its contract tells what is true of every machine
-        let _sp = machine.sp();
+        machine.facts();
         let cif = cifs.get(sig);
         let Ok(()) = self.suspended.reserve(1) else {
             return Err(AllocError);

@@ -11,7 +11,7 @@ loop-k-init c =
     let map : c.self.inside.slots.items ≡ c.args.self.now = c.self.view_is in
     record {
       done = refl;
-      rest = three_steps c.args.self.now c.args.machine.now (rw map at c.self.invariant) c.sp-sp.ensures.machine c.requires.holds c.requires.live;
+      rest = three_steps c.args.self.now c.args.machine.now (rw map at c.self.invariant) c.facts.ensures c.requires.holds c.requires.live;
     }
 
 pub loop-k-preserved : goal.loop-k-preserved
