@@ -1,4 +1,4 @@
-//! Values at the places of a plan: what a caller stores for its callee.
+//! Stores a caller's values at the places of a plan, on the modelled machine.
 #![tactic(auto)]
 
 ghost use Rattle.std.specs.Prelude.{◌≡◌, ℕ, ◌+◌, ◌-◌, ◌≤◌, length, true};
