@@ -1,29 +1,12 @@
 /* Times ffi3_place beside libffi's ffi_prep_cif: c_library FILE DECLARATIONS, with the same functions in both: one signature a
    line, and one declaration a line. Writes the nanoseconds that each takes for all of them, the best of a few rounds. */
-#include "../conformance/libffi.c"
+#include "prepared.h"
 
 #include <ffi3.h>
 #include <time.h>
 
 #define ROUNDS 9
 #define LONGEST (1 << 16)
-
-long current;
-
-void argument_in(const void *value, const struct layout *layout) { (void)value, (void)layout; }
-void argument_out(void *value, const struct layout *layout) { (void)value, (void)layout; }
-void result_in(const void *value, const struct layout *layout) { (void)value, (void)layout; }
-void result_out(void *value, const struct layout *layout) { (void)value, (void)layout; }
-
-/* Takes a struct's size away, so that ffi_prep_cif lays it out anew. */
-static void forget(ffi_type *type)
-{
-    if (type->type != FFI_TYPE_STRUCT)
-        return;
-    type->size = type->alignment = 0;
-    for (ffi_type **each = type->elements; *each; each++)
-        forget(*each);
-}
 
 static double now(void)
 {

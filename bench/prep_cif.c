@@ -1,28 +1,10 @@
 /* Times libffi's ffi_prep_cif: prep_cif FILE, with one signature a line. Writes the nanoseconds of processor time for all of
    them, the best of a few rounds. */
-#define ABI FFI_DEFAULT_ABI
-#include "../conformance/libffi.c"
+#include "prepared.h"
 
 #include <time.h>
 
 #define ROUNDS 5 /* as in bench/side_by_side */
-
-long current;
-
-void argument_in(const void *value, const struct layout *layout) { (void)value, (void)layout; }
-void argument_out(void *value, const struct layout *layout) { (void)value, (void)layout; }
-void result_in(const void *value, const struct layout *layout) { (void)value, (void)layout; }
-void result_out(void *value, const struct layout *layout) { (void)value, (void)layout; }
-
-/* Takes a struct's size away, so that ffi_prep_cif lays it out anew. */
-static void forget(ffi_type *type)
-{
-    if (type->type != FFI_TYPE_STRUCT)
-        return;
-    type->size = type->alignment = 0;
-    for (ffi_type **each = type->elements; *each; each++)
-        forget(*each);
-}
 
 /* Tells the offsets of a struct's elements, and of those of the structs in it. */
 static void tell_offsets(ffi_type *type)

@@ -3,8 +3,12 @@ of large types, long declarations, and how long a process takes for one."""
 
 import json
 import os
+import re
 import subprocess
+import sys
+from pathlib import Path
 
+BUILT = Path(__file__).resolve().parent.parent / "crates/ffi3/out/ffi3"
 STACK = 1048576
 LARGEST = 4096
 ROUNDS = 25
@@ -36,6 +40,11 @@ WIDE_FORMS = {
     "members with commas": ("void f(struct{int*a", ",*a", ";}s)", "ffi3: too large: "),
     "types behind the dots": ("int f(int,...,int", ",int", ")", "ffi3: too many arguments: "),
 }
+
+
+def program():
+    """The program that the first word names, or the one that `./check` leaves."""
+    return Path(sys.argv[1] if len(sys.argv) > 1 else BUILT).resolve()
 
 
 def text_of(signature, body, main):
@@ -154,3 +163,17 @@ def times_of(work, statuses=(0,)):
     """The least time of each of these, the words and the script of a process. Each round does all of them in turn."""
     rounds = [{name: seconds(words, script, statuses) for name, (words, script) in work.items()} for _ in range(ROUNDS)]
     return {name: min(each[name] for each in rounds) for name in work}
+
+
+def instructions_of(work, statuses=(0,)):
+    """How many instructions each of these takes, words and a script, however busy the machine is: callgrind counts."""
+    counting = ["valgrind", "--tool=callgrind", "--callgrind-out-file=/dev/null"]
+    counts = []
+    for words, text in work:
+        ended = subprocess.run([*counting, *words], input=text.encode(), stdout=subprocess.DEVNULL,
+                               stderr=subprocess.PIPE, check=False)
+        told = re.search(rb"Collected : (\d+)", ended.stderr)
+        if ended.returncode not in statuses or not told:
+            raise SystemExit(f"callgrind does not count {' '.join(map(str, words))}: {ended.stderr.decode()}")
+        counts.append(int(told[1]))
+    return counts

@@ -1,8 +1,8 @@
 // Calls compiled functions by ffi3_store and ffi3_load, and has ffi3_collect and ffi3_give answer compiled callers:
 // try_calls NODES, with one function a line as numbers: how many arguments are fixed, then of each node kind and count.
-// To be linked with what conformance/emit.py writes of the same functions, and with the assembly of conformance for
-// this convention. The values are random; all that they are compared by, offsets and sizes of leaves, is the
-// compiler's. The last line is 'N passed, M failed'.
+// To be linked with what conformance/shared/emit.py writes of the same functions, and with the assembly of
+// conformance/places for this convention. The values are random; all that they are compared by, offsets and sizes of
+// leaves, is the compiler's. The last line is 'N passed, M failed'.
 #include "ffi3.h"
 #include "player.h"
 

@@ -2,7 +2,7 @@
 use Rattle.std.specs.Prelude.{ℕ, zero, suc, List, [], ◌++◌, length}
 use Rattle.ffi3_type_spec.specs.Signature.{Signature, at_argument, at_result}
 use Rattle.ffi3_place_spec.specs.Standard.{Standard}
-use Rattle.ffi3_text.specs.PlaceLines.{place_text_of}
+use Rattle.ffi3_text_spec.specs.PlaceLines.{place_text_of}
 
 -- those of the first n arguments
 abbrev pub argument_lines : Standard → Signature → ℕ → List ℕ

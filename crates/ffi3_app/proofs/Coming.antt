@@ -1,13 +1,13 @@
 -- From the outcome of the bytes that were read to that of the input.
 use Rattle.std.proofs.Common.{◌≡◌, ℕ, ◌≤◌, List, [], length, refl, sym, ap, ◌∙◌, subst, lit≤, true≢false}
 use Rattle.std.specs.Prelude.{false, Option, Some, None}
-use Rattle.ffi3_io.specs.Source.{GivesFirst, SourceState}
+use Rattle.ffi3_io_spec.specs.Source.{GivesFirst, SourceState}
 use Rattle.ffi3_script_spec.specs.Natives.{NamedNative}
-use Rattle.ffi3_cli.specs.declared.words.InputCommand.{InputCommand}
-use Rattle.ffi3_cli.specs.declared.words.Request.{Request}
-use Rattle.ffi3_cli.specs.declared.words.Request.TheVariants.{OnInput, Bench}
-use Rattle.ffi3_app.specs.Outcome.{Outcome, refuses, tells, runs, benches, IsOutcome, IsOutcomeOn, reads_input}
-use Rattle.ffi3_app.specs.Top.{ComesTo, HadBytes, IsRead, IsAtEnd, IsReadInPart, LeftInput}
+use Rattle.ffi3_cli_spec.specs.declared.words.InputCommand.{InputCommand}
+use Rattle.ffi3_cli_spec.specs.declared.words.Request.{Request}
+use Rattle.ffi3_cli_spec.specs.declared.words.Request.TheVariants.{OnInput, Bench}
+use Rattle.ffi3_app_spec.specs.Outcome.{Outcome, refuses, tells, runs, benches, IsOutcome, IsOutcomeOn, reads_input}
+use Rattle.ffi3_app_spec.specs.Top.{ComesTo, HadBytes, IsRead, IsAtEnd, IsReadInPart, LeftInput}
 use Rattle.ffi3_app.proofs.Inputs.{none_dropped}
 use Rattle.ffi3_app.proofs.Outcomes.{IsAccepted, outcome_of_all, accepted_is_short}
 

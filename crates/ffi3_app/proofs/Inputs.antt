@@ -8,7 +8,7 @@ use Rattle.ffi3_cdecl_spec.specs.Prototype.{Prototype}
 use Rattle.ffi3_image_spec.specs.declared.Question.{Question}
 use Rattle.ffi3_image_spec.specs.Input as image
 use Rattle.ffi3_image_spec.specs.Answer.{Answer, IsAnswer}
-use Rattle.ffi3_app.specs.Declarations.{Input, too_many_bytes, not_utf8, a_text, IsInput}
+use Rattle.ffi3_app_spec.specs.Declarations.{Input, too_many_bytes, not_utf8, a_text, IsInput}
 
 -- what is short was all there was
 taken_whole : (n : ℕ) (all : List ℕ) → length (take (n + 1) all) ≤ n → length all ≤ n

@@ -12,3 +12,4 @@ pub mod Right
 pub mod Running
 pub mod Saying
 pub mod Working
+pub mod NoLongDouble

@@ -8,10 +8,10 @@ use Rattle.ffi3_type_spec.specs.TargetIsa.{isa_of}
 use Rattle.ffi3_type_spec.specs.Signature.{Signature, at_result, at_argument}
 use Rattle.ffi3_type_spec.specs.Tree.{Tree}
 use Rattle.ffi3_place_spec.specs.Standard.{Standard, plan_of}
-use Rattle.ffi3_io.specs.Sink.{SinkState}
-use Rattle.ffi3_text.specs.PlaceLines.{argument_place, argument_text, place_text_of, sig_text_of}
-use Rattle.ffi3_app.specs.Commands.{arguments_from, place_lines}
-use Rattle.ffi3_app.specs.Declarations.{argument_line, named_lines, named_text_of}
+use Rattle.ffi3_io_spec.specs.Sink.{SinkState}
+use Rattle.ffi3_text_spec.specs.PlaceLines.{argument_place, argument_text, place_text_of, sig_text_of}
+use Rattle.ffi3_app_spec.specs.Commands.{arguments_from, place_lines}
+use Rattle.ffi3_app_spec.specs.Declarations.{argument_line, named_lines, named_text_of}
 use Rattle.ffi3_app.proofs.Pieces.{Writing, Wrote}
 
 dropped : (xs ys : List ℕ) → drop (length xs) (xs ++ ys) ≡ ys

@@ -8,17 +8,17 @@ use Rattle.ffi3_cdecl_spec.specs.Grammar.{Declaration}
 use Rattle.ffi3_cdecl_spec.specs.Prototype.{Prototype, read_as, sign_unsaid}
 use Rattle.ffi3_cdecl_spec.proofs.Readings.{one_reading as one_declaration_reading}
 use Rattle.ffi3_cdecl_spec.proofs.Prototypes.{one_prototype_by}
-use Rattle.ffi3_cdecl.specs.ReadingFor.{IsReadingEverywhere, read_everywhere}
+use Rattle.ffi3_cdecl_spec.specs.ReadingFor.{IsReadingEverywhere, read_everywhere}
 use Rattle.ffi3_cdecl.proofs.Judging.{is_reading_everywhere, one_reading_everywhere}
 use Rattle.ffi3_image_spec.specs.declared.Question.{Question}
 use Rattle.ffi3_image_spec.specs.declared.Question.TheVariants.{Explained, ByStandard}
 use Rattle.ffi3_image_spec.specs.Input as image
 use Rattle.ffi3_image_spec.specs.Answer.{Answer}
 use Rattle.ffi3_image_spec.proofs.Inputs.{one_answer}
-use Rattle.ffi3_cli.specs.declared.words.InputCommand.{InputCommand}
-use Rattle.ffi3_cli.specs.declared.words.InputCommand.TheVariants.{Layout, Place, Run, Cdecl, Cplace, Explain, Arguments}
-use Rattle.ffi3_app.specs.Declarations.{IsPrototypeEverywhere, Input, too_many_bytes, not_utf8, a_text, IsInput, IsReadPlainly, cplace_text}
-use Rattle.ffi3_app.specs.Outcome.{Outcome, refuses, tells, outcome_of, outcome_of_input, outcome_of_prototype, outcome_of_answer, IsOfScript, IsOfDeclaration, HasNames, IsOfPrototype, IsOfImage, IsOutcomeOn}
+use Rattle.ffi3_cli_spec.specs.declared.words.InputCommand.{InputCommand}
+use Rattle.ffi3_cli_spec.specs.declared.words.InputCommand.TheVariants.{Layout, Place, Run, Cdecl, Cplace, Explain, Arguments}
+use Rattle.ffi3_app_spec.specs.Declarations.{IsPrototypeEverywhere, Input, too_many_bytes, not_utf8, a_text, IsInput, IsReadPlainly, cplace_text}
+use Rattle.ffi3_app_spec.specs.Outcome.{Outcome, refuses, tells, outcome_of, outcome_of_input, outcome_of_prototype, outcome_of_answer, IsOfScript, IsOfDeclaration, HasNames, IsOfPrototype, IsOfImage, IsOutcomeOn}
 use Rattle.ffi3_app.proofs.Called.{names_once}
 use Rattle.ffi3_app.proofs.Inputs.{all_taken, reading_of_all, input_of_all, answer_of_all}
 

@@ -9,14 +9,14 @@ use Rattle.ffi3_type_spec.specs.Signature.{Signature, signature_at, Position, at
 use Rattle.ffi3_type_spec.specs.Tree.{Tree}
 use Rattle.ffi3_type_spec.specs.declared.Target.{Target}
 use Rattle.ffi3_place_spec.specs.Standard.{Standard}
-use Rattle.ffi3_io.specs.Sink.{SinkState}
-use Rattle.ffi3_io.specs.Written.{TookText}
+use Rattle.ffi3_io_spec.specs.Sink.{SinkState}
+use Rattle.ffi3_io_spec.specs.Written.{TookText}
 use Rattle.std.specs.List.{concat}
 use Rattle.ffi3_explain_spec.specs.Standards.{standard_of}
-use Rattle.ffi3_app.specs.Commands.{lines_from, arguments_from}
-use Rattle.ffi3_io.specs.Written as written
-use Rattle.ffi3_io.specs.declared.IoError.{IoError}
-use Rattle.ffi3_io.specs.declared.IoError.TheVariants.{NoMemory}
+use Rattle.ffi3_app_spec.specs.Commands.{lines_from, arguments_from}
+use Rattle.ffi3_io_spec.specs.Written as written
+use Rattle.ffi3_io_spec.specs.declared.IoError.{IoError}
+use Rattle.ffi3_io_spec.specs.declared.IoError.TheVariants.{NoMemory}
 
 abbrev pub Writing : Type 0
 Writing = Result Unit IoError

@@ -5,12 +5,12 @@ use Rattle.ffi3_place_spec.specs.Standard.{Standard}
 use Rattle.ffi3_semantics_spec.specs.Closures.{Closures}
 use Rattle.ffi3_semantics_spec.specs.Meaning.{Program}
 use Rattle.ffi3_small_step_spec.specs.MainTracing.{main_tracing}
-use Rattle.ffi3_machine.specs.State.{State}
-use Rattle.ffi3_runner.specs.RunInterrupted.{RunWasInterrupted}
-use Rattle.ffi3_runner.specs.RunMatches.{WrotePart}
-use Rattle.ffi3_io.specs.Sink.{Rose, SinkState}
+use Rattle.ffi3_machine_spec.specs.State.{State}
+use Rattle.ffi3_run_spec.specs.RunInterrupted.{RunWasInterrupted}
+use Rattle.ffi3_run_spec.specs.RunMatches.{WrotePart}
+use Rattle.ffi3_io_spec.specs.Sink.{Rose, SinkState}
 use Rattle.ffi3_app.specs.declared.unfinished.Unfinished.TheVariants.{NoMemory, WriteFault}
-use Rattle.ffi3_app.specs.Outcome.{Outcome, runs}
+use Rattle.ffi3_app_spec.specs.Outcome.{Outcome, runs}
 use Rattle.ffi3_app.specs.Work.{Works}
 
 -- what was run of a program was run of the same program

@@ -1,26 +1,26 @@
 -- What the top call says, from what its parts say.
 use Rattle.std.proofs.Common.{◌≡◌, ℕ, ◌<◌, List, inl, inr, refl, sym, subst, ap, ◌∙◌, arith, true≢false}
 use Rattle.std.specs.Prelude.{◌⊎◌, Result, Ok, Err, Some, true}
-use Rattle.ffi3_io.specs.Sink.{Rose, SinkState}
-use Rattle.ffi3_io.specs.Source.{SourceState}
+use Rattle.ffi3_io_spec.specs.Sink.{Rose, SinkState}
+use Rattle.ffi3_io_spec.specs.Source.{SourceState}
 use Rattle.ffi3_script_spec.specs.Natives.{NamedNative}
-use Rattle.ffi3_machine.specs.State.{State}
+use Rattle.ffi3_machine_spec.specs.State.{State}
 use Rattle.ffi3_semantics_spec.specs.Meaning.{End, returned, stopped}
-use Rattle.ffi3_cli.specs.declared.words.InputCommand.{InputCommand}
-use Rattle.ffi3_cli.specs.declared.words.Request.{Request}
-use Rattle.ffi3_cli.specs.declared.words.Request.TheVariants.{OnInput, Bench}
-use Rattle.ffi3_cli.specs.Words.{Takes, IsRefused, IsStated}
+use Rattle.ffi3_cli_spec.specs.declared.words.InputCommand.{InputCommand}
+use Rattle.ffi3_cli_spec.specs.declared.words.Request.{Request}
+use Rattle.ffi3_cli_spec.specs.declared.words.Request.TheVariants.{OnInput, Bench}
+use Rattle.ffi3_cli_spec.specs.Words.{Takes, IsRefused, IsStated}
 use Rattle.ffi3_cli.specs.WordAnswers.{IsWordsRefusal as WordsRefusal}
 use Rattle.ffi3_cli.specs.declared.words.WordsFault.{WordsFault}
 use Rattle.ffi3_cli.specs.declared.words.WordsFault.TheVariants as words_fault
-use Rattle.ffi3_cli.specs.WordCommands.{Addresses}
+use Rattle.ffi3_cli_spec.specs.WordCommands.{Addresses}
 use Rattle.ffi3_cli.proofs.Refusals.{taken_not_refused}
 use Rattle.ffi3_cli.proofs.Stated.{stated_is_taken}
 use Rattle.ffi3_app.specs.declared.unfinished.Unfinished.{Unfinished}
 use Rattle.ffi3_app.specs.declared.unfinished.Unfinished.TheVariants.{Refused, NoMemory, WriteFault}
-use Rattle.ffi3_app.specs.Outcome.{Outcome, refuses, tells, runs, benches, IsOutcome, IsOutcomeOn, reads_input, status_of, outcome_status, IsDone}
-use Rattle.ffi3_status.specs.FaultLines.{ReportsFault, whole, cut, no_memory_line, read_fault_line}
-use Rattle.ffi3_app.specs.Top.{ComesTo, LeftInput, refused, bad_words, read_failed, write_failed, no_memory_for_words, no_memory_to_begin, no_memory_to_end, Says, done, failed, IsReadInPart}
+use Rattle.ffi3_app_spec.specs.Outcome.{Outcome, refuses, tells, runs, benches, IsOutcome, IsOutcomeOn, reads_input, status_of, outcome_status, IsDone}
+use Rattle.ffi3_app_spec.specs.FaultLines.{ReportsFault, whole, cut, no_memory_line, read_fault_line}
+use Rattle.ffi3_app_spec.specs.Top.{ComesTo, LeftInput, refused, bad_words, read_failed, write_failed, no_memory_for_words, no_memory_to_begin, no_memory_to_end, Says, done, failed, IsReadInPart}
 use Rattle.ffi3_app.specs.Work.{IsEndTold, Works}
 use Rattle.ffi3_app.proofs.Outcomes.{one_outcome}
 use Rattle.ffi3_app.proofs.Coming.{IsReady}

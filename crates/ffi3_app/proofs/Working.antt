@@ -3,10 +3,10 @@ use Rattle.std.proofs.Common.{[], ◌∷◌, ◌≡◌, ◌⊎◌, ℕ, zero, su
 use Rattle.std.specs.Prelude.{Bool, Result, Ok, Err, IfOk, OnOk, IsUtf8, codes}
 use Rattle.ffi3_type_spec.specs.declared.Target.{Target}
 use Rattle.ffi3_type_spec.specs.Signature.{Position, Signature, SignatureFault, SignatureIsPlaced, bad_fixed, fixed_outside}
-use Rattle.ffi3_io.specs.Sink.{SinkState}
-use Rattle.ffi3_io.specs.Written.{Wrote}
-use Rattle.ffi3_io.specs.declared.IoError.{IoError}
-use Rattle.ffi3_io.specs.declared.IoError.TheVariants as end
+use Rattle.ffi3_io_spec.specs.Sink.{SinkState}
+use Rattle.ffi3_io_spec.specs.Written.{Wrote}
+use Rattle.ffi3_io_spec.specs.declared.IoError.{IoError}
+use Rattle.ffi3_io_spec.specs.declared.IoError.TheVariants as end
 use Rattle.ffi3_json.specs.ReasonOf.{reason_of}
 use Rattle.ffi3_json.specs.declared.reason.Reason.{Reason}
 use Rattle.ffi3_types.specs.declared.sig.SigFault.{SigFault}
@@ -22,11 +22,11 @@ use Rattle.ffi3_cdecl_spec.specs.Tokens.{signed, unsigned}
 use Rattle.ffi3_cdecl_spec.specs.Prototype.{Prototype, read_as, sign_unsaid, first_other, reads_alike, reads_by_sign, has_fault, has_fault_unsigned}
 use Rattle.ffi3_cdecl_spec.proofs.Identifiers.{identifier_read, all_fixed_read, right_read}
 use Rattle.ffi3_cdecl.proofs.Judging.{read_is_placed_everywhere}
-use Rattle.ffi3_cdecl.specs.ReadingFor.{IsReadingEverywhere}
+use Rattle.ffi3_cdecl_spec.specs.ReadingFor.{IsReadingEverywhere}
 use Rattle.ffi3_format_spec.specs.declared.Format.{Format}
 use Rattle.ffi3_format_spec.specs.declared.Format.TheVariants.{Double}
 use Rattle.ffi3_format_spec.specs.Format.{resolved, resolved_signature}
-use Rattle.ffi3_sig_text.specs.SigText.{FixesSome}
+use Rattle.ffi3_format_spec.specs.SigText.{FixesSome}
 use Rattle.ffi3_type_spec.specs.Tree.{Tree}
 use Rattle.std.proofs.lemmas.Bool.{cases_lt}
 use Rattle.ffi3_cdecl_spec.proofs.Prototypes.{alike_by, read_either}
@@ -40,20 +40,20 @@ use Rattle.ffi3_script_spec.specs.Natives.{NamedNative, program_beside}
 use Rattle.ffi3_script_spec.specs.Meaning.{program_of}
 use Rattle.ffi3_script_spec.specs.Made.{made}
 use Rattle.ffi3_riscv_spec.specs.Riscv.{riscv}
-use Rattle.ffi3_bench.specs.BenchText.{HasWholeJournal, bench_text}
-use Rattle.ffi3_machine.specs.State.{State}
+use Rattle.ffi3_app_spec.specs.BenchText.{HasWholeJournal, bench_text}
+use Rattle.ffi3_machine_spec.specs.State.{State}
 use Rattle.ffi3_image_spec.specs.declared.Question.{Question}
 use Rattle.ffi3_image_spec.specs.Answer.{IsTheAnswer}
 use Rattle.ffi3_image.specs.declared.answers.Answer.{Answer as CodeAnswer}
 use Rattle.ffi3_image.specs.declared.answers.Answer.TheVariants.{Text, Refusal}
 use Rattle.ffi3_image.specs.AnswerOf.{answer_of}
-use Rattle.ffi3_cli.specs.declared.words.InputCommand.{InputCommand}
+use Rattle.ffi3_cli_spec.specs.declared.words.InputCommand.{InputCommand}
 use Rattle.ffi3_app.specs.declared.unfinished.Unfinished.{Unfinished}
 use Rattle.ffi3_app.specs.declared.unfinished.Unfinished.TheVariants.{Refused, NoMemory, WriteFault}
 use Rattle.ffi3_explain_spec.specs.Standards.{standard_of}
-use Rattle.ffi3_app.specs.Declarations.{Input, a_text, IsInput, IsPrototypeEverywhere, IsReadWidely, IsWritable, offset_line, reason_line, marked_line, unexpected_line, fault_words, fault_line, sign_line}
+use Rattle.ffi3_app_spec.specs.Declarations.{Input, a_text, IsInput, IsPrototypeEverywhere, IsReadWidely, IsWritable, offset_line, reason_line, marked_line, unexpected_line, fault_words, fault_line, sign_line}
 use Rattle.ffi3_diagnostics_spec.specs.Positions.{placed_words}
-use Rattle.ffi3_app.specs.Outcome.{Outcome, refuses, tells, runs, benches, IsOfScript, IsOfDeclaration, HasNames, IsOfPrototype, IsOfImage, outcome_of_input, outcome_of_prototype, outcome_of_answer, IsOutcomeOn}
+use Rattle.ffi3_app_spec.specs.Outcome.{Outcome, refuses, tells, runs, benches, IsOfScript, IsOfDeclaration, HasNames, IsOfPrototype, IsOfImage, outcome_of_input, outcome_of_prototype, outcome_of_answer, IsOutcomeOn}
 use Rattle.ffi3_app.proofs.Called.{some_names}
 use Rattle.ffi3_app.proofs.Outcomes.{one_prototype_input}
 use Rattle.ffi3_app.specs.Work.{Works, IsToldAs, IsFaultToldAs, IsPlaceToldAs, IsNoScript, IsNoInput, IsNoDeclaration, IsNoPrototype, IsNoText, IsSignUnsaid, RefusesWith, work_of_writing}

@@ -4,26 +4,26 @@ use Rattle.ffi3_cdecl.specs.declared.fault.DeclFault.{DeclFault}
 use Rattle.ffi3_cdecl.specs.declared.fault.DeclFault.TheVariants as decl
 use Rattle.ffi3_cdecl_spec.specs.Grammar.{Declaration}
 use Rattle.ffi3_cdecl_spec.specs.Prototype.{Prototype, first_other}
-use Rattle.ffi3_io.specs.Sink.{Rose, SinkState}
-use Rattle.ffi3_io.specs.declared.IoError.{IoError}
-use Rattle.ffi3_io.specs.declared.IoError.TheVariants as io
+use Rattle.ffi3_io_spec.specs.Sink.{Rose, SinkState}
+use Rattle.ffi3_io_spec.specs.declared.IoError.{IoError}
+use Rattle.ffi3_io_spec.specs.declared.IoError.TheVariants as io
 use Rattle.ffi3_json.specs.ReasonOf.{reason_of}
 use Rattle.ffi3_json.specs.declared.fault.ScriptFault.{ScriptFault}
 use Rattle.ffi3_json.specs.declared.fault.ScriptFault.TheVariants as fault
-use Rattle.ffi3_machine.specs.State.{State}
+use Rattle.ffi3_machine_spec.specs.State.{State}
 use Rattle.ffi3_semantics_spec.specs.Lines.{a_line}
 use Rattle.ffi3_script_spec.specs.Language.{reason_of_fault}
 use Rattle.ffi3_script_spec.specs.ReasonText.{text_of_reason}
 use Rattle.ffi3_script_spec.specs.Script.{Script}
-use Rattle.ffi3_status.specs.FaultLines.{ReportsFault, no_memory_line, write_fault_line}
+use Rattle.ffi3_app_spec.specs.FaultLines.{ReportsFault, no_memory_line, write_fault_line}
 use Rattle.ffi3_types.specs.SignatureFaultOf.{signature_fault_of}
-use Rattle.ffi3_app.specs.Declarations.{Input, a_text, IsInput, IsReadPlainly, IsPrototypeEverywhere}
-use Rattle.ffi3_app.specs.Declarations.{offset_line, reason_line, marked_line}
-use Rattle.ffi3_app.specs.Declarations.{unexpected_line, fault_line, sign_line}
+use Rattle.ffi3_app_spec.specs.Declarations.{Input, a_text, IsInput, IsReadPlainly, IsPrototypeEverywhere}
+use Rattle.ffi3_app_spec.specs.Declarations.{offset_line, reason_line, marked_line}
+use Rattle.ffi3_app_spec.specs.Declarations.{unexpected_line, fault_line, sign_line}
 use Rattle.ffi3_app.specs.declared.unfinished.Unfinished.{Unfinished}
 use Rattle.ffi3_app.specs.declared.unfinished.Unfinished.TheVariants.{Refused, NoMemory, WriteFault}
-use Rattle.ffi3_app.specs.Outcome.{Outcome, refuses, located_line, outcome_of_input, outcome_of_prototype, IsOfScript}
-use Rattle.ffi3_app.specs.Outcome.{IsDone, IsDoneInPart}
+use Rattle.ffi3_app_spec.specs.Outcome.{Outcome, refuses, located_line, outcome_of_input, outcome_of_prototype, IsOfScript}
+use Rattle.ffi3_app_spec.specs.Outcome.{IsDone, IsDoneInPart}
 
 -- WHAT CAME OF WORK whose outcomes are these: one of them is done; or the input is refused by one of them; or one is done in part
 abbrev pub Works : (Outcome → Type 0) → SinkState → SinkState → State → State → Result ℕ Unfinished → Type 0

@@ -4,8 +4,8 @@ ghost use Rattle.ffi3_type_spec.specs.Signature.{SignatureHasNoFault};
 ghost use Rattle.ffi3_type_spec.specs.Text.{signature_text};
 ghost use Rattle.ffi3_semantics_spec.specs.Lines.{a_line};
 ghost use Rattle.ffi3_cdecl_spec.specs.Canonical.{declaration_text};
-ghost use Rattle.ffi3_app.specs.Declarations.{IsWritable, cdecl_text};
-ghost use Rattle.ffi3_io.specs.Written.{Wrote};
+ghost use Rattle.ffi3_app_spec.specs.Declarations.{IsWritable, cdecl_text};
+ghost use Rattle.ffi3_io_spec.specs.Written.{Wrote};
 
 use crate::write::write_made_line;
 use ffi3_cdecl::{Declaration, decl_text};

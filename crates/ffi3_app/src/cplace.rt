@@ -4,14 +4,14 @@ ghost use Rattle.std.specs.List.{flat_map};
 ghost use Rattle.ffi3_type_spec.specs.Signature.{SignatureIsPlaced};
 ghost use Rattle.ffi3_format_spec.specs.declared.Format.{Format};
 ghost use Rattle.ffi3_format_spec.specs.Format.{resolved_signature};
-ghost use Rattle.ffi3_sig_text.specs.SigText.{told_signature};
+ghost use Rattle.ffi3_format_spec.specs.SigText.{told_signature};
 ghost use Rattle.ffi3_semantics_spec.specs.Lines.{a_line};
 ghost use Rattle.ffi3_cdecl_spec.specs.Prototype.{prototype_text};
-ghost use Rattle.ffi3_app.specs.Declarations.{cplace_text, every_target, placed_on, prototype_lines, target_line};
+ghost use Rattle.ffi3_app_spec.specs.Declarations.{cplace_text, every_target, placed_on, prototype_lines, target_line};
 ghost use Rattle.ffi3_cdecl_spec.specs.Tokens.{signed};
 ghost use Rattle.ffi3_names_spec.specs.Scan.{names_in};
 ghost use Rattle.ffi3_names.specs.NamesOf.{names_of};
-ghost use Rattle.ffi3_io.specs.Written.{Wrote};
+ghost use Rattle.ffi3_io_spec.specs.Written.{Wrote};
 
 use crate::place::place_signature;
 use crate::write::write_made_line;

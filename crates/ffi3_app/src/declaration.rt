@@ -2,7 +2,7 @@
 ghost use Rattle.std.specs.Prelude.{◌≡◌, List, ℕ, IfOk, IfErr};
 ghost use Rattle.ffi3_cdecl_spec.specs.Prototype.{read_as};
 ghost use Rattle.ffi3_cdecl_spec.specs.Reading.{reads};
-ghost use Rattle.ffi3_app.specs.Declarations.{IsReadAs, IsWritable, a_text, offset_line, reason_line};
+ghost use Rattle.ffi3_app_spec.specs.Declarations.{IsReadAs, IsWritable, a_text, offset_line, reason_line};
 ghost use Rattle.ffi3_app.specs.Work.{IsFaultToldAs, IsNoDeclaration};
 
 use crate::unfinished::{Unfinished, refused, words};

@@ -1,8 +1,8 @@
 //! The lines of layout.
 ghost use Rattle.ffi3_script.specs.ScriptOf.{script_of};
 ghost use Rattle.std.specs.List.{concat};
-ghost use Rattle.ffi3_app.specs.Commands.{layout_lines, layout_text};
-ghost use Rattle.ffi3_io.specs.Written.{Wrote};
+ghost use Rattle.ffi3_app_spec.specs.Commands.{layout_lines, layout_text};
+ghost use Rattle.ffi3_io_spec.specs.Written.{Wrote};
 
 use crate::write::write_made_line;
 use ffi3_io::{IoError, Sink};

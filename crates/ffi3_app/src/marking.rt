@@ -1,7 +1,7 @@
 //! The lines that refuse a prototype: the fault of its text, and the text's line with a mark at the place.
 ghost use Rattle.std.specs.Prelude.{◌≡◌, IfOk};
 ghost use Rattle.ffi3_types.specs.SignatureFaultOf.{signature_fault_of};
-ghost use Rattle.ffi3_app.specs.Declarations.{fault_line, fault_words, marked_line, unexpected_line};
+ghost use Rattle.ffi3_app_spec.specs.Declarations.{fault_line, fault_words, marked_line, unexpected_line};
 ghost use Rattle.ffi3_app.specs.Work.{IsPlaceToldAs};
 
 use crate::declaration::reason_line;

@@ -1,7 +1,7 @@
 //! The names of natives.
 ghost use Rattle.std.specs.Prelude.{◌≡◌, ◌<◌, ◌^◌, IfOk, Some, length, slice_get};
 ghost use Rattle.ffi3_script_spec.specs.Natives.{names_of};
-ghost use Rattle.ffi3_next_move.specs.Handed.{handed, handed_in};
+ghost use Rattle.ffi3_script_spec.specs.Handed.{handed, handed_in};
 
 use ffi3_body::Native;
 use ffi3_script::Names;

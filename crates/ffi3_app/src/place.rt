@@ -4,16 +4,16 @@ ghost use Rattle.std.specs.Prelude.{◌≡◌, ◌<◌, ◌≤◌, ◌++◌, IfO
 ghost use Rattle.std.specs.List.{concat};
 ghost use Rattle.ffi3_type_spec.specs.Signature.{SignatureIsPlaced};
 ghost use Rattle.ffi3_explain_spec.specs.Standards.{standard_of};
-ghost use Rattle.ffi3_app.specs.Commands.{place_text};
-ghost use Rattle.ffi3_app.specs.Declarations.{argument_line, named_lines};
+ghost use Rattle.ffi3_app_spec.specs.Commands.{place_text};
+ghost use Rattle.ffi3_app_spec.specs.Declarations.{argument_line, named_lines};
 ghost use Rattle.ffi3_names.specs.NamesOf.{names_of};
-ghost use Rattle.ffi3_io.specs.Written.{Wrote};
+ghost use Rattle.ffi3_io_spec.specs.Written.{Wrote};
 
 use crate::write::write_made_line;
 use ffi3_aapcs64::Aapcs64;
 use ffi3_amd64::Amd64;
 use ffi3_apple::Apple;
-use ffi3_cif::{Cif, Placed};
+use ffi3_cif::Placed;
 use ffi3_diagnostics::argument_name;
 use ffi3_io::{IoError, Sink};
 use ffi3_names::{Name, name_at};
@@ -35,13 +35,13 @@ pub fn place<O: Sink>(
 ) -> Result<(), IoError>
     ensures { Wrote (place_text (standard_of target) (script_of script.now)) (O.state output.old) (O.state output.new) result }
 {
-    match target {
-        Target::Amd64 => place_by::<Amd64, O>(alloc, script, output),
-        Target::Aapcs64 => place_by::<Aapcs64, O>(alloc, script, output),
-        Target::Riscv => place_by::<Riscv, O>(alloc, script, output),
-        Target::Win64 => place_by::<Win64, O>(alloc, script, output),
-        Target::Apple => place_by::<Apple, O>(alloc, script, output),
+    let sigs = script.sigs();
+    let none = Vec::new(alloc);
+    for i in 0..sigs.len() {
+        let sig = CheckedSig::of(sigs.get(i));
+        place_one(alloc, target, i as u32, &sig, &none, output)?;
     }
+    Ok(())
 }
 
 /// Writes the same of one signature, as the one of this number, with names of its arguments.
@@ -65,17 +65,19 @@ pub fn place_signature<O: Sink>(
     }
 }
 
-// The signatures of a script, by a calling standard.
-fn place_by<A: Abi, O: Sink>(alloc: Global, script: &Script, output: &mut O) -> Result<(), IoError>
-    ensures { Wrote (place_text A.standard (script_of script.now)) (O.state output.old) (O.state output.new) result }
+// One signature without fault.
+fn place_one<O: Sink>(
+    alloc: Global,
+    target: Target,
+    number: u32,
+    sig: &CheckedSig<'_>,
+    names: &Vec<Name<'_>>,
+    output: &mut O,
+) -> Result<(), IoError>
+    ensures { Wrote (concat (named_lines (names_of names.now.items) (standard_of target) number sig.now)) (O.state output.old) (O.state output.new) result }
 {
-    let sigs = script.sigs();
-    let none = Vec::new(alloc);
-    for i in 0..sigs.len() {
-        let sig = CheckedSig::of(sigs.get(i));
-        place_one::<A, O>(alloc, i as u32, &sig, &none, output)?;
-    }
-    Ok(())
+    let copy = sig.placed().as_sig().copy(alloc)?;
+    place_signature(alloc, target, number, copy, names, output)
 }
 
 // One signature that can be placed, by a calling standard.
@@ -91,20 +93,6 @@ fn place_planned<A: Abi, O: Sink>(
 {
     let placed: Placed<A> = Placed::prepare(alloc, sig)?;
     place_of(alloc, number, &placed, names, output)
-}
-
-// One signature without fault, by a calling standard.
-fn place_one<A: Abi, O: Sink>(
-    alloc: Global,
-    number: u32,
-    sig: &CheckedSig<'_>,
-    names: &Vec<Name<'_>>,
-    output: &mut O,
-) -> Result<(), IoError>
-    ensures { Wrote (concat (named_lines (names_of names.now.items) A.standard number sig.now)) (O.state output.old) (O.state output.new) result }
-{
-    let cif: Cif<A> = Cif::prepare_copy(alloc, sig)?;
-    place_of(alloc, number, cif.placed(), names, output)
 }
 
 // The lines of one signature: its frame, the arguments, then the result.

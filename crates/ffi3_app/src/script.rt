@@ -3,8 +3,8 @@ ghost use Rattle.std.specs.Prelude.{◌≡◌, ◌<◌, ◌^◌, List, ℕ, IfOk
 ghost use Rattle.ffi3_script_spec.specs.Natives.{names_of};
 ghost use Rattle.ffi3_script_spec.specs.Reading.{IsReading, script};
 ghost use Rattle.ffi3_script.specs.ScriptOf.{script_of, natives_of};
-ghost use Rattle.ffi3_next_move.specs.Handed.{handed};
-ghost use Rattle.ffi3_app.specs.Outcome.{located_line};
+ghost use Rattle.ffi3_script_spec.specs.Handed.{handed};
+ghost use Rattle.ffi3_app_spec.specs.Outcome.{located_line};
 ghost use Rattle.ffi3_app.specs.Work.{IsNoScript, IsToldAs};
 
 use crate::names::names_of_natives;

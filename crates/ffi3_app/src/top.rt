@@ -1,12 +1,12 @@
 //! The top call.
 ghost use Rattle.std.specs.Prelude.{◌≡◌, ◌<◌, ◌⊎◌, ◌^◌, List, ℕ, Some, length, map, string_bytes, true};
-ghost use Rattle.ffi3_io.specs.Sink.{Rose};
-ghost use Rattle.ffi3_cli.specs.declared.words.Request.{Request};
-ghost use Rattle.ffi3_cli.specs.declared.words.Request.TheVariants.{OnInput};
-ghost use Rattle.ffi3_cli.specs.Words.{IsStated, Takes};
-ghost use Rattle.ffi3_next_move.specs.Handed.{AreFew, handed, signatures_in};
-ghost use Rattle.ffi3_app.specs.Outcome.{IsOutcome, Outcome, outcome_status, reads_input};
-ghost use Rattle.ffi3_app.specs.Top.{Says};
+ghost use Rattle.ffi3_io_spec.specs.Sink.{Rose};
+ghost use Rattle.ffi3_cli_spec.specs.declared.words.Request.{Request};
+ghost use Rattle.ffi3_cli_spec.specs.declared.words.Request.TheVariants.{OnInput};
+ghost use Rattle.ffi3_cli_spec.specs.Words.{IsStated, Takes};
+ghost use Rattle.ffi3_script_spec.specs.Handed.{AreFew, handed, signatures_in};
+ghost use Rattle.ffi3_app_spec.specs.Outcome.{IsOutcome, Outcome, outcome_status, reads_input};
+ghost use Rattle.ffi3_app_spec.specs.Top.{Says};
 
 use crate::unfinished::tell_end;
 use crate::work::{run_bench, work};

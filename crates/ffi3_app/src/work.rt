@@ -2,13 +2,13 @@
 ghost use Rattle.std.specs.Prelude.{◌≡◌, ◌<◌, ◌≤◌, ◌^◌, length};
 ghost use Rattle.ffi3_script.specs.ScriptOf.{script_of, natives_of};
 ghost use Rattle.ffi3_script_spec.specs.Natives.{names_of, program_beside};
-ghost use Rattle.ffi3_next_move.specs.Handed.{AreFew, handed};
-ghost use Rattle.ffi3_machine.specs.State.{State};
+ghost use Rattle.ffi3_script_spec.specs.Handed.{AreFew, handed};
+ghost use Rattle.ffi3_machine_spec.specs.State.{State};
 ghost use Rattle.ffi3_type_spec.specs.declared.limits.TheConstants.{MOST_CALLS};
 ghost use Rattle.ffi3_explain_spec.specs.Standards.{standard_of};
-ghost use Rattle.ffi3_app.specs.Commands.{layout_text, place_text};
-ghost use Rattle.ffi3_app.specs.Declarations.{cdecl_text, cplace_text};
-ghost use Rattle.ffi3_app.specs.Outcome.{IsOfDeclaration, IsOfImage, IsOfPrototype, IsOfScript, IsOutcomeOn, benches, runs, tells};
+ghost use Rattle.ffi3_app_spec.specs.Commands.{layout_text, place_text};
+ghost use Rattle.ffi3_app_spec.specs.Declarations.{cdecl_text, cplace_text};
+ghost use Rattle.ffi3_app_spec.specs.Outcome.{IsOfDeclaration, IsOfImage, IsOfPrototype, IsOfScript, IsOutcomeOn, benches, runs, tells};
 ghost use Rattle.ffi3_app.specs.Work.{Works, work_of_writing};
 
 use crate::cdecl::cdecl;

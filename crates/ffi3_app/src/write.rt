@@ -1,6 +1,6 @@
 //! Lines to the output.
 ghost use Rattle.std.specs.Prelude.{◌≡◌, ◌+◌, ◌<◌, ◌≤◌, ℕ, List, IfOk, drop, length, slice_range};
-ghost use Rattle.ffi3_io.specs.Written.{Wrote};
+ghost use Rattle.ffi3_io_spec.specs.Written.{Wrote};
 ghost use Rattle.ffi3_app.specs.LineEnds.{line_length};
 
 use ffi3_io::{IoError, Sink, write_line};

@@ -14,10 +14,10 @@ use Rattle.ffi3_script_spec.proofs.Natives.{beside_none}
 use Rattle.ffi3_script.specs.ScriptOf.{script_of}
 use Rattle.ffi3_script.specs.declared.script.Script.{Script}
 use Rattle.ffi3_runner.specs.Running.{program}
-use Rattle.ffi3_io.specs.Sink.{Adds, Rose}
-use Rattle.ffi3_machine.specs.State.{State}
-use Rattle.ffi3_runner.specs.RunMatches.{RunMatches, WrotePart}
-use Rattle.ffi3_bench.specs.BenchText.{HasWholeJournal, moves_of}
+use Rattle.ffi3_io_spec.specs.Sink.{Adds, Rose}
+use Rattle.ffi3_machine_spec.specs.State.{State}
+use Rattle.ffi3_run_spec.specs.RunMatches.{RunMatches, WrotePart}
+use Rattle.ffi3_app_spec.specs.BenchText.{HasWholeJournal, moves_of}
 
 told : (text taken : List ℕ) (before : List ℕ) → before ≡ [] → Adds (Some before) text (Some taken) → taken ≡ text
 told text taken before none adds =

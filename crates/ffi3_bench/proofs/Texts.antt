@@ -10,7 +10,7 @@ use Rattle.std.proofs.Math.Nat.{le-max_left, max-eq_left, max-eq_right}
 use Rattle.ffi3_type_spec.specs.Signature.{Signature, signature_at}
 use Rattle.ffi3_place_spec.specs.Standard.{Standard, need_of}
 use Rattle.ffi3_script_spec.proofs.MadeRuns.{TellsWord}
-use Rattle.ffi3_bench.specs.BenchText.{greatest}
+use Rattle.ffi3_app_spec.specs.BenchText.{greatest}
 
 -- a greater one comes
 pub greater : (g n : ℕ) (ns : List ℕ) → g < n → max n (greatest ns) ≡ max g (greatest (n ∷ ns))

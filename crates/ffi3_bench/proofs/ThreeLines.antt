@@ -12,12 +12,12 @@ use Rattle.ffi3_script_spec.specs.Script.{Script}
 use Rattle.ffi3_script_spec.specs.Meaning.{program_of}
 use Rattle.ffi3_script_spec.specs.Made.{made, made_types}
 use Rattle.ffi3_script_spec.proofs.MadeRuns.{NeedsLittle, made_returns}
-use Rattle.ffi3_io.specs.Sink.{SinkState}
-use Rattle.ffi3_io.specs.Written.{TookText, Wrote, WroteLine}
-use Rattle.ffi3_io.specs.declared.IoError.{IoError}
-use Rattle.ffi3_io.specs.declared.IoError.TheVariants.{NoMemory}
+use Rattle.ffi3_io_spec.specs.Sink.{SinkState}
+use Rattle.ffi3_io_spec.specs.Written.{TookText, Wrote, WroteLine}
+use Rattle.ffi3_io_spec.specs.declared.IoError.{IoError}
+use Rattle.ffi3_io_spec.specs.declared.IoError.TheVariants.{NoMemory}
 use Rattle.ffi3_io.proofs.Writing.{took_then, cut_after, cut_at_once, cut_in, wrote_line}
-use Rattle.ffi3_bench.specs.BenchText.{calls_of, moves_of, need_of_all, counts_text, line_of, bench_text}
+use Rattle.ffi3_app_spec.specs.BenchText.{calls_of, moves_of, need_of_all, counts_text, line_of, bench_text}
 use Rattle.ffi3_bench.proofs.Texts.{word_short}
 
 module _ (std : Standard) (seed calls : ℕ) (few : calls ≤ 1000) (little : NeedsLittle std (made_types seed)) (s : Script) (is : s ≡ made seed calls) where

@@ -1,2 +1,1 @@
-pub mod BenchText
 pub mod LineState

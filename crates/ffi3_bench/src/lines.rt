@@ -2,14 +2,14 @@
 ghost use Rattle.std.specs.Prelude.{◌≡◌, ◌≤◌, ◌++◌, IfOk, OnOk, length};
 ghost use Rattle.ffi3_type_spec.specs.declared.limits.TheConstants.{MOST_CALLS};
 ghost use Rattle.ffi3_type_spec.specs.Value.{void_value};
-ghost use Rattle.ffi3_io.specs.Written.{Wrote};
+ghost use Rattle.ffi3_io_spec.specs.Written.{Wrote};
 ghost use Rattle.ffi3_semantics_spec.specs.Lines.{untraced, text_of_run};
 ghost use Rattle.ffi3_semantics_spec.specs.Meaning.{meaning_of, returned};
 ghost use Rattle.ffi3_riscv_spec.specs.Riscv.{riscv};
 ghost use Rattle.ffi3_script_spec.specs.Meaning.{program_of};
 ghost use Rattle.ffi3_script_spec.specs.Made.{made};
 ghost use Rattle.ffi3_script.specs.ScriptOf.{script_of, natives_of};
-ghost use Rattle.ffi3_bench.specs.BenchText.{counts_text, line_of, bench_text, HasWholeJournal};
+ghost use Rattle.ffi3_app_spec.specs.BenchText.{counts_text, line_of, bench_text, HasWholeJournal};
 
 use crate::measure::{Measured, measure};
 use ffi3_aapcs64::Aapcs64;

@@ -6,7 +6,7 @@ ghost use Rattle.ffi3_semantics_spec.specs.Lines.{untraced, text_of_run};
 ghost use Rattle.ffi3_semantics_spec.specs.Meaning.{meaning_of, returned};
 ghost use Rattle.ffi3_script_spec.specs.Meaning.{program_of};
 ghost use Rattle.ffi3_script.specs.ScriptOf.{script_of, natives_of};
-ghost use Rattle.ffi3_bench.specs.BenchText.{greatest, calls_of, moves_of, need_of_all, HasWholeJournal};
+ghost use Rattle.ffi3_app_spec.specs.BenchText.{greatest, calls_of, moves_of, need_of_all, HasWholeJournal};
 
 use crate::line::LineSink;
 use ffi3_machine::Machine;

@@ -15,7 +15,7 @@ use Rattle.ffi3_type_spec.proofs.Faults.{right_is_small}
 use Rattle.ffi3_type_spec.proofs.Right.{argument_is_right, few_arguments}
 use Rattle.ffi3_type_spec.proofs.Values.{value_at}
 use Rattle.ffi3_place_spec.specs.Standard.{round8, block_bytes}
-use Rattle.ffi3_body.specs.SeenActivation.{block_offset, arguments_in}
+use Rattle.ffi3_semantics_spec.specs.SeenActivation.{block_offset, arguments_in}
 
 abbrev whole_size : Tree → ℕ
 whole_size t = round8 (size_of t)

@@ -11,7 +11,7 @@ use Rattle.ffi3_type_spec.proofs.Right.{argument_is_laid_out}
 use Rattle.ffi3_type_spec.proofs.Values.{value_at}
 use Rattle.ffi3_type_spec.proofs.ValueElements.{fit_by_elements}
 use Rattle.ffi3_place_spec.specs.Standard.{block_bytes, round8}
-use Rattle.ffi3_body.specs.SeenActivation.{block_offset, arguments_in}
+use Rattle.ffi3_semantics_spec.specs.SeenActivation.{block_offset, arguments_in}
 use Rattle.ffi3_body.proofs.Blocks.{argument_here, whole_within}
 
 pub arguments_count : (ts : List Tree) (block : List ℕ) → length (arguments_in ts block) ≡ length ts

@@ -7,7 +7,7 @@ use Rattle.ffi3_type_spec.specs.Signature.{Signature}
 use Rattle.ffi3_type_spec.specs.Value.{ValueTree, void_value}
 use Rattle.ffi3_type_spec.proofs.Values.{get_or-append_at}
 use Rattle.ffi3_semantics_spec.specs.Move.{Behaviour, result_type_of}
-use Rattle.ffi3_body.specs.Follow.{IsOfType, ResultsFollow}
+use Rattle.ffi3_semantics_spec.specs.Follow.{IsOfType, ResultsFollow}
 
 module _ (signatures : List Signature) (behaviour : Behaviour) (arguments : List ValueTree) (user : ℕ) where
   pub none_follow : ResultsFollow signatures behaviour arguments user []

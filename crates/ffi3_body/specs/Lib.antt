@@ -1,3 +1,1 @@
 pub mod MoveOf
-pub mod SeenActivation
-pub mod Follow

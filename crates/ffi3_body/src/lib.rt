@@ -5,8 +5,8 @@ ghost use Rattle.std.specs.Prelude.{◌≡◌, ◌<◌, IfOk, length, All, ℕ, 
 ghost use Rattle.ffi3_type_spec.specs.Signature.{Signature, signature_at, SignatureHasNoFault};
 ghost use Rattle.ffi3_semantics_spec.specs.Move.{Behaviour, MoveFits};
 ghost use Rattle.ffi3_body.specs.MoveOf.{move_of};
-ghost use Rattle.ffi3_body.specs.SeenActivation.{arguments_of};
-ghost use Rattle.ffi3_body.specs.Follow.{ResultsFollow};
+ghost use Rattle.ffi3_semantics_spec.specs.SeenActivation.{arguments_of};
+ghost use Rattle.ffi3_semantics_spec.specs.Follow.{ResultsFollow};
 
 mod seen;
 

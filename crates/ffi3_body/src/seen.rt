@@ -9,7 +9,7 @@ ghost use Rattle.ffi3_type_spec.specs.Signature.{SignatureHasNoFault};
 ghost use Rattle.ffi3_place_spec.specs.Standard.{block_bytes, round8};
 ghost use Rattle.ffi3_types.specs.TreeOf.{tree_of};
 ghost use Rattle.ffi3_values.specs.ValueOf.{value_of};
-ghost use Rattle.ffi3_body.specs.SeenActivation.{argument_bytes, arguments_of, block_offset};
+ghost use Rattle.ffi3_semantics_spec.specs.SeenActivation.{argument_bytes, arguments_of, block_offset};
 
 use ffi3_type_spec::round_up;
 use ffi3_types::{FfiType, NoMemory, Sig};
@@ -30,7 +30,7 @@ impl<'a> Model for Seen<'a> {
     ghost use Rattle.std.specs.Prelude.{◌≡◌, length};
     ghost use Rattle.ffi3_type_spec.specs.Signature.{SignatureHasNoFault};
     ghost use Rattle.ffi3_place_spec.specs.Standard.{block_bytes};
-    ghost use Rattle.ffi3_body.specs.SeenActivation.{SeenActivation, activation_code};
+    ghost use Rattle.ffi3_semantics_spec.specs.SeenActivation.{SeenActivation, activation_code};
 
     ghost Value = { SeenActivation };
 

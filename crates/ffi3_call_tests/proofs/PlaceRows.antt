@@ -5,7 +5,7 @@ use Rattle.ffi3_type_spec.specs.Tree.{Tree, void, scalar, struct_of, s8, s32, u6
 use Rattle.ffi3_type_spec.specs.Layout.{least_multiple}
 use Rattle.ffi3_type_spec.specs.Signature.{Signature, at_result, at_argument}
 use Rattle.ffi3_amd64_spec.specs.Amd64.{amd64}
-use Rattle.ffi3_text.specs.PlaceLines.{place_text_of, sig_text_of}
+use Rattle.ffi3_text_spec.specs.PlaceLines.{place_text_of, sig_text_of}
 
 abbrev sig_of : Tree → List Tree → Signature
 sig_of r a = record { result_type = r; arguments = a; fixed = None }

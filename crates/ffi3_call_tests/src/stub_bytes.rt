@@ -1,4 +1,4 @@
-//! The bytes of the stubs, as an instruction of the machine reads them at their addresses. conformance/stubs.py takes
+//! The bytes of the stubs, as an instruction of the machine reads them at their addresses. conformance/places/stubs.py takes
 //! them from here, and runs them on processors that this project did not write.
 use ffi3_machine::{CODE, Machine, NoMemory, STACK_TOP, Target};
 use std::process::Abort;

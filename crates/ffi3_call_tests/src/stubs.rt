@@ -1,5 +1,8 @@
 //! The stubs of each target, each run to its end; how many steps they take; and a return that is recorded.
-use ffi3_machine::{CODE, ENTRY, Machine, NoMemory, RETURN, STACK, STACK_TOP, Target};
+use ffi3_machine::{
+    AREA_AT, CALL_SP_AT, CALLEE_AT, CODE, ENTRY, ENTRY_SP_AT, Machine, NoMemory, RETURN,
+    RETURN_SP_AT, STACK, STACK_TOP, Target,
+};
 use ffi3_stubs::{run_call, run_entry, run_exit, run_return};
 use std::process::Abort;
 
@@ -45,7 +48,7 @@ const AT: u64 = STACK_TOP - 1024;
 
 /// Comes back to a caller, where pc is RETURN.
 fn comes_back(machine: &mut Machine) {
-    machine.set_x(544, AT);
+    machine.set_x(RETURN_SP_AT, AT);
     if machine.pc() == RETURN {
         run_return(machine);
     }
@@ -53,10 +56,10 @@ fn comes_back(machine: &mut Machine) {
 
 /// Calls the first slot.
 fn calls(machine: &mut Machine) {
-    machine.set_x(512, CODE);
-    machine.set_x(520, AT);
-    let slot = machine.x(512);
-    let sp = machine.x(520);
+    machine.set_x(CALLEE_AT, CODE);
+    machine.set_x(CALL_SP_AT, AT);
+    let slot = machine.x(CALLEE_AT);
+    let sp = machine.x(CALL_SP_AT);
     if slot == CODE && STACK + 1024 <= sp && sp <= STACK_TOP - 1024 {
         run_call(machine);
     }
@@ -67,8 +70,8 @@ fn leaves(machine: &mut Machine) {
     for k in 0..27u64 {
         machine.store_stack(AT + 8 * k, b"\0\x10\0\0\0\0\0\0");
     }
-    machine.set_x(536, AT);
-    let area = machine.x(536);
+    machine.set_x(AREA_AT, AT);
+    let area = machine.x(AREA_AT);
     if STACK + 1024 <= area && area <= STACK_TOP - 1024 {
         run_exit(machine);
     }
@@ -76,7 +79,7 @@ fn leaves(machine: &mut Machine) {
 
 /// Enters a callee, where pc is ENTRY.
 fn enters(machine: &mut Machine) {
-    machine.set_x(528, AT);
+    machine.set_x(ENTRY_SP_AT, AT);
     let sp = machine.sp();
     if STACK + 1024 <= sp && sp <= STACK_TOP && machine.pc() == ENTRY {
         run_entry(machine);

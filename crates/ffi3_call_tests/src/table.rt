@@ -1,6 +1,6 @@
 //! Slots of closures on each target: made to the last, run, and freed.
 ghost use Rattle.std.specs.Prelude.{◌≤◌, ◌+◌};
-ghost use Rattle.ffi3_closures.specs.Slots.{HoldsMap};
+ghost use Rattle.ffi3_machine_spec.specs.Slots.{HoldsMap};
 
 use ffi3_closures::{Closure, Table, TableFull};
 use ffi3_machine::{CODE, CODE_END, ENTRY, Machine, NoMemory, STACK_TOP, Target};

@@ -15,8 +15,8 @@ use Rattle.ffi3_place_spec.specs.Agrees.{AgreesWithMachine}
 use Rattle.ffi3_place_spec.specs.Image.{register}
 use Rattle.ffi3_place_spec.specs.MachineRegisters.{link_register, pushed_bytes}
 use Rattle.ffi3_place_spec.specs.Standard.{Standard, block_bytes, frame_of, plan_of}
-use Rattle.ffi3_machine.specs.State.{HasReturnAddress, HasReturnAt, State, image_of, stack_at}
-use Rattle.ffi3_machine.specs.Stubs.{Exit}
+use Rattle.ffi3_machine_spec.specs.State.{HasReturnAddress, HasReturnAt, State, image_of, stack_at}
+use Rattle.ffi3_machine_spec.specs.Stubs.{Exit}
 use Rattle.ffi3_stubs.specs.Calls.{steps_of}
 use Rattle.ffi3_machine_transfer.specs.Passing.{by_exchange, passing, steps_if}
 use Rattle.ffi3_machine_transfer.specs.Stored.{WroteWithin, with_journal_of}

@@ -1,7 +1,7 @@
 -- Stretches of the stack in steps that record events, or change what stands beside the stack, put together.
 use Rattle.std.proofs.Common.{◌⊎◌, inl, inr, ℕ, ◌+◌, ◌<◌, ◌≤◌, refl, ◌∙◌, arith}
 use Rattle.ffi3_type_spec.specs.declared.limits.TheConstants.{STACK}
-use Rattle.ffi3_machine.specs.State.{State, scribbled}
+use Rattle.ffi3_machine_spec.specs.State.{State, scribbled}
 use Rattle.ffi3_machine_transfer.specs.Passing.{passing}
 use Rattle.ffi3_machine_transfer.specs.Stored.{WroteWithin, with_journal_of}
 

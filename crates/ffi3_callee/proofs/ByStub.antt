@@ -20,9 +20,10 @@ use Rattle.ffi3_place_spec.specs.ByStubs.{AgreesWithStubs}
 use Rattle.ffi3_place_spec.specs.Sound.{IsNoneOf, IsOneOf}
 use Rattle.ffi3_place_spec.proofs.Forbidden.{each_exists}
 use Rattle.ffi3_place_spec.proofs.Tests.{each_at}
-use Rattle.ffi3_memory.specs.Memory.{low_bytes, number_of}
-use Rattle.ffi3_machine.specs.State.{State, IsMachine, with_sp, with_x}
-use Rattle.ffi3_machine.specs.Stubs.{Entry}
+use Rattle.ffi3_machine_spec.specs.declared.stub.TheConstants.{ENTRY_SP_AT}
+use Rattle.ffi3_machine_spec.specs.Memory.{low_bytes, number_of}
+use Rattle.ffi3_machine_spec.specs.State.{State, IsMachine, with_sp, with_x}
+use Rattle.ffi3_machine_spec.specs.Stubs.{Entry}
 use Rattle.ffi3_stubs.specs.Effects.{held}
 use Rattle.ffi3_stubs.specs.Calls.{CameFromWords, HasEntered, WentToWords, steps_of}
 use Rattle.ffi3_machine_transfer.specs.Passing.{by_exchange, passing, passing_if}
@@ -137,20 +138,20 @@ falls old new low is = elim (cases_lt old low) [
   | inr more ↦ inr (omega (arith, is, more))
 ]
 
-pub entered_by_stub : (std : Standard) → AgreesWithMachine std → AgreesWithStubs std → (base block : ℕ) (hidden : Option Loc) (entry m : State) → IsMachine entry → std.target ≡ entry.target → base ≡ entry.sp + std.link → STACK + std.save ≤ entry.sp → entry.sp ≤ STACK_TOP → block ≤ entry.sp → AllByRecursion (IsOneOf (G (hidden_register (isa_of std.target)) ∷ [])) (to_list hidden) → by_exchange entry.target ≡ true → HasEntered (isa_of entry.target) (with_x 528 block entry) m → m.steps ≡ (entry.steps + steps_of (isa_of entry.target) Entry) % 2 ^ 64 → IsEntered std hidden block entry m
+pub entered_by_stub : (std : Standard) → AgreesWithMachine std → AgreesWithStubs std → (base block : ℕ) (hidden : Option Loc) (entry m : State) → IsMachine entry → std.target ≡ entry.target → base ≡ entry.sp + std.link → STACK + std.save ≤ entry.sp → entry.sp ≤ STACK_TOP → block ≤ entry.sp → AllByRecursion (IsOneOf (G (hidden_register (isa_of std.target)) ∷ [])) (to_list hidden) → by_exchange entry.target ≡ true → HasEntered (isa_of entry.target) (with_x ENTRY_SP_AT block entry) m → m.steps ≡ (entry.steps + steps_of (isa_of entry.target) Entry) % 2 ^ 64 → IsEntered std hidden block entry m
 entered_by_stub std agrees laws base block hidden entry m is same base_is low high block_low hidden_saved e says counted =
     let isa = isa_of std.target in
     let sized = is.exchange in
     let bytes : std.save ≡ area_bytes (isa_of std.target) = laws.area_size in
-    let s : HasEntered (isa_of std.target) (with_x 528 block entry) m = subst (λ k. HasEntered (isa_of k) (with_x 528 block entry) m) (sym same) says in
+    let s : HasEntered (isa_of std.target) (with_x ENTRY_SP_AT block entry) m = subst (λ k. HasEntered (isa_of k) (with_x ENTRY_SP_AT block entry) m) (sym same) says in
     let target : m.target ≡ entry.target = ap (λ q. q.target) s.rest in
     let went : WentToWords (entry.sp - std.save) (callee_saved_words (isa_of std.target) ++ G (hidden_register (isa_of std.target)) ∷ []) entry.general entry.floating m.stack = subst (λ n. WentToWords (entry.sp - n) (callee_saved_words (isa_of std.target) ++ G (hidden_register (isa_of std.target)) ∷ []) entry.general entry.floating m.stack) (sym bytes) s.saved in
     let mark : m.mark ≡ min entry.mark (entry.sp - std.save) = s.mark ∙ ap (λ n. min entry.mark (entry.sp - n)) (sym bytes) in
     record {
       saved = subst (λ ws. AreSaved (entry.sp - std.save) (entry.sp + std.link) hidden ws entry m) (sym laws.area) (words_saved (entry.sp + std.link) hidden entry m is (G (hidden_register (isa_of std.target))) (hidden_held (entry.sp + std.link) (hidden_register (isa_of std.target)) hidden entry (hidden_lies (isa_of std.target)) hidden_saved) (entry.sp - std.save) (callee_saved_words (isa_of std.target)) (spare_words (isa_of std.target)) (omega (arith, low)) (saved_are_registers (isa_of std.target)) (spare_only (isa_of std.target)) went);
-      arguments = subst (λ (b : Bool). AllByRecursion (λ l. SameAt 0 l entry (passing_if b m)) std.argument_registers) (ap by_exchange (sym target)) (each_with (IsPlace 0) (IsOneOf (entry_stores (isa_of std.target))) (λ l. SameAt 0 l entry (passing_if (by_exchange entry.target) m)) (λ l lies some. stored_as_passed (by_exchange entry.target) e (entry_stores (isa_of std.target)) entry (with_x 528 block entry) m is refl refl s.stored l lies some) std.argument_registers (machine_places (isa_of std.target) 0 std.argument_registers agrees.arguments_exist) laws.arguments_stored);
+      arguments = subst (λ (b : Bool). AllByRecursion (λ l. SameAt 0 l entry (passing_if b m)) std.argument_registers) (ap by_exchange (sym target)) (each_with (IsPlace 0) (IsOneOf (entry_stores (isa_of std.target))) (λ l. SameAt 0 l entry (passing_if (by_exchange entry.target) m)) (λ l lies some. stored_as_passed (by_exchange entry.target) e (entry_stores (isa_of std.target)) entry (with_x ENTRY_SP_AT block entry) m is refl refl s.stored l lies some) std.argument_registers (machine_places (isa_of std.target) 0 std.argument_registers agrees.arguments_exist) laws.arguments_stored);
       reserved = each_with (IsPlace 0) (IsNoneOf (entry_scratch (isa_of std.target))) (λ at. word_in STACK_TOP m at ≡ word_in STACK_TOP entry at) (λ l lies none. word_same STACK_TOP STACK_TOP l entry m lies (left_by (entry_scratch (isa_of std.target)) entry m s.others l lies none)) std.reserved (reserved_there std agrees) (subst (AllByRecursion (IsNoneOf (entry_scratch (isa_of std.target)))) (sym agrees.reserved) (reserved_not_entered (isa_of std.target)));
-      sp = s.sp ∙ told_there 528 block entry (omega (arith, sized)) (omega (arith, block_low, high));
+      sp = s.sp ∙ told_there ENTRY_SP_AT block entry (omega (arith, sized)) (omega (arith, block_low, high));
       within = record {
         size = s.size;
         outside = subst (λ n. (i : ℕ) → (STACK + i < entry.sp - n) ⊎ (entry.sp ≤ STACK + i) → get_or m.stack i 0 ≡ get_or entry.stack i 0) (sym bytes) s.outside;

@@ -22,7 +22,7 @@ use Rattle.ffi3_place_spec.specs.Holds.{OwnsArgument, OwnsArguments}
 use Rattle.ffi3_place_spec.specs.Sound.{IsSound, argument_locs}
 use Rattle.ffi3_place_spec.proofs.Elements.{argument_read}
 use Rattle.ffi3_type_spec.specs.declared.limits.TheConstants.{STACK, STACK_BYTES, STACK_TOP}
-use Rattle.ffi3_machine.specs.State.{State, stack_at, stored}
+use Rattle.ffi3_machine_spec.specs.State.{State, stack_at, stored}
 use Rattle.ffi3_machine_transfer.specs.Stored.{IsWritable, SameAt, WroteOnly, WroteWithin}
 use Rattle.ffi3_machine_transfer.specs.Standing.{IsReady, AreReady}
 use Rattle.ffi3_marshal.proofs.Arguments.{place_read}
@@ -30,7 +30,7 @@ use Rattle.ffi3_machine_transfer.proofs.Composing.{only_nothing, only_then, only
 use Rattle.ffi3_marshal.proofs.Lawful.{all_ready}
 use Rattle.ffi3_machine_transfer.proofs.Stepping.{same_word_in}
 use Rattle.ffi3_machine_transfer.proofs.Putting.{stored_inside, stored_within}
-use Rattle.ffi3_body.specs.SeenActivation.{block_offset, arguments_in}
+use Rattle.ffi3_semantics_spec.specs.SeenActivation.{block_offset, arguments_in}
 use Rattle.ffi3_body.proofs.Blocks.{offset-turn, whole_within, arguments_by_each}
 use Rattle.ffi3_callee.specs.Loaded.{AreFound, IsFound, IsRead, image_from}
 use Rattle.ffi3_callee.proofs.Placing.{stack_inside}

@@ -25,7 +25,7 @@ use Rattle.ffi3_place_spec.specs.StubRegisters.{hidden_register}
 use Rattle.ffi3_place_spec.specs.Sound.{IsOneOf, IsOnStackOrIn, IsSound, argument_locs, buffer_locs, copy_locs, hidden_locs, place_locs}
 use Rattle.ffi3_type_spec.specs.declared.limits.TheConstants.{STACK, STACK_BYTES, STACK_TOP}
 use Rattle.ffi3_type_spec.proofs.Placed.{faultless_is_plain}
-use Rattle.ffi3_machine.specs.State.{State, image_of, scribbled, stack_at, with_sp}
+use Rattle.ffi3_machine_spec.specs.State.{State, image_of, scribbled, stack_at, with_sp}
 use Rattle.ffi3_machine_transfer.specs.Passing.{passing}
 use Rattle.ffi3_machine_transfer.specs.Stored.{IsPlace, SameAt, WroteOnly, WroteWithin, with_journal_of}
 use Rattle.ffi3_machine_transfer.specs.Standing.{AreReady}
@@ -36,7 +36,7 @@ use Rattle.ffi3_machine_transfer.proofs.Tables.{one_of_each}
 use Rattle.ffi3_marshal.proofs.Lawful.{all_ready, call_places, each_first, each_rest}
 use Rattle.ffi3_machine_transfer.proofs.Owning.{image_word}
 use Rattle.ffi3_machine_transfer.proofs.Stepping.{same_word_in}
-use Rattle.ffi3_body.specs.SeenActivation.{arguments_in}
+use Rattle.ffi3_semantics_spec.specs.SeenActivation.{arguments_in}
 use Rattle.ffi3_place_spec.specs.declared.SaveWord.{SaveWord}
 use Rattle.ffi3_place_spec.specs.declared.SaveWord.TheVariants.{Register, Hidden as HiddenWord, Spare}
 use Rattle.ffi3_callee.specs.Loaded.{AreFound, image_from}

@@ -21,7 +21,7 @@ use Rattle.ffi3_place_spec.specs.Agrees.{AgreesWithMachine, given_back, saved_re
 use Rattle.ffi3_place_spec.specs.Holds.{Kept, SameIn}
 use Rattle.ffi3_place_spec.specs.Sound.{Apart, IsNoneOf, closed_to_results, piece_locs, result_locs}
 use Rattle.ffi3_place_spec.proofs.Tests.{each_weaker}
-use Rattle.ffi3_machine.specs.State.{State, image_of, returned, scribble_general, scribbled, scribbled_general, scribbled_register}
+use Rattle.ffi3_machine_spec.specs.State.{State, image_of, returned, scribble_general, scribbled, scribbled_general, scribbled_register}
 use Rattle.ffi3_machine.specs.Scribbled.{get_or-scribbled_general, length-scribbled_general}
 use Rattle.ffi3_machine_transfer.specs.Stored.{IsPlace, word_in}
 use Rattle.ffi3_marshal.proofs.Lawful.{across_none, each_first, each_join, each_rest, machine_places}

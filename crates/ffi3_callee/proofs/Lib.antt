@@ -7,10 +7,6 @@ pub mod Return
 pub mod Entry
 pub mod Laws
 pub mod Keeping
-pub mod StillOwned
-pub mod Overwriting
-pub mod Poisoned
-pub mod Searching
 pub mod Beside
 pub mod OwnKept
 pub mod Whole

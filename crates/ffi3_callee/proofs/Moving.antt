@@ -19,7 +19,7 @@ use Rattle.ffi3_place_spec.proofs.Tests.{each_at}
 use Rattle.ffi3_cif.specs.declared.runs.Run.{Run}
 use Rattle.ffi3_cif.specs.Runs.{AreRunsOf, Copies, Neighbours, OneCopies, Rises, run_at, run_then, stack_runs}
 use Rattle.ffi3_type_spec.specs.declared.limits.TheConstants.{STACK}
-use Rattle.ffi3_machine.specs.State.{State, stack_at, stored}
+use Rattle.ffi3_machine_spec.specs.State.{State, stack_at, stored}
 use Rattle.ffi3_machine_transfer.specs.Stored.{AreBytesOf, WroteOnly, byte_of, stack_byte}
 use Rattle.ffi3_machine_transfer.specs.Runs.{RunLies}
 use Rattle.ffi3_machine_transfer.proofs.Composing.{only_nothing, only_then, only_wider, same_byte}

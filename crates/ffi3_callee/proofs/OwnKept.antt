@@ -8,7 +8,7 @@ use Rattle.ffi3_place_spec.specs.declared.Res.{Res}
 use Rattle.ffi3_place_spec.specs.declared.Res.TheVariants.{Nothing, Direct, Hidden}
 use Rattle.ffi3_place_spec.specs.Standard.{Standard}
 use Rattle.ffi3_place_spec.specs.Agrees.{AgreesWithMachine}
-use Rattle.ffi3_machine.specs.State.{State, IsMachine}
+use Rattle.ffi3_machine_spec.specs.State.{State, IsMachine}
 use Rattle.ffi3_machine_transfer.specs.Passing.{by_exchange, passing, passing_if}
 use Rattle.ffi3_machine_transfer.specs.Stored.{IsPlace, SameAt, WroteOnly, word_in}
 use Rattle.ffi3_machine_transfer.proofs.Passing.{own_general, own_register}

@@ -13,7 +13,7 @@ use Rattle.ffi3_place_spec.specs.Holds.{leaf_bytes, Carries, StandsInPieces, Lea
 use Rattle.ffi3_place_spec.specs.Sound.{CoversLeaf, HaveAll, IsPieceOf, piece_locs, IsWithin}
 use Rattle.ffi3_place_spec.proofs.Tests.{each_weaker}
 use Rattle.ffi3_type_spec.specs.declared.limits.TheConstants.{STACK}
-use Rattle.ffi3_machine.specs.State.{State, stack_at, with_sp}
+use Rattle.ffi3_machine_spec.specs.State.{State, stack_at, with_sp}
 use Rattle.ffi3_machine_transfer.specs.Stored.{IsPlace, word_in}
 use Rattle.ffi3_machine_transfer.proofs.Owning.{image_byte}
 use Rattle.ffi3_place_spec.proofs.Reading.{LeavesRead, ReadsLeaf, reads}

@@ -22,7 +22,7 @@ use Rattle.ffi3_place_spec.specs.Standard.{Standard, ResultSpot, no_result, in_r
 use Rattle.ffi3_place_spec.specs.Holds.{leaf_bytes, FillsAs, FillsResult, HoldsResult, OwnsResult, RegisterHolds}
 use Rattle.ffi3_place_spec.specs.Sound.{ResultHasAll, piece_locs, result_locs}
 use Rattle.ffi3_type_spec.specs.declared.limits.TheConstants.{STACK, STACK_BYTES, STACK_TOP}
-use Rattle.ffi3_machine.specs.State.{State, stack_at, with_sp}
+use Rattle.ffi3_machine_spec.specs.State.{State, stack_at, with_sp}
 use Rattle.ffi3_machine_transfer.specs.Stored.{IsByteOf, IsPlace, byte_of, word_in, KeepsPadding, KeepsUnused, Stays, WroteWithin}
 use Rattle.ffi3_machine_transfer.specs.Standing.{PiecesStand, IsReady}
 use Rattle.ffi3_marshal.proofs.Arguments.{lies_more}

@@ -15,7 +15,7 @@ use Rattle.ffi3_place_spec.specs.Holds.{HoldsResult}
 use Rattle.ffi3_place_spec.specs.Sound.{IsNoneOf, result_locs}
 use Rattle.ffi3_place_spec.specs.MachineRegisters.{to_list}
 use Rattle.ffi3_type_spec.specs.declared.limits.TheConstants.{STACK, STACK_TOP}
-use Rattle.ffi3_machine.specs.State.{State, with_sp}
+use Rattle.ffi3_machine_spec.specs.State.{State, with_sp}
 use Rattle.ffi3_machine_transfer.specs.Stored.{IsPlace, word_in, WroteWithin}
 use Rattle.ffi3_place_spec.specs.declared.SaveWord.{SaveWord}
 use Rattle.ffi3_place_spec.proofs.OnMachine.{IsSoundOnMachine}

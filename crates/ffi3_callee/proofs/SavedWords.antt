@@ -10,7 +10,7 @@ use Rattle.ffi3_place_spec.specs.Sound.{Apart, IsNoneOf}
 use Rattle.ffi3_place_spec.proofs.Tests.{each_at}
 use Rattle.ffi3_type_spec.specs.declared.limits.TheConstants.{STACK, STACK_BYTES, STACK_TOP}
 use Rattle.ffi3_place_spec.specs.Agrees.{saved_registers}
-use Rattle.ffi3_machine.specs.State.{State, stored}
+use Rattle.ffi3_machine_spec.specs.State.{State, stored}
 use Rattle.ffi3_machine_transfer.specs.Stored.{IsPlace, SameAt, Stays, WroteOnly, WroteWithin, word_in}
 use Rattle.ffi3_machine_transfer.proofs.Composing.{only_nothing, only_then, only_wider, same_itself, same_then, wrote_nothing, wrote_then}
 use Rattle.ffi3_machine_transfer.proofs.Putting.{only_stored, stored_inside, stored_outside, word_there}

@@ -24,10 +24,11 @@ use Rattle.ffi3_place_spec.specs.Holds.{HoldsResult, Kept, SameIn}
 use Rattle.ffi3_place_spec.specs.Sound.{IsNoneOf, IsOneOf, IsSound, result_locs}
 use Rattle.ffi3_place_spec.proofs.Tests.{each_at}
 use Rattle.ffi3_place_spec.proofs.OnMachine.{as_before}
-use Rattle.ffi3_memory.specs.Memory.{number_of}
-use Rattle.ffi3_machine.specs.State.{State, HasReturnAddress, HasReturnAt, IsMachine, image_of, stack_at, with_x, x_of}
+use Rattle.ffi3_machine_spec.specs.declared.stub.TheConstants.{AREA_AT}
+use Rattle.ffi3_machine_spec.specs.Memory.{number_of}
+use Rattle.ffi3_machine_spec.specs.State.{State, HasReturnAddress, HasReturnAt, IsMachine, image_of, stack_at, with_x, x_of}
 use Rattle.ffi3_machine.specs.MachineStep.{even}
-use Rattle.ffi3_machine.specs.Stubs.{Exit, exchanged_at}
+use Rattle.ffi3_machine_spec.specs.Stubs.{Exit, exchanged_at}
 use Rattle.ffi3_stubs.specs.Calls.{HasLeft, left_to, steps_of, CameFromWords}
 use Rattle.ffi3_machine_transfer.specs.Passing.{by_exchange, passing, passing_if}
 use Rattle.ffi3_machine_transfer.specs.Stored.{IsPlace, SameAt, WroteWithin, with_journal_of, word_in}
@@ -78,9 +79,9 @@ module _ (std : Standard) (agrees : AgreesWithMachine std) (entry : ℕ) (before
 -- ---- through the stub Exit
 
 -- the return address, from its register or from the stack
-leads_back : (isa : Isa) (area entry : ℕ) (t after : State) (e : Image) → x_of 536 t ≡ area → area + area_bytes isa ≡ entry → AllByRecursion (λ at. word_in STACK_TOP after at ≡ register e at) (to_list (option_map G (link_register isa))) → HasReturnAt (link_register isa) e.general entry t.stack → left_to isa t after ≡ RETURN
+leads_back : (isa : Isa) (area entry : ℕ) (t after : State) (e : Image) → x_of AREA_AT t ≡ area → area + area_bytes isa ≡ entry → AllByRecursion (λ at. word_in STACK_TOP after at ≡ register e at) (to_list (option_map G (link_register isa))) → HasReturnAt (link_register isa) e.general entry t.stack → left_to isa t after ≡ RETURN
 leads_back Amd64 area entry t after e area_is whole given back =
-    let there : x_of 536 t + 56 ≡ entry = omega (arith, area_is, whole) in
+    let there : x_of AREA_AT t + 56 ≡ entry = omega (arith, area_is, whole) in
     ap (λ a. number_of 8 (stack_at a 8 t)) there ∙ ap (number_of 8) back.1
 leads_back Aarch64 area entry t after e area_is whole given back = given.0 ∙ back
 leads_back Riscv area entry t after e area_is whole given back = ap even (given.0 ∙ back)
@@ -105,19 +106,19 @@ both_ways : (b : Bool) → b ≡ true → b ≡ false → ⊥
 both_ways true e h = cc
 both_ways false e h = cc
 
-pub gone_by_stub : (std : Standard) → AgreesWithMachine std → AgreesWithStubs std → (area entry : ℕ) (m n : State) → IsMachine m → std.target ≡ m.target → area ≡ entry - std.save → STACK + std.save ≤ entry → entry ≤ STACK_TOP → by_exchange m.target ≡ true → HasLeft (isa_of m.target) (with_x 536 area m) n → n.steps ≡ (m.steps + steps_of (isa_of m.target) Exit) % 2 ^ 64 → HasGoneBack std entry m n
+pub gone_by_stub : (std : Standard) → AgreesWithMachine std → AgreesWithStubs std → (area entry : ℕ) (m n : State) → IsMachine m → std.target ≡ m.target → area ≡ entry - std.save → STACK + std.save ≤ entry → entry ≤ STACK_TOP → by_exchange m.target ≡ true → HasLeft (isa_of m.target) (with_x AREA_AT area m) n → n.steps ≡ (m.steps + steps_of (isa_of m.target) Exit) % 2 ^ 64 → HasGoneBack std entry m n
 gone_by_stub std agrees laws area entry m n is same area_is low high e says counted =
     let isa = isa_of std.target in
     let sized = is.exchange in
     let bytes : std.save ≡ area_bytes (isa_of std.target) = laws.area_size in
     let pushed : std.link ≡ pushed_bytes (isa_of std.target) = agrees.link in
-    let t : State = with_x 536 area m in
-    let s : HasLeft (isa_of std.target) (with_x 536 area m) n = subst (λ k. HasLeft (isa_of k) (with_x 536 area m) n) (sym same) says in
+    let t : State = with_x AREA_AT area m in
+    let s : HasLeft (isa_of std.target) (with_x AREA_AT area m) n = subst (λ k. HasLeft (isa_of k) (with_x AREA_AT area m) n) (sym same) says in
     let target : n.target ≡ m.target = ap (λ q. q.target) s.rest in
     let stack : n.stack ≡ m.stack = ap (λ q. q.stack) s.rest in
     let mark : n.mark ≡ m.mark = ap (λ q. q.mark) s.rest in
-    let fits : 536 + 8 ≤ length m.exchange = omega (arith, sized) in
-    let there : x_of 536 (with_x 536 area m) ≡ area = told_there 536 area m fits (omega (arith, area_is, high)) in
+    let fits : AREA_AT + 8 ≤ length m.exchange = omega (arith, sized) in
+    let there : x_of AREA_AT (with_x AREA_AT area m) ≡ area = told_there AREA_AT area m fits (omega (arith, area_is, high)) in
     let own : by_exchange n.target ≡ true = ap by_exchange target ∙ e in
     let whole : area + area_bytes (isa_of std.target) ≡ entry = omega (arith, bytes, area_is, low) in
     let came : CameFromWords area (callee_saved_words (isa_of std.target)) m.stack n = subst (λ a. CameFromWords a (callee_saved_words (isa_of std.target)) m.stack n) there s.restored in
@@ -125,10 +126,10 @@ gone_by_stub std agrees laws area entry m n is same area_is low high e says coun
     let sp : n.sp ≡ entry + std.link = s.sp ∙ ap (λ a. a + area_bytes (isa_of std.target) + pushed_bytes (isa_of std.target)) there ∙ ap (λ a. a + pushed_bytes (isa_of std.target)) whole ∙ ap (λ k. entry + k) (sym pushed) in
     record {
       given_back = given;
-      results = λ l lies some. loaded_as_passed (by_exchange m.target) e (result_loads (isa_of std.target)) m (with_x 536 area m) n (λ k there. told_below (exchanged_at k) 536 area m (omega (arith, place_low k there)) fits) s.loaded l lies (given_by_stub (by_exchange m.target) e std l some);
+      results = λ l lies some. loaded_as_passed (by_exchange m.target) e (result_loads (isa_of std.target)) m (with_x AREA_AT area m) n (λ k there. told_below (exchanged_at k) AREA_AT area m (omega (arith, place_low k there)) fits) s.loaded l lies (given_by_stub (by_exchange m.target) e std l some);
       others = λ l lies alone. left_by (exit_scratch (isa_of std.target) ++ (callee_saved_words (isa_of std.target) ++ result_loads (isa_of std.target))) m n s.others l lies (alone_by_stub (by_exchange m.target) e std l alone);
       sp = returned_there (by_exchange n.target) own n ∙ sp;
-      at_return = λ i hold back. at_return_by (by_exchange n.target) own n (s.pc ∙ leads_back (isa_of std.target) area entry (with_x 536 area m) n i there whole (link_given std agrees entry m n given i hold) back);
+      at_return = λ i hold back. at_return_by (by_exchange n.target) own n (s.pc ∙ leads_back (isa_of std.target) area entry (with_x AREA_AT area m) n i there whole (link_given std agrees entry m n given i hold) back);
       within = record {
         size = ap length stack;
         outside = λ i far. ap (λ xs. get_or xs i 0) stack;

@@ -5,8 +5,9 @@ use Rattle.std.proofs.lemmas.Bool.{cases_lt}
 use Rattle.std.proofs.lemmas.List.{drop_at, ext_get_or, get_or-drop, take_at}
 use Rattle.std.proofs.lemmas.Nat.{le_bytes_8}
 use Rattle.ffi3_type_spec.proofs.Parts.{index_part, length_part}
-use Rattle.ffi3_memory.specs.Memory.{number_of}
-use Rattle.ffi3_machine.specs.State.{State, AreBytes, IsMachine, scribbled}
+use Rattle.ffi3_machine_spec.specs.declared.stub.TheConstants.{REGISTERS_END}
+use Rattle.ffi3_machine_spec.specs.Memory.{number_of}
+use Rattle.ffi3_machine_spec.specs.State.{State, AreBytes, IsMachine, scribbled}
 use Rattle.ffi3_machine.proofs.Words.{bytes-drop, bytes-take}
 use Rattle.ffi3_machine_transfer.specs.Passing.{by_exchange, passing, passing_if, words_at}
 use Rattle.ffi3_machine_transfer.specs.Stored.{WroteOnly}
@@ -33,16 +34,16 @@ module _ (xs ys : List ℕ) (xs_bytes : AreBytes xs) (ys_bytes : AreBytes ys) (x
   same_byte from k r fits below h e =
       sym (index_part ys (from + 8 * k) 8 r h) ∙ ap (λ l. get_or l r 0) (same_word from k fits below e) ∙ index_part xs (from + 8 * k) 8 r h
 
-  by_words : words_at 0 ys ≡ words_at 0 xs → words_at 256 ys ≡ words_at 256 xs → drop 512 ys ≡ drop 512 xs → ys ≡ xs
+  by_words : words_at 0 ys ≡ words_at 0 xs → words_at 256 ys ≡ words_at 256 xs → drop REGISTERS_END ys ≡ drop REGISTERS_END xs → ys ≡ xs
   by_words low high rest =
       ext_get_or 0 ys xs (ys_long ∙ sym xs_long) (λ i h. elim (cases_lt i 256) [
         | inl first ↦ let there : 0 + 8 * (i / 8) + i % 8 ≡ i = omega arith in
             subst (λ n. get_or ys n 0 ≡ get_or xs n 0) there (same_byte 0 (i / 8) (i % 8) (omega arith) (omega (arith, first)) (omega arith) low)
-        | inr more ↦ elim (cases_lt i 512) [
+        | inr more ↦ elim (cases_lt i REGISTERS_END) [
           | inl second ↦ let there : 256 + 8 * ((i - 256) / 8) + (i - 256) % 8 ≡ i = omega (arith, more) in
               subst (λ n. get_or ys n 0 ≡ get_or xs n 0) there (same_byte 256 ((i - 256) / 8) ((i - 256) % 8) (omega arith) (omega (arith, more, second)) (omega arith) high)
-          | inr last ↦ let there : 512 + (i - 512) ≡ i = omega (arith, last) in
-              subst (λ n. get_or ys n 0 ≡ get_or xs n 0) there (sym (get_or-drop 512 ys (i - 512) 0) ∙ ap (λ l. get_or l (i - 512) 0) rest ∙ get_or-drop 512 xs (i - 512) 0)
+          | inr last ↦ let there : REGISTERS_END + (i - REGISTERS_END) ≡ i = omega (arith, last) in
+              subst (λ n. get_or ys n 0 ≡ get_or xs n 0) there (sym (get_or-drop REGISTERS_END ys (i - REGISTERS_END) 0) ∙ ap (λ l. get_or l (i - REGISTERS_END) 0) rest ∙ get_or-drop REGISTERS_END xs (i - REGISTERS_END) 0)
         ]
       ])
 
@@ -65,13 +66,13 @@ module _ (a b : State) (before : IsMachine a) (after : IsMachine b) where
 
   own_floating : (k : Bool) → (passing_if k b).floating ≡ (passing_if k a).floating → (passing_if k b).exchange ≡ (passing_if k a).exchange → b.floating ≡ a.floating
   own_floating true same behind =
-      same_first b.floating a.floating (drop 512 b.exchange) (drop 512 a.exchange) floating_long (same_rest b.general a.general (b.floating ++ drop 512 b.exchange) (a.floating ++ drop 512 a.exchange) general_long behind)
+      same_first b.floating a.floating (drop REGISTERS_END b.exchange) (drop REGISTERS_END a.exchange) floating_long (same_rest b.general a.general (b.floating ++ drop REGISTERS_END b.exchange) (a.floating ++ drop REGISTERS_END a.exchange) general_long behind)
   own_floating false same behind = same
 
   own_exchange : (k : Bool) → (passing_if k b).general ≡ (passing_if k a).general → (passing_if k b).floating ≡ (passing_if k a).floating → (passing_if k b).exchange ≡ (passing_if k a).exchange → b.exchange ≡ a.exchange
   own_exchange true low high behind =
-      let rest = same_rest b.general a.general (b.floating ++ drop 512 b.exchange) (a.floating ++ drop 512 a.exchange) general_long behind in
-      by_words a.exchange b.exchange before.exchange_bytes after.exchange_bytes before.exchange after.exchange low high (same_rest b.floating a.floating (drop 512 b.exchange) (drop 512 a.exchange) floating_long rest)
+      let rest = same_rest b.general a.general (b.floating ++ drop REGISTERS_END b.exchange) (a.floating ++ drop REGISTERS_END a.exchange) general_long behind in
+      by_words a.exchange b.exchange before.exchange_bytes after.exchange_bytes before.exchange after.exchange low high (same_rest b.floating a.floating (drop REGISTERS_END b.exchange) (drop REGISTERS_END a.exchange) floating_long rest)
   own_exchange false low high behind = behind
 
   pub only_written : (low high : ℕ) → WroteOnly low high (passing a) (passing b) → b ≡ record a { stack = b.stack; mark = b.mark }

@@ -8,8 +8,8 @@ use Rattle.ffi3_type_spec.specs.declared.limits.TheConstants.{STACK}
 use Rattle.ffi3_place_spec.specs.Standard.{Standard, block_bytes, plan_of}
 use Rattle.ffi3_place_spec.specs.declared.Res.{Res}
 use Rattle.ffi3_place_spec.specs.declared.Res.TheVariants.{Nothing, Direct, Hidden}
-use Rattle.ffi3_machine.specs.State.{State, HasReturnAddress}
-use Rattle.ffi3_machine.specs.Stubs.{Entry, Exit}
+use Rattle.ffi3_machine_spec.specs.State.{State, HasReturnAddress}
+use Rattle.ffi3_machine_spec.specs.Stubs.{Entry, Exit}
 use Rattle.ffi3_stubs.specs.Calls.{steps_of}
 use Rattle.ffi3_machine_transfer.specs.Passing.{by_exchange, steps_if}
 use Rattle.ffi3_callee.specs.GoneBack.{IsAtReturn}

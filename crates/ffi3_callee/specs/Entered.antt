@@ -4,8 +4,9 @@ use Rattle.std.specs.List.{AllByRecursion}
 use Rattle.ffi3_type_spec.specs.TargetIsa.{isa_of}
 use Rattle.ffi3_place_spec.specs.declared.Loc.{Loc}
 use Rattle.ffi3_place_spec.specs.Standard.{Standard}
-use Rattle.ffi3_machine.specs.State.{State, with_sp, with_x}
-use Rattle.ffi3_machine.specs.Stubs.{Entry}
+use Rattle.ffi3_machine_spec.specs.declared.stub.TheConstants.{ENTRY_SP_AT}
+use Rattle.ffi3_machine_spec.specs.State.{State, with_sp, with_x}
+use Rattle.ffi3_machine_spec.specs.Stubs.{Entry}
 use Rattle.ffi3_stubs.specs.Calls.{after_entry, steps_of}
 use Rattle.ffi3_machine_transfer.specs.Passing.{by_exchange, passing, steps_if}
 use Rattle.ffi3_machine_transfer.specs.Stored.{SameAt, WroteWithin, with_journal_of}
@@ -14,7 +15,7 @@ use Rattle.ffi3_callee.specs.Saved.{AreSaved, with_saved}
 
 -- the machine in the callee, whose block begins at an address: through the stub Entry, which is told that address, or by saving word after word
 abbrev pub entered_if : Bool → Standard → Option Loc → ℕ → State → State
-entered_if true std hidden block s = after_entry (isa_of s.target) (with_x 528 block s)
+entered_if true std hidden block s = after_entry (isa_of s.target) (with_x ENTRY_SP_AT block s)
 entered_if false std hidden block s =
     with_sp block (with_saved (s.sp - std.save) (s.sp + std.link) hidden 0 std.save_area s)
 

@@ -11,7 +11,7 @@ use Rattle.ffi3_place_spec.specs.Standard.{Standard}
 use Rattle.ffi3_place_spec.specs.Sound.{IsNoneOf, piece_locs}
 use Rattle.ffi3_place_spec.specs.MachineRegisters.{to_list}
 use Rattle.ffi3_type_spec.specs.declared.limits.TheConstants.{STACK_TOP}
-use Rattle.ffi3_machine.specs.State.{State}
+use Rattle.ffi3_machine_spec.specs.State.{State}
 use Rattle.ffi3_machine_transfer.specs.Stored.{IsPlace, word_in, IsWritable, KeepsPadding, KeepsUnused, WroteWithin}
 
 -- where there is such a register, it is one of 32 to which writes are not dropped

@@ -9,8 +9,9 @@ use Rattle.ffi3_place_spec.specs.Image.{Image, register}
 use Rattle.ffi3_place_spec.specs.Standard.{Standard}
 use Rattle.ffi3_place_spec.specs.Agrees.{saved_registers}
 use Rattle.ffi3_place_spec.specs.Sound.{IsNoneOf, IsOneOf}
-use Rattle.ffi3_machine.specs.State.{State, HasReturnAddress, HasReturnAt, returned, with_pc, with_sp, with_x}
-use Rattle.ffi3_machine.specs.Stubs.{Exit, stub_at}
+use Rattle.ffi3_machine_spec.specs.declared.stub.TheConstants.{AREA_AT}
+use Rattle.ffi3_machine_spec.specs.State.{State, HasReturnAddress, HasReturnAt, returned, with_pc, with_sp, with_x}
+use Rattle.ffi3_machine_spec.specs.Stubs.{Exit, stub_at}
 use Rattle.ffi3_stubs.specs.Calls.{after_exit, steps_of}
 use Rattle.ffi3_machine_transfer.specs.Passing.{by_exchange, passing, steps_if}
 use Rattle.ffi3_machine_transfer.specs.Stored.{IsPlace, SameAt, WroteWithin, with_journal_of}
@@ -19,7 +20,7 @@ use Rattle.ffi3_callee.specs.Saved.{AreGivenBack, HoldRegisters, with_given_back
 -- the machine that has gone back, whose sp at the entry was `entry`: through the stub Exit, which is told the save area's address, or by giving back word after word
 abbrev pub gone_back_if : Bool → Standard → (entry : ℕ) → State → State
 gone_back_if true std entry s =
-    after_exit (isa_of s.target) (with_pc (stub_at (isa_of s.target) Exit) (with_x 536 (entry - std.save) s))
+    after_exit (isa_of s.target) (with_pc (stub_at (isa_of s.target) Exit) (with_x AREA_AT (entry - std.save) s))
 gone_back_if false std entry s = with_sp entry (with_given_back (entry - std.save) 0 std.save_area s)
 
 -- the machine at its return: the stub Exit has returned; without stubs the machine's own return is still to be made

@@ -9,7 +9,7 @@ use Rattle.ffi3_place_spec.specs.declared.Place.TheVariants.{Direct, ByRef}
 use Rattle.ffi3_place_spec.specs.Image.{Image}
 use Rattle.ffi3_place_spec.specs.Holds.{Carries, OwnsArgument}
 use Rattle.ffi3_type_spec.specs.declared.limits.TheConstants.{STACK_TOP}
-use Rattle.ffi3_machine.specs.State.{State, image_of, with_sp}
+use Rattle.ffi3_machine_spec.specs.State.{State, image_of, with_sp}
 use Rattle.ffi3_machine_transfer.specs.Stored.{byte_of, word_in}
 use Rattle.ffi3_machine_transfer.specs.Standing.{PlaceLies}
 

@@ -7,7 +7,7 @@ use Rattle.ffi3_place_spec.specs.declared.Piece.{Piece}
 use Rattle.ffi3_place_spec.specs.Holds.{Carries}
 use Rattle.ffi3_cif.specs.declared.runs.Run.{Run}
 use Rattle.ffi3_cif.specs.Runs.{OneCopies}
-use Rattle.ffi3_machine.specs.State.{State}
+use Rattle.ffi3_machine_spec.specs.State.{State}
 use Rattle.ffi3_place_spec.specs.Sound.{IsWithin}
 use Rattle.ffi3_machine_transfer.specs.Stored.{WroteOnly, byte_of, stack_byte}
 use Rattle.ffi3_machine_transfer.specs.Runs.{RunLies}

@@ -9,9 +9,9 @@ use Rattle.ffi3_place_spec.specs.declared.Res.{Res}
 use Rattle.ffi3_place_spec.specs.declared.Res.TheVariants.{Nothing, Direct, Hidden}
 use Rattle.ffi3_place_spec.specs.Standard.{Standard, block_bytes, frame_of, plan_of}
 use Rattle.ffi3_place_spec.specs.Holds.{Own}
-use Rattle.ffi3_machine.specs.State.{State, image_of, scribbled, stack_at}
-use Rattle.ffi3_body.specs.SeenActivation.{arguments_in}
-use Rattle.ffi3_machine.specs.Stubs.{Entry}
+use Rattle.ffi3_machine_spec.specs.State.{State, image_of, scribbled, stack_at}
+use Rattle.ffi3_semantics_spec.specs.SeenActivation.{arguments_in}
+use Rattle.ffi3_machine_spec.specs.Stubs.{Entry}
 use Rattle.ffi3_stubs.specs.Calls.{steps_of}
 use Rattle.ffi3_machine_transfer.specs.Passing.{by_exchange, steps_if}
 use Rattle.ffi3_machine_transfer.specs.Stored.{WroteWithin, with_journal_of}

@@ -7,7 +7,7 @@ use Rattle.ffi3_place_spec.specs.declared.Loc.{Loc}
 use Rattle.ffi3_place_spec.specs.declared.Loc.TheVariants.{G, F, S}
 use Rattle.ffi3_place_spec.specs.declared.SaveWord.{SaveWord}
 use Rattle.ffi3_place_spec.specs.declared.SaveWord.TheVariants.{Register, Hidden, Spare}
-use Rattle.ffi3_machine.specs.State.{State, stored, with_floating, with_general}
+use Rattle.ffi3_machine_spec.specs.State.{State, stored, with_floating, with_general}
 use Rattle.ffi3_machine_transfer.specs.Stored.{IsPlace, IsWritable, word_in}
 
 -- word i of those that stand one behind the other from an address on

@@ -5,7 +5,7 @@ ghost use Rattle.ffi3_type_spec.specs.Value.{ValueTree, fits};
 ghost use Rattle.ffi3_values.specs.ValueOf.{value_of};
 ghost use Rattle.ffi3_place_spec.specs.Standard.{block_bytes, frame_of};
 ghost use Rattle.ffi3_place_spec.specs.Holds.{HoldsResult, Kept};
-ghost use Rattle.ffi3_machine.specs.State.{image_of};
+ghost use Rattle.ffi3_machine_spec.specs.State.{image_of};
 ghost use Rattle.ffi3_callee.specs.Answered.{HasAnswered};
 ghost use Rattle.ffi3_callee.specs.GoneBack.{returned_by};
 ghost use Rattle.ffi3_callee.specs.Loaded.{image_from};
@@ -33,8 +33,7 @@ pub fn answer<A: Abi>(machine: &mut Machine, cif: &Cif<A>, value: &Value)
     ensures sp { (returned_by machine.new).sp ≡ machine.old.sp + A.standard.link }
     ensures answered { HasAnswered A.standard cif.now machine.old machine.new }
 {
-    // its contract tells what is true of every machine
-    let _entry = machine.sp();
+    machine.facts();
     let incoming = receive(machine, cif);
     give_result(machine, cif, &incoming, value);
     go_back(machine, cif, incoming);

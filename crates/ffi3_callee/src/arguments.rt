@@ -5,7 +5,7 @@ ghost use Rattle.ffi3_type_spec.specs.declared.limits.TheConstants.{STACK, STACK
 ghost use Rattle.ffi3_type_spec.specs.Layout.{size_of};
 ghost use Rattle.ffi3_place_spec.specs.Sound.{PlaceHasAll, IsWithin};
 ghost use Rattle.ffi3_cif.specs.Runs.{AreRunsOf, Neighbours, Rises, pieces_of};
-ghost use Rattle.ffi3_machine.specs.State.{stack_at};
+ghost use Rattle.ffi3_machine_spec.specs.State.{stack_at};
 ghost use Rattle.ffi3_machine_transfer.specs.Passing.{passing};
 ghost use Rattle.ffi3_machine_transfer.specs.Stored.{IsPlace, WroteOnly};
 ghost use Rattle.ffi3_machine_transfer.specs.Runs.{RunLies};
@@ -28,8 +28,7 @@ fn copy_runs(machine: &mut Machine, base: StackBase, runs: &Runs, to: u64)
     requires rising { Neighbours Rises runs.now }
     ensures { AreRunsMoved base to runs.now (passing machine.old) (passing machine.new) }
 {
-    // its contract tells what is true of every machine
-    let _m = machine.sp();
+    machine.facts();
     let from = base.address();
     for i in (0..runs.len()).rev() {
         let run = runs.get(i);
@@ -55,8 +54,8 @@ fn copy_register(machine: &mut Machine, base: StackBase, piece: &Piece, to: u64)
     requires within { IsWithin (base - to) piece.now }
     ensures { IsPieceMoved base to piece.now (passing machine.old) (passing machine.new) }
 {
-    // their contracts tell what is true of every machine, and where the base lies
-    let _m = machine.sp();
+    machine.facts();
+    // its contract tells where the base lies
     let _at = base.address();
     if !is_on_stack(piece.loc) {
         let bytes = place_bytes(machine, base, piece.loc);
@@ -96,8 +95,8 @@ pub fn copy_argument(
     ensures read { IsRead base (passing machine.old) ty.now place.now (stack_at to (size_of ty.now) (passing machine.new)) }
     ensures only { WroteOnly to (to + size_of ty.now) (passing machine.old) (passing machine.new) }
 {
-    // their contracts tell what is true of every machine, and where the base lies
-    let _m = machine.sp();
+    machine.facts();
+    // its contract tells where the base lies
     let _at = base.address();
     match place {
         Place::Direct(pieces) => {

@@ -6,7 +6,7 @@ ghost use Rattle.ffi3_place_spec.specs.declared.Loc.{Loc};
 ghost use Rattle.ffi3_place_spec.specs.Agrees.{saved_registers};
 ghost use Rattle.ffi3_place_spec.specs.Standard.{frame_of};
 ghost use Rattle.ffi3_place_spec.specs.Holds.{HoldsResult, Kept};
-ghost use Rattle.ffi3_machine.specs.State.{State, image_of, returned, with_sp};
+ghost use Rattle.ffi3_machine_spec.specs.State.{State, image_of, returned, with_sp};
 ghost use Rattle.ffi3_machine_transfer.specs.Stored.{WroteWithin};
 ghost use Rattle.ffi3_callee.specs.Loaded.{image_from};
 ghost use Rattle.ffi3_callee.specs.Given.{RegistersStay, ReservedStay};

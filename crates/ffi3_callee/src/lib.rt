@@ -9,8 +9,8 @@ ghost use Rattle.ffi3_type_spec.specs.Layout.{size_of};
 ghost use Rattle.ffi3_type_spec.specs.Value.{ValueTree, value_in, void_value};
 ghost use Rattle.ffi3_place_spec.specs.Holds.{OwnsArguments};
 ghost use Rattle.ffi3_place_spec.specs.Standard.{block_bytes, frame_of, plan_of};
-ghost use Rattle.ffi3_machine.specs.State.{scribbled_floating, scribbled_general, stack_at};
-ghost use Rattle.ffi3_body.specs.SeenActivation.{arguments_in, block_offset};
+ghost use Rattle.ffi3_machine_spec.specs.State.{scribbled_floating, scribbled_general, stack_at};
+ghost use Rattle.ffi3_semantics_spec.specs.SeenActivation.{arguments_in, block_offset};
 ghost use Rattle.ffi3_machine_transfer.specs.Passing.{by_exchange, passing};
 ghost use Rattle.ffi3_machine_transfer.specs.Stored.{WroteOnly};
 ghost use Rattle.ffi3_callee.specs.Loaded.{AreFound, image_from};
@@ -21,8 +21,8 @@ ghost use Rattle.ffi3_callee.specs.Saved.{HiddenLies, hidden_word};
 mod activation;
 mod arguments;
 mod epilogue;
-mod poisoning;
 mod prologue;
+mod registers;
 mod return_path;
 mod returned_value;
 mod save_area;
@@ -36,8 +36,8 @@ use ffi3_machine_transfer::place_word;
 use ffi3_place::{Abi, Loc, Res};
 use ffi3_type_spec::round_up;
 use ffi3_types::CheckedSig;
-pub use poisoning::poison;
 use prologue::enter;
+pub use registers::set_register;
 pub use return_path::go_back;
 pub use returned_value::give_result;
 use std::marker::Model;
@@ -94,8 +94,7 @@ fn copy_arguments<A: Abi>(machine: &mut Machine, cif: &Cif<A>, base: StackBase, 
         arguments_in cif.now.arguments (stack_at block (block_bytes cif.now) (passing machine.new)) ≡ vs }
     ensures only { WroteOnly block (block + block_bytes cif.now) (passing machine.old) (passing machine.new) }
 {
-    // its contract tells what is true of every machine
-    let _m = machine.sp();
+    machine.facts();
     let sig = cif.checked_sig();
     let mut to = block;
     for i in 0..sig.count() {
@@ -153,11 +152,10 @@ pub fn receive<A: Abi>(machine: &mut Machine, cif: &Cif<A>) -> Incoming
     let block = entry - A::SAVE - cif.block();
     let hidden = hidden_place(cif.result_place());
     enter::<A>(machine, base, block, hidden);
-    // its contract tells what is true of every machine
-    let _entered = machine.sp();
+    machine.facts();
     let address = passed_address(machine, base, hidden);
     copy_arguments(machine, cif, base, block);
-    let _copied = machine.sp();
+    machine.facts();
     let number = machine.events().len() as u64;
     machine.scribble(number);
     Incoming {

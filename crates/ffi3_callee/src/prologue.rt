@@ -8,15 +8,16 @@ ghost use Rattle.ffi3_place_spec.specs.declared.Loc.TheVariants.{G};
 ghost use Rattle.ffi3_place_spec.specs.MachineRegisters.{to_list};
 ghost use Rattle.ffi3_place_spec.specs.StubRegisters.{area_bytes, hidden_register};
 ghost use Rattle.ffi3_place_spec.specs.Sound.{IsOneOf};
-ghost use Rattle.ffi3_machine.specs.State.{with_x};
-ghost use Rattle.ffi3_machine.specs.Stubs.{Entry};
+ghost use Rattle.ffi3_machine_spec.specs.declared.stub.TheConstants.{ENTRY_SP_AT};
+ghost use Rattle.ffi3_machine_spec.specs.State.{with_x};
+ghost use Rattle.ffi3_machine_spec.specs.Stubs.{Entry};
 ghost use Rattle.ffi3_stubs.specs.Calls.{HasEntered, after_entry, steps_of};
 ghost use Rattle.ffi3_machine_transfer.specs.Passing.{by_exchange};
 ghost use Rattle.ffi3_callee.specs.Entered.{IsEntered, entered_if};
 ghost use Rattle.ffi3_callee.specs.Saved.{HiddenLies};
 
 use crate::save_area::save_words;
-use ffi3_machine::{Machine, StackBase};
+use ffi3_machine::{ENTRY_SP_AT, Machine, StackBase};
 use ffi3_machine_transfer::by_exchange;
 use ffi3_place::{Abi, Loc};
 use ffi3_stubs::run_entry;
@@ -26,11 +27,11 @@ fn enter_by_stub(machine: &mut Machine, block: u64)
     requires entry { machine.old.pc ≡ ENTRY }
     requires low { STACK + area_bytes (isa_of machine.old.target) ≤ machine.old.sp }
     requires high { machine.old.sp ≤ STACK_TOP }
-    ensures whole { machine.new ≡ after_entry (isa_of machine.old.target) (with_x 528 block machine.old) }
-    ensures says { HasEntered (isa_of machine.old.target) (with_x 528 block machine.old) machine.new }
+    ensures whole { machine.new ≡ after_entry (isa_of machine.old.target) (with_x ENTRY_SP_AT block machine.old) }
+    ensures says { HasEntered (isa_of machine.old.target) (with_x ENTRY_SP_AT block machine.old) machine.new }
     ensures counted { machine.new.steps ≡ (machine.old.steps + steps_of (isa_of machine.old.target) Entry) % 2 ^ 64 }
 {
-    machine.set_x(528, block);
+    machine.set_x(ENTRY_SP_AT, block);
     run_entry(machine);
 }
 

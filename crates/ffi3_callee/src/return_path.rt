@@ -8,8 +8,9 @@ ghost use Rattle.ffi3_place_spec.specs.StubRegisters.{area_bytes};
 ghost use Rattle.ffi3_place_spec.specs.Image.{Image, register};
 ghost use Rattle.ffi3_place_spec.specs.Standard.{frame_of};
 ghost use Rattle.ffi3_place_spec.specs.Holds.{HoldsResult, Kept, SameIn};
-ghost use Rattle.ffi3_machine.specs.State.{image_of, with_pc, with_x};
-ghost use Rattle.ffi3_machine.specs.Stubs.{Exit, stub_at};
+ghost use Rattle.ffi3_machine_spec.specs.declared.stub.TheConstants.{AREA_AT};
+ghost use Rattle.ffi3_machine_spec.specs.State.{image_of, with_pc, with_x};
+ghost use Rattle.ffi3_machine_spec.specs.Stubs.{Exit, stub_at};
 ghost use Rattle.ffi3_stubs.specs.Calls.{HasLeft, after_exit, steps_of};
 ghost use Rattle.ffi3_machine_transfer.specs.Passing.{by_exchange, passing};
 ghost use Rattle.ffi3_callee.specs.Loaded.{image_from};
@@ -20,7 +21,7 @@ ghost use Rattle.ffi3_callee.specs.Saved.{HoldRegisters};
 
 use crate::{Incoming, restore};
 use ffi3_cif::Cif;
-use ffi3_machine::Machine;
+use ffi3_machine::{AREA_AT, Machine};
 use ffi3_machine_transfer::by_exchange;
 use ffi3_place::Abi;
 use ffi3_stubs::run_exit;
@@ -29,13 +30,12 @@ use ffi3_stubs::run_exit;
 fn leave_by_stub(machine: &mut Machine, area: u64)
     requires low { STACK ≤ area }
     requires high { area + area_bytes (isa_of machine.old.target) + pushed_bytes (isa_of machine.old.target) ≤ STACK_TOP }
-    ensures whole { machine.new ≡ after_exit (isa_of machine.old.target) (with_pc (stub_at (isa_of machine.old.target) Exit) (with_x 536 area machine.old)) }
-    ensures says { HasLeft (isa_of machine.old.target) (with_x 536 area machine.old) machine.new }
+    ensures whole { machine.new ≡ after_exit (isa_of machine.old.target) (with_pc (stub_at (isa_of machine.old.target) Exit) (with_x AREA_AT area machine.old)) }
+    ensures says { HasLeft (isa_of machine.old.target) (with_x AREA_AT area machine.old) machine.new }
     ensures counted { machine.new.steps ≡ (machine.old.steps + steps_of (isa_of machine.old.target) Exit) % 2 ^ 64 }
 {
-    // its contract tells what is true of every machine
-    let _m = machine.sp();
-    machine.set_x(536, area);
+    machine.facts();
+    machine.set_x(AREA_AT, area);
     run_exit(machine);
 }
 
@@ -46,8 +46,7 @@ fn go<A: Abi>(machine: &mut Machine, cif: &Cif<A>, incoming: Incoming)
     ensures whole { machine.new ≡ gone_back_if (by_exchange machine.old.target) A.standard incoming.entry machine.old }
     ensures back { HasGoneBack A.standard incoming.entry machine.old machine.new }
 {
-    // its contract tells what is true of every machine
-    let _m = machine.sp();
+    machine.facts();
     let exchanged = by_exchange(machine.target());
     if exchanged {
         let area = incoming.entry() - A::SAVE;

@@ -10,7 +10,7 @@ ghost use Rattle.ffi3_place_spec.specs.Holds.{HoldsResult};
 ghost use Rattle.ffi3_place_spec.specs.Sound.{result_locs};
 ghost use Rattle.ffi3_place_spec.specs.MachineRegisters.{to_list};
 ghost use Rattle.ffi3_type_spec.specs.declared.limits.TheConstants.{STACK, STACK_TOP};
-ghost use Rattle.ffi3_machine.specs.State.{State, stack_at};
+ghost use Rattle.ffi3_machine_spec.specs.State.{State, stack_at};
 ghost use Rattle.ffi3_machine_transfer.specs.Passing.{passing};
 ghost use Rattle.ffi3_machine_transfer.specs.Stored.{IsWritable, KeepsPadding, WroteOnly, WroteWithin};
 ghost use Rattle.ffi3_callee.specs.Loaded.{image_from};
@@ -44,8 +44,7 @@ fn give_buffer_by(
     ensures unused { KeepsPadding address ty.now (passing machine.old) (passing machine.new) }
     ensures only { WroteOnly address (address + size_of ty.now) (passing machine.old) (passing machine.new) }
 {
-    // its contract tells what is true of every machine
-    let _m = machine.sp();
+    machine.facts();
     let size = ty.size();
     bytes.copy_from_slice(machine.lend_stack(address, size));
     write_bytes(ty.as_type(), value, bytes);
@@ -79,8 +78,7 @@ fn tell_address(machine: &mut Machine, returned: Option<Loc>, address: u64)
     ensures within { WroteWithin STACK_TOP STACK_TOP (passing machine.old) (passing machine.new) }
     ensures sp { machine.new.sp ≡ machine.old.sp }
 {
-    // its contract tells what is true of every machine
-    let _m = machine.sp();
+    machine.facts();
     if let Some(at) = returned {
         put_word(machine, StackBase::at(STACK_TOP), at, address);
     }
@@ -109,8 +107,8 @@ fn give<A: Abi>(
     ensures writes { ResultWrites base cif.now.result_type (plan_of A.standard cif.now).res (passing machine.old) (passing machine.new) }
     ensures sp { machine.new.sp ≡ machine.old.sp }
 {
-    // their contracts tell what is true of every machine, and where the base lies
-    let _m = machine.sp();
+    machine.facts();
+    // its contract tells where the base lies
     let _at = base.address();
     let sig = cif.checked_sig();
     let ty = sig.ret();
@@ -138,12 +136,12 @@ pub fn give_result<A: Abi>(machine: &mut Machine, cif: &Cif<A>, incoming: &Incom
     ensures writes { ResultWrites (incoming.now.entry + A.standard.link) cif.now.result_type (plan_of A.standard cif.now).res (passing machine.old) (passing machine.new) }
     ensures sp { machine.new.sp ≡ machine.old.sp }
 {
-    // their contracts tell what is true of every interface and of every machine
+    // its contract tells what is true of every interface
     let _sig = cif.sig();
-    let _m = machine.sp();
+    machine.facts();
     let base = StackBase::at(incoming.entry() + A::LINK);
     let address = incoming.address();
     let returned = A::returned_address();
     give(machine, cif, base, address, returned, value);
-    let _given = machine.sp();
+    machine.facts();
 }

@@ -7,7 +7,7 @@ ghost use Rattle.ffi3_place_spec.specs.Agrees.{saved_registers};
 ghost use Rattle.ffi3_machine_transfer.specs.Stored.{Stays, WroteOnly, WroteWithin, word_in};
 ghost use Rattle.ffi3_callee.specs.Saved.{AreGivenBack, AreSaved, HiddenLies, IsRestorable, IsSaveable, hidden_word, saved_word, with_given_back, with_register, with_saved, with_word, word_to_save};
 
-use crate::poisoning;
+use crate::registers;
 use ffi3_machine::{Machine, StackBase};
 use ffi3_machine_transfer::own_word;
 use ffi3_place::{Abi, Loc, SaveWord};
@@ -62,8 +62,8 @@ pub fn save_words<A: Abi>(machine: &mut Machine, from: u64, base: StackBase, hid
     ensures saved { AreSaved from base hidden A.standard.save_area machine.old machine.new }
     ensures only { WroteOnly from (from + 8 * length A.standard.save_area) machine.old machine.new }
 {
-    // their contracts tell what is true of every machine, and where the base lies
-    let _m = machine.sp();
+    machine.facts();
+    // its contract tells where the base lies
     let _at = base.address();
     for i in 0..count_of_words::<A>() {
         let word = word_to_save(machine, base, hidden, word_at::<A>(i));
@@ -79,7 +79,7 @@ pub fn set_register(machine: &mut Machine, at: Loc, word: u64)
     ensures stays { Stays STACK_TOP (saved_registers (SaveWord.Register at ∷ [])) machine.old machine.new }
     ensures within { WroteWithin STACK_TOP STACK_TOP machine.old machine.new }
 {
-    poisoning::set_register(machine, at, word);
+    registers::set_register(machine, at, word);
 }
 
 // Sets the register of a word that has one.
@@ -91,8 +91,8 @@ fn restore_word(machine: &mut Machine, from: StackBase, i: u32, word: SaveWord)
     ensures stays { Stays STACK_TOP (saved_registers (word ∷ [])) machine.old machine.new }
     ensures within { WroteWithin STACK_TOP STACK_TOP machine.old machine.new }
 {
-    // their contracts tell what is true of every machine, and where the words lie
-    let _m = machine.sp();
+    machine.facts();
+    // its contract tells where the words lie
     let _at = from.address();
     if let SaveWord::Register(at) = word {
         let saved = own_word(machine, from, Loc::S(8 * i, 8));
@@ -109,8 +109,8 @@ pub fn restore_words<A: Abi>(machine: &mut Machine, from: StackBase)
     ensures stays { Stays STACK_TOP (saved_registers A.standard.save_area) machine.old machine.new }
     ensures within { WroteWithin STACK_TOP STACK_TOP machine.old machine.new }
 {
-    // their contracts tell what is true of every machine, and where the words lie
-    let _m = machine.sp();
+    machine.facts();
+    // its contract tells where the words lie
     let _at = from.address();
     for i in 0..count_of_words::<A>() {
         restore_word(machine, from, i as u32, word_at::<A>(i));

@@ -12,8 +12,9 @@ use Rattle.ffi3_place_spec.specs.declared.Loc.TheVariants.{G, F, S}
 use Rattle.ffi3_place_spec.specs.MachineRegisters.{link_place, link_register, to_list, pushed_bytes}
 use Rattle.ffi3_place_spec.specs.StubRegisters.{call_loads, call_scratch, exit_scratch, result_loads}
 use Rattle.ffi3_place_spec.specs.Sound.{IsNoneOf, IsOneOf}
-use Rattle.ffi3_machine.specs.State.{State, HasReturnAddress, HasReturnAt, IsMachine, IsSlot, called, linked_general, linked_stack, lowered, with_x, x_of}
-use Rattle.ffi3_machine.specs.Stubs.{Call, Return, exchanged_at}
+use Rattle.ffi3_machine_spec.specs.declared.stub.TheConstants.{CALLEE_AT, CALL_SP_AT, RETURN_SP_AT}
+use Rattle.ffi3_machine_spec.specs.State.{State, HasReturnAddress, HasReturnAt, IsMachine, IsSlot, called, linked_general, linked_stack, lowered, with_x, x_of}
+use Rattle.ffi3_machine_spec.specs.Stubs.{Call, Return, exchanged_at}
 use Rattle.ffi3_stubs.specs.Calls.{CameFromExchange, HasCalled, HasReturned, IsLinked, called_stack, steps_of, target_of}
 use Rattle.ffi3_machine_transfer.specs.Passing.{by_exchange, passing_if}
 use Rattle.ffi3_machine_transfer.specs.Stored.{IsPlace, SameAt}
@@ -26,34 +27,34 @@ use Rattle.ffi3_caller.specs.Called.{HasComeBack, IsCarried, IsLeft, IsPassedBac
 -- ---- a call by its stub
 
 module _ (addr : ℕ) (m : State) (is : IsMachine m) (slot : IsSlot addr) where
-  first_fits : 512 + 8 ≤ length m.exchange
+  first_fits : CALLEE_AT + 8 ≤ length m.exchange
   first_fits = let sized = is.exchange in omega (arith, sized)
 
-  second_fits : 520 + 8 ≤ length (with_x 512 addr m).exchange
-  second_fits = let sized = is.exchange in omega (arith, sized, told_length 512 addr m first_fits)
+  second_fits : CALL_SP_AT + 8 ≤ length (with_x CALLEE_AT addr m).exchange
+  second_fits = let sized = is.exchange in omega (arith, sized, told_length CALLEE_AT addr m first_fits)
 
-  told_slot : x_of 512 (told addr m) ≡ addr
+  told_slot : x_of CALLEE_AT (told addr m) ≡ addr
   told_slot =
-      told_below 512 520 m.sp (with_x 512 addr m) (omega arith) second_fits ∙ told_there 512 addr m first_fits (omega (arith, slot.1, slot.2))
+      told_below CALLEE_AT CALL_SP_AT m.sp (with_x CALLEE_AT addr m) (omega arith) second_fits ∙ told_there CALLEE_AT addr m first_fits (omega (arith, slot.1, slot.2))
 
-  told_sp : x_of 520 (told addr m) ≡ m.sp
-  told_sp = told_there 520 m.sp (with_x 512 addr m) second_fits is.sp_word
+  told_sp : x_of CALL_SP_AT (told addr m) ≡ m.sp
+  told_sp = told_there CALL_SP_AT m.sp (with_x CALLEE_AT addr m) second_fits is.sp_word
 
   told_register : (l : Loc) → IsPlace 0 l → x_of (exchanged_at l) (told addr m) ≡ x_of (exchanged_at l) m
   told_register l lies =
-      told_below (exchanged_at l) 520 m.sp (with_x 512 addr m) (omega (arith, place_low l lies)) second_fits ∙ told_below (exchanged_at l) 512 addr m (place_low l lies) first_fits
+      told_below (exchanged_at l) CALL_SP_AT m.sp (with_x CALLEE_AT addr m) (omega (arith, place_low l lies)) second_fits ∙ told_below (exchanged_at l) CALLEE_AT addr m (place_low l lies) first_fits
 
-  pub call_at_slot : (t : State) → t ≡ told addr m → IsSlot (x_of 512 t)
+  pub call_at_slot : (t : State) → t ≡ told addr m → IsSlot (x_of CALLEE_AT t)
   call_at_slot t t_is =
-      subst (λ (x : State). IsSlot (x_of 512 x)) (sym t_is) (subst IsSlot (sym told_slot) slot)
+      subst (λ (x : State). IsSlot (x_of CALLEE_AT x)) (sym t_is) (subst IsSlot (sym told_slot) slot)
 
-  pub call_low : (t : State) → t ≡ told addr m → STACK + pushed_bytes (isa_of m.target) ≤ m.sp → STACK + pushed_bytes (isa_of t.target) ≤ x_of 520 t
+  pub call_low : (t : State) → t ≡ told addr m → STACK + pushed_bytes (isa_of m.target) ≤ m.sp → STACK + pushed_bytes (isa_of t.target) ≤ x_of CALL_SP_AT t
   call_low t t_is low =
-      subst (λ (x : State). STACK + pushed_bytes (isa_of x.target) ≤ x_of 520 x) (sym t_is) (subst (λ (v : ℕ). STACK + pushed_bytes (isa_of m.target) ≤ v) (sym told_sp) low)
+      subst (λ (x : State). STACK + pushed_bytes (isa_of x.target) ≤ x_of CALL_SP_AT x) (sym t_is) (subst (λ (v : ℕ). STACK + pushed_bytes (isa_of m.target) ≤ v) (sym told_sp) low)
 
-  pub call_high : (t : State) → t ≡ told addr m → m.sp ≤ STACK_TOP → x_of 520 t ≤ STACK_TOP
+  pub call_high : (t : State) → t ≡ told addr m → m.sp ≤ STACK_TOP → x_of CALL_SP_AT t ≤ STACK_TOP
   call_high t t_is high =
-      subst (λ (x : State). x_of 520 x ≤ STACK_TOP) (sym t_is) (subst (λ (v : ℕ). v ≤ STACK_TOP) (sym told_sp) high)
+      subst (λ (x : State). x_of CALL_SP_AT x ≤ STACK_TOP) (sym t_is) (subst (λ (v : ℕ). v ≤ STACK_TOP) (sym told_sp) high)
 
 -- pc is a slot's address, which is even
 slot_even : (isa : Isa) (addr : ℕ) → IsSlot addr → target_of isa addr ≡ addr
@@ -94,7 +95,7 @@ called_by_stub addr m t n is slot t_is low high e says counted =
     let sized = is.stack in
     let s : HasCalled (isa_of m.target) (told addr m) n = subst (λ (x : State). HasCalled (isa_of x.target) x n) t_is says in
     let more : n.steps ≡ (m.steps + steps_of (isa_of m.target) Call) % 2 ^ 64 = subst (λ (x : State). n.steps ≡ (x.steps + steps_of (isa_of x.target) Call) % 2 ^ 64) t_is counted in
-    let at_sp : x_of 520 (told addr m) ≡ m.sp = told_sp addr m is slot in
+    let at_sp : x_of CALL_SP_AT (told addr m) ≡ m.sp = told_sp addr m is slot in
     let sp : n.sp ≡ m.sp - pushed_bytes (isa_of m.target) = s.sp ∙ ap (λ v. v - pushed_bytes (isa_of m.target)) at_sp in
     let stack : n.stack ≡ called_stack (isa_of m.target) m.sp m.stack = s.stack ∙ ap (λ v. called_stack (isa_of m.target) v m.stack) at_sp in
     let target : n.target ≡ m.target = ap (λ q. q.target) s.rest in
@@ -165,17 +166,17 @@ start_raised : (b : Bool) → b ≡ true → (frame : ℕ) (m n : State) → n.s
 start_raised true e frame m n sp = omega (arith, sp)
 start_raised false e frame m n sp = absurd cc
 
-pub back_by_stub : (frame v : ℕ) (m t n : State) → IsMachine m → v ≡ m.sp + frame → t ≡ with_x 544 v m → m.sp + frame ≤ STACK_TOP → by_exchange m.target ≡ true → HasReturned (isa_of t.target) t n → n.steps ≡ (t.steps + steps_of (isa_of t.target) Return) % 2 ^ 64 → HasComeBack frame m n
+pub back_by_stub : (frame v : ℕ) (m t n : State) → IsMachine m → v ≡ m.sp + frame → t ≡ with_x RETURN_SP_AT v m → m.sp + frame ≤ STACK_TOP → by_exchange m.target ≡ true → HasReturned (isa_of t.target) t n → n.steps ≡ (t.steps + steps_of (isa_of t.target) Return) % 2 ^ 64 → HasComeBack frame m n
 back_by_stub frame v m t n is v_is t_is top e says counted =
     let isa = isa_of m.target in
     let sized = is.exchange in
-    let s : HasReturned (isa_of m.target) (with_x 544 v m) n = subst (λ (x : State). HasReturned (isa_of x.target) x n) t_is says in
+    let s : HasReturned (isa_of m.target) (with_x RETURN_SP_AT v m) n = subst (λ (x : State). HasReturned (isa_of x.target) x n) t_is says in
     let more : n.steps ≡ (m.steps + steps_of (isa_of m.target) Return) % 2 ^ 64 = subst (λ (x : State). n.steps ≡ (x.steps + steps_of (isa_of x.target) Return) % 2 ^ 64) t_is counted in
-    let sp : n.sp ≡ m.sp + frame = s.sp ∙ told_there 544 v m (omega (arith, sized)) (omega (arith, v_is, top)) ∙ v_is in
+    let sp : n.sp ≡ m.sp + frame = s.sp ∙ told_there RETURN_SP_AT v m (omega (arith, sized)) (omega (arith, v_is, top)) ∙ v_is in
     let target : n.target ≡ m.target = ap (λ q. q.target) s.rest in
     let same : by_exchange m.target ≡ by_exchange n.target = ap by_exchange (sym target) in
     record {
-      passed = λ l lies some. subst (λ (b : Bool). SameAt 0 l m (passing_if b n)) same (stored_as_passed (by_exchange m.target) e (result_loads isa) m (with_x 544 v m) n is refl refl s.stored l lies (back_given (by_exchange m.target) e (isa_of m.target) l some));
+      passed = λ l lies some. subst (λ (b : Bool). SameAt 0 l m (passing_if b n)) same (stored_as_passed (by_exchange m.target) e (result_loads isa) m (with_x RETURN_SP_AT v m) n is refl refl s.stored l lies (back_given (by_exchange m.target) e (isa_of m.target) l some));
       others = λ l lies free. left_by (exit_scratch isa) m n s.others l lies (untouched_by_stub (by_exchange m.target) e (isa_of m.target) l free);
       start = subst (λ (b : Bool). frame_start_if b frame n ≡ m.sp) same (start_raised (by_exchange m.target) e frame m n sp);
       stack = ap (λ q. q.stack) s.rest;

@@ -22,7 +22,7 @@ use Rattle.ffi3_place_spec.specs.Standard.{Standard, plan_of, frame_of}
 use Rattle.ffi3_place_spec.specs.Agrees.{AgreesWithMachine, given_back, special}
 use Rattle.ffi3_place_spec.specs.Holds.{FillArguments, OwnsArguments, OwnsHidden, RegisterHolds}
 use Rattle.ffi3_place_spec.specs.Sound.{Apart, IsNoneOf, IsSound, PlacesHaveAll, argument_locs, buffer_locs, copy_locs, hidden_locs, closed_to_arguments, closed_to_results, place_locs, stack_words, stack_words_for}
-use Rattle.ffi3_machine.specs.State.{State, image_of, filled, stored, lowered, scribbled, scribbled_general, scribbled_register, with_sp}
+use Rattle.ffi3_machine_spec.specs.State.{State, image_of, filled, stored, lowered, scribbled, scribbled_general, scribbled_register, with_sp}
 use Rattle.ffi3_machine.specs.Scribbled.{get_or-scribbled_general}
 use Rattle.ffi3_machine_transfer.specs.Stored.{stack_byte, IsPlace, IsWritable, SameAt, Stays, WroteWithin}
 use Rattle.ffi3_machine_transfer.specs.Standing.{AllKeepUnused, AllStand, all_uses, HiddenStands}

@@ -6,7 +6,7 @@ use Rattle.ffi3_type_spec.specs.declared.limits.TheConstants.{STACK}
 use Rattle.ffi3_place_spec.specs.declared.Loc.{Loc}
 use Rattle.ffi3_place_spec.specs.declared.Loc.TheVariants.{G, F, S}
 use Rattle.ffi3_place_spec.specs.declared.Piece.{Piece}
-use Rattle.ffi3_machine.specs.State.{State, with_sp}
+use Rattle.ffi3_machine_spec.specs.State.{State, with_sp}
 use Rattle.ffi3_caller.specs.Called.{frame_start_if}
 use Rattle.ffi3_caller.specs.Loaded.{loaded, register_of, with_piece}
 

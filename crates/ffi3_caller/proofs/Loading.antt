@@ -11,7 +11,7 @@ use Rattle.ffi3_place_spec.specs.declared.Piece.{Piece}
 use Rattle.ffi3_place_spec.specs.Image.{Image, byte_at}
 use Rattle.ffi3_place_spec.specs.Holds.{Carries, StandsInPieces, LeavesStand}
 use Rattle.ffi3_place_spec.specs.Sound.{CoversLeaf, IsWithin}
-use Rattle.ffi3_machine.specs.State.{State, image_of}
+use Rattle.ffi3_machine_spec.specs.State.{State, image_of}
 use Rattle.ffi3_machine_transfer.specs.Stored.{IsPlace}
 use Rattle.ffi3_caller.specs.Loaded.{AreWithin, register_of, loaded, with_piece}
 use Rattle.ffi3_place_spec.proofs.Reading.{ReadsLeaf, LeavesRead}

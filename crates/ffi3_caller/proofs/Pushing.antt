@@ -25,7 +25,7 @@ use Rattle.ffi3_place_spec.specs.Holds.{OwnResult, OwnsArguments, OwnsHidden, Fi
 use Rattle.ffi3_place_spec.specs.Image.{register}
 use Rattle.ffi3_place_spec.specs.Sound.{Apart, IsNoneOf, IsOneOf, IsOnStackOrIn, IsSound, argument_locs, buffer_locs, closed_to_arguments, closed_to_results, copy_locs, hidden_locs, place_locs, result_locs}
 use Rattle.ffi3_place_spec.proofs.OnMachine.{IsSoundOnMachine}
-use Rattle.ffi3_machine.specs.State.{State, image_of, linked_stack, stack_at}
+use Rattle.ffi3_machine_spec.specs.State.{State, image_of, linked_stack, stack_at}
 use Rattle.ffi3_machine_transfer.specs.Passing.{by_exchange, passing}
 use Rattle.ffi3_machine_transfer.specs.Stored.{IsPlace, SameAt}
 use Rattle.ffi3_machine_transfer.proofs.Alike.{AreAlike, arguments_owned, arguments_filled, address_owned, count_held}

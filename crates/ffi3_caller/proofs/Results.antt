@@ -18,7 +18,7 @@ use Rattle.ffi3_place_spec.specs.Standard.{Standard, ResultSpot, no_result, in_r
 use Rattle.ffi3_place_spec.specs.Holds.{leaf_bytes, OwnResult, OwnsResult}
 use Rattle.ffi3_place_spec.specs.Sound.{LiesIn, HaveAll, IsPieceOf, ResultHasAll, piece_locs, result_locs, IsWithin}
 use Rattle.ffi3_place_spec.proofs.Tests.{each_weaker}
-use Rattle.ffi3_machine.specs.State.{State, image_of, stack_at}
+use Rattle.ffi3_machine_spec.specs.State.{State, image_of, stack_at}
 use Rattle.ffi3_machine_transfer.specs.Stored.{IsPlace}
 use Rattle.ffi3_marshal.proofs.Lawful.{machine_place}
 use Rattle.ffi3_caller.specs.Loaded.{AreWithin, loaded}

@@ -8,9 +8,10 @@ use Rattle.ffi3_place_spec.specs.StubRegisters.{call_loads, call_scratch, exit_s
 use Rattle.ffi3_place_spec.specs.MachineRegisters.{pushed_bytes}
 use Rattle.ffi3_place_spec.specs.StubRegisters.{result_loads}
 use Rattle.ffi3_place_spec.specs.Sound.{IsNoneOf, IsOneOf, IsOnStackOrIn}
-use Rattle.ffi3_machine.specs.State.{State, HasReturnAddress, called, filled, linked_stack, lowered, scribbled, with_pc}
-use Rattle.ffi3_machine.specs.State.{with_sp, with_x}
-use Rattle.ffi3_machine.specs.Stubs.{Call, Return, stub_at}
+use Rattle.ffi3_machine_spec.specs.declared.stub.TheConstants.{CALLEE_AT, CALL_SP_AT, RETURN_SP_AT}
+use Rattle.ffi3_machine_spec.specs.State.{State, HasReturnAddress, called, filled, linked_stack, lowered, scribbled, with_pc}
+use Rattle.ffi3_machine_spec.specs.State.{with_sp, with_x}
+use Rattle.ffi3_machine_spec.specs.Stubs.{Call, Return, stub_at}
 use Rattle.ffi3_stubs.specs.Calls.{after_call, after_return, steps_of}
 use Rattle.ffi3_machine_transfer.specs.Passing.{by_exchange, passing, steps_if}
 use Rattle.ffi3_machine_transfer.specs.Stored.{IsPlace, SameAt, word_in}
@@ -28,7 +29,7 @@ with_frame frame m = filled (m.sp - frame) frame 0xA5 (with_sp (m.sp - frame) (s
 
 -- what the stub Call is told beside what a call passes: the slot's address and the stack pointer
 abbrev pub told : ℕ → State → State
-told addr s = with_x 520 s.sp (with_x 512 addr s)
+told addr s = with_x CALL_SP_AT s.sp (with_x CALLEE_AT addr s)
 
 -- the machine after a call, through the stub Call or by its own call
 abbrev pub called_if : Bool → ℕ → State → State
@@ -68,7 +69,7 @@ pub record SlotIsCalled (addr : ℕ) (before after : State) : Type 0 where
 
 -- the machine back at the caller: the stub Return raises sp over the frame
 abbrev pub come_back_if : Bool → ℕ → State → State
-come_back_if true frame s = after_return (isa_of s.target) (with_x 544 (s.sp + frame) s)
+come_back_if true frame s = after_return (isa_of s.target) (with_x RETURN_SP_AT (s.sp + frame) s)
 come_back_if false frame s = s
 
 -- where the frame of a call then begins

@@ -10,7 +10,7 @@ ghost use Rattle.ffi3_place_spec.specs.Standard.{frame_of, plan_of};
 ghost use Rattle.ffi3_place_spec.specs.Holds.{FillArguments, OwnsArguments, OwnsHidden, RegisterHolds};
 ghost use Rattle.ffi3_place_spec.specs.Sound.{argument_locs, copy_locs, IsNoneOf};
 ghost use Rattle.ffi3_place_spec.specs.MachineRegisters.{to_list};
-ghost use Rattle.ffi3_machine.specs.State.{image_of, scribbled};
+ghost use Rattle.ffi3_machine_spec.specs.State.{image_of, scribbled};
 ghost use Rattle.ffi3_machine_transfer.specs.Passing.{passing};
 ghost use Rattle.ffi3_machine_transfer.specs.Stored.{stack_byte, IsPlace, IsWritable, SameAt, Stays, WroteWithin};
 ghost use Rattle.ffi3_machine_transfer.specs.Standing.{AllKeepUnused};
@@ -90,6 +90,5 @@ pub fn store_args<A: Abi>(machine: &mut Machine, cif: &Cif<A>, values: &Values)
     store_hidden(machine, base, cif.result_place());
     let count = A::vector_count();
     put_count(machine, base, count, cif.vectors() as u64);
-    // its contract tells what is true of every machine
-    let _last = machine.sp();
+    machine.facts();
 }

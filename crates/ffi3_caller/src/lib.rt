@@ -10,7 +10,7 @@ ghost use Rattle.ffi3_place_spec.specs.Holds.{OwnResult};
 ghost use Rattle.ffi3_place_spec.specs.Sound.{IsWithin};
 ghost use Rattle.ffi3_place_spec.specs.Standard.{need_of, frame_of};
 ghost use Rattle.ffi3_type_spec.specs.declared.limits.TheConstants.{STACK, STACK_TOP};
-ghost use Rattle.ffi3_machine.specs.State.{image_of};
+ghost use Rattle.ffi3_machine_spec.specs.State.{image_of};
 ghost use Rattle.ffi3_machine_transfer.specs.Passing.{by_exchange, passing};
 ghost use Rattle.ffi3_machine_transfer.specs.Stored.{IsPlace};
 ghost use Rattle.ffi3_caller.specs.Called.{at_frame, dropped_if, frame_start};

@@ -5,13 +5,13 @@ ghost use Rattle.ffi3_type_spec.specs.declared.limits.TheConstants.{RETURN, STAC
 ghost use Rattle.ffi3_type_spec.specs.Value.{ValueTree};
 ghost use Rattle.ffi3_place_spec.specs.Holds.{OwnResult};
 ghost use Rattle.ffi3_place_spec.specs.Standard.{frame_of};
-ghost use Rattle.ffi3_machine.specs.State.{image_of};
+ghost use Rattle.ffi3_machine_spec.specs.State.{image_of};
 ghost use Rattle.ffi3_machine_transfer.specs.Passing.{by_exchange};
 ghost use Rattle.ffi3_machine_transfer.specs.Stored.{SameAt};
 ghost use Rattle.ffi3_caller.specs.Called.{HasComeBack, at_frame, come_back_if};
 
 use ffi3_cif::Cif;
-use ffi3_machine::Machine;
+use ffi3_machine::{Machine, RETURN_SP_AT};
 use ffi3_machine_transfer::by_exchange;
 use ffi3_place::Abi;
 use ffi3_stubs::run_return;
@@ -26,7 +26,7 @@ fn come_over(machine: &mut Machine, frame: u64)
     let sp = machine.sp();
     let exchanged = by_exchange(machine.target());
     if exchanged {
-        machine.set_x(544, sp + frame);
+        machine.set_x(RETURN_SP_AT, sp + frame);
         run_return(machine);
     }
 }

@@ -7,13 +7,13 @@ ghost use Rattle.ffi3_type_spec.specs.Value.{ValueTree};
 ghost use Rattle.ffi3_place_spec.specs.MachineRegisters.{pushed_bytes};
 ghost use Rattle.ffi3_place_spec.specs.Holds.{FillArguments, Holds, OwnsArguments, OwnsHidden, RegisterHolds};
 ghost use Rattle.ffi3_place_spec.specs.Standard.{frame_of, plan_of};
-ghost use Rattle.ffi3_machine.specs.State.{image_of, IsSlot};
+ghost use Rattle.ffi3_machine_spec.specs.State.{image_of, IsSlot};
 ghost use Rattle.ffi3_machine_transfer.specs.Passing.{by_exchange, passing};
 ghost use Rattle.ffi3_machine_transfer.specs.Stored.{SameAt};
 ghost use Rattle.ffi3_caller.specs.Called.{SlotIsCalled, called_if, told};
 
 use ffi3_cif::Cif;
-use ffi3_machine::Machine;
+use ffi3_machine::{CALL_SP_AT, CALLEE_AT, Machine};
 use ffi3_machine_transfer::by_exchange;
 use ffi3_place::Abi;
 use ffi3_stubs::run_call;
@@ -23,8 +23,8 @@ fn tell(machine: &mut Machine, addr: u64)
     ensures { machine.new ≡ told addr machine.old }
 {
     let sp = machine.sp();
-    machine.set_x(512, addr);
-    machine.set_x(520, sp);
+    machine.set_x(CALLEE_AT, addr);
+    machine.set_x(CALL_SP_AT, sp);
 }
 
 // Calls a slot with what stands in the registers that a call passes.
@@ -35,8 +35,7 @@ fn call_slot(machine: &mut Machine, addr: u64)
     ensures whole { machine.new ≡ called_if (by_exchange machine.old.target) addr machine.old }
     ensures called { SlotIsCalled addr machine.old machine.new }
 {
-    // its contract tells what is true of every machine
-    let _sp = machine.sp();
+    machine.facts();
     let exchanged = by_exchange(machine.target());
     if exchanged {
         tell(machine, addr);
@@ -65,8 +64,8 @@ pub fn call<A: Abi>(machine: &mut Machine, cif: &Cif<A>, addr: u64)
         RegisterHolds (image_of (frame_of A.standard cif.now) (passing machine.old)) A.standard.vector_count (plan_of A.standard cif.now).vectors →
         Holds A.standard cif.now values (image_of (A.standard.link + frame_of A.standard cif.now) machine.new) }
 {
-    // their contracts tell what is true of every interface and of every machine
+    // its contract tells what is true of every interface
     let _sig = cif.sig();
-    let _sp = machine.sp();
+    machine.facts();
     call_slot(machine, addr);
 }

@@ -8,7 +8,7 @@ use Rattle.ffi3_cdecl_spec.specs.Tokens.{wide, Sign}
 use Rattle.ffi3_cdecl_spec.specs.Reading.{bad_token, unexpected, bad_number, bad_signature, IsReadingIn}
 use Rattle.ffi3_cdecl_spec.specs.Reasons.{Told, IsTold}
 use Rattle.ffi3_cdecl_spec.specs.Telling.{tell}
-use Rattle.ffi3_cdecl.specs.ReadingFor.{IsReadingFor}
+use Rattle.ffi3_cdecl_spec.specs.ReadingFor.{IsReadingFor}
 use Rattle.ffi3_diagnostics.specs.declared.expected.Expected.{Expected}
 use Rattle.ffi3_diagnostics.specs.ToldOf.{expected_of, kinds_of}
 use Rattle.ffi3_capi.specs.declared.codes.TheConstants.{DONE, NOT_DECLARED}

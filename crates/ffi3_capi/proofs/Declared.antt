@@ -7,8 +7,8 @@ use Rattle.ffi3_cdecl_spec.specs.Reading.{Outcome, reads, bad_token, unexpected,
 use Rattle.ffi3_cdecl_spec.specs.Tokens.{wide, Sign}
 use Rattle.ffi3_cdecl.specs.declared.fault.DeclFault.{DeclFault}
 use Rattle.ffi3_cdecl.specs.declared.fault.DeclFault.TheVariants.{BadToken, Unexpected, BadNumber, Sig, NoMemory}
-use Rattle.ffi3_cdecl.specs.ReadingFor.{IsReadingFor, IsJudgedFor, is_placed, has_bad_signature, is_judged}
-use Rattle.ffi3_cdecl.specs.ReadingFor.{has_bad_token as no_token, has_unexpected as no_place, has_bad_number as no_number}
+use Rattle.ffi3_cdecl_spec.specs.ReadingFor.{IsReadingFor, IsJudgedFor, is_placed, has_bad_signature, is_judged}
+use Rattle.ffi3_cdecl_spec.specs.ReadingFor.{has_bad_token as no_token, has_unexpected as no_place, has_bad_number as no_number}
 use Rattle.ffi3_cdecl.specs.Tells.{Tells}
 use Rattle.ffi3_format_spec.specs.declared.Format.{Format}
 use Rattle.ffi3_capi.specs.declared.fault.TextFault.{TextFault}

@@ -7,7 +7,7 @@ use Rattle.ffi3_cdecl_spec.specs.Tokens.{wide}
 use Rattle.ffi3_cdecl_spec.specs.Reading.{bad_token, unexpected, bad_number, bad_signature, IsReadingIn}
 use Rattle.ffi3_cdecl_spec.specs.Reasons.{Told, IsTold}
 use Rattle.ffi3_cdecl_spec.specs.Telling.{tell}
-use Rattle.ffi3_cdecl.specs.ReadingFor.{IsReadingFor}
+use Rattle.ffi3_cdecl_spec.specs.ReadingFor.{IsReadingFor}
 use Rattle.ffi3_diagnostics_spec.specs.Positions.{placed_words}
 use Rattle.ffi3_diagnostics_spec.specs.ToldText.{told_words, lines_at}
 use Rattle.ffi3_capi.specs.declared.fault.TextFault.{TextFault}

@@ -11,3 +11,4 @@ pub mod Results
 pub mod OneByOne
 pub mod Checks
 pub mod InLines
+pub mod NoLongDouble

@@ -7,7 +7,7 @@ use Rattle.ffi3_type_spec.specs.Signature.{bad_type, bad_fixed, bad_argument_typ
 use Rattle.ffi3_cdecl_spec.specs.Reading.{Outcome, reads, bad_token, unexpected, bad_number, bad_signature, IsReadingIn}
 use Rattle.ffi3_cdecl_spec.specs.Tokens.{wide, Sign}
 use Rattle.ffi3_format_spec.specs.declared.Format.{Format}
-use Rattle.ffi3_cdecl.specs.ReadingFor.{IsReadingFor}
+use Rattle.ffi3_cdecl_spec.specs.ReadingFor.{IsReadingFor}
 use Rattle.ffi3_capi.specs.declared.codes.TheConstants.{RESULT_PART}
 use Rattle.ffi3_capi.specs.declared.fault.TextFault.{TextFault}
 use Rattle.ffi3_capi.specs.declared.fault.FaultKind.{FaultKind}

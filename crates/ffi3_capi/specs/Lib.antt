@@ -21,3 +21,4 @@ pub mod Formats
 pub mod OnTarget
 pub mod CheckedText
 pub mod FaultLines
+pub mod NoLongDouble

@@ -3,7 +3,7 @@ ghost use Rattle.std.specs.Prelude.{◌≡◌, ◌≤◌, IfOk, IsSome, IsUtf8, 
 ghost use Rattle.ffi3_cdecl_spec.specs.Tokens.{wide};
 ghost use Rattle.ffi3_cdecl_spec.specs.Reading.{IsReadingIn, unexpected};
 ghost use Rattle.ffi3_cdecl.specs.TokenOf.{sign_of};
-ghost use Rattle.ffi3_cdecl.specs.ReadingFor.{IsReadingFor};
+ghost use Rattle.ffi3_cdecl_spec.specs.ReadingFor.{IsReadingFor};
 ghost use Rattle.ffi3_cdecl.specs.Tells.{Tells};
 ghost use Rattle.ffi3_diagnostics.specs.ToldOf.{expected_of, kinds_of, base_of, reason_or_not, told_of};
 ghost use Rattle.ffi3_capi.specs.Chars.{char_sign};

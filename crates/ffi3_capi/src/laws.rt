@@ -1,5 +1,6 @@
-// What the pieces of every value keep, for callers to cite.
+// What the pieces of every value keep, and what holds where no long double is told, for callers to cite.
 ghost use Rattle.ffi3_capi.specs.Carried.{TellsTheSameBytes};
+ghost use Rattle.ffi3_capi.specs.NoLongDouble.{NoLongDoubleLaws};
 
 use ffi3_place::Pieces;
 
@@ -8,4 +9,13 @@ use ffi3_place::Pieces;
 #[tactic(auto, using(crate::proofs::Carried::tells_the_same_bytes))]
 pub fn piece_laws(_pieces: &Pieces)
     ensures { TellsTheSameBytes _pieces.now }
+{}
+
+/// Does nothing. Its contract says that a signature without long doubles of 16 bytes can be placed where it can be
+/// called, and has the same first fault for both; and that text or nodes which tell no long double declare the same
+/// function for a target as for none, or have the same fault. So for these each contract with a target says what it
+/// would say without formats.
+#[tactic(auto, using(crate::proofs::NoLongDouble::no_long_double_laws))]
+pub fn no_long_double_laws()
+    ensures { NoLongDoubleLaws }
 {}

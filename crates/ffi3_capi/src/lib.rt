@@ -31,7 +31,7 @@ pub use entry::{EntryArguments, Found, Unread, arguments, find_arguments};
 pub use fault::{FaultKind, TextFault, fault_with};
 pub use ffi3_nodes::Node;
 pub use ffi3_transfer::Registers;
-pub use laws::piece_laws;
+pub use laws::{no_long_double_laws, piece_laws};
 pub use layouts::{Laid, LaidLeaf, LaidType, find_layout, layout, layout_for};
 pub use lines::fault_lines;
 pub use natural::{check_layout, check_layout_for};

@@ -4,7 +4,7 @@ ghost use Rattle.ffi3_cdecl_spec.specs.Tokens.{wide};
 ghost use Rattle.ffi3_cdecl_spec.specs.Reading.{IsReadingIn, unexpected};
 ghost use Rattle.ffi3_diagnostics_spec.specs.ToldText.{lines_at};
 ghost use Rattle.ffi3_types.specs.SignatureFaultOf.{signature_fault_of};
-ghost use Rattle.ffi3_cdecl.specs.ReadingFor.{IsReadingFor};
+ghost use Rattle.ffi3_cdecl_spec.specs.ReadingFor.{IsReadingFor};
 ghost use Rattle.ffi3_cdecl.specs.Tells.{Tells};
 ghost use Rattle.ffi3_capi.specs.Chars.{char_sign};
 ghost use Rattle.ffi3_capi.specs.FaultLines.{place_line, fault_line, AreFaultLines, TellsLines};

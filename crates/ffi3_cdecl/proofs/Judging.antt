@@ -15,7 +15,7 @@ use Rattle.ffi3_cdecl_spec.specs.Machine.{with_signature, with_number, with_end,
 use Rattle.ffi3_cdecl_spec.proofs.Completes.{accepted}
 use Rattle.ffi3_cdecl_spec.proofs.Sound.{declaration_of}
 use Rattle.ffi3_cdecl_spec.proofs.Readings.{reading_in, one_reading_in}
-use Rattle.ffi3_cdecl.specs.ReadingFor.{IsReadingBy, has_bad_token, has_unexpected, has_bad_number, is_judged, IsJudgedFor, is_placed, has_bad_signature, IsReadingFor, resolved_declaration, every_format, IsFirstFaultBy, IsJudgedEverywhere, placed_everywhere, faulty_somewhere, IsReadingEverywhere, judged_for, first_fault_by, judged_everywhere, with_number_by, with_end_by, with_cut_by, read_by, read_for, read_everywhere}
+use Rattle.ffi3_cdecl_spec.specs.ReadingFor.{IsReadingBy, has_bad_token, has_unexpected, has_bad_number, is_judged, IsJudgedFor, is_placed, has_bad_signature, IsReadingFor, resolved_declaration, every_format, IsFirstFaultBy, IsJudgedEverywhere, placed_everywhere, faulty_somewhere, IsReadingEverywhere, judged_for, first_fault_by, judged_everywhere, with_number_by, with_end_by, with_cut_by, read_by, read_for, read_everywhere}
 use Rattle.ffi3_cdecl_spec.proofs.Alike.{or_else_none}
 use Rattle.ffi3_cdecl.proofs.AlikeFor.{AlikeDeclarationsFor, fault_same, none_same}
 

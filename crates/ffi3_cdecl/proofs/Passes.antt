@@ -11,7 +11,7 @@ use Rattle.ffi3_cdecl_spec.proofs.Kept.{results, SameState, both_want_type, Same
 use Rattle.ffi3_cdecl_spec.proofs.OnePass.{all_taken, Any, AnyTypes, AnyCounts, some_states, AllSmall, all_small, great_is, died_is, one_pass_in}
 use Rattle.ffi3_format_spec.specs.declared.Format.{Format}
 use Rattle.ffi3_cdecl.specs.PassOf.{outcome_behind, unjudged, unjudged_by, unjudged_behind, judged_by, pass_on, pass_over}
-use Rattle.ffi3_cdecl.specs.ReadingFor.{with_number_by, with_end_by, with_cut_by, read_by}
+use Rattle.ffi3_cdecl_spec.specs.ReadingFor.{with_number_by, with_end_by, with_cut_by, read_by}
 use Rattle.ffi3_cdecl.proofs.AlikeFor.{AlikeFor, KeptFor, AlikeDeclarationsFor, alike_itself, struct_alike, none_kept, one_kept, arrays_alike}
 
 -- ---- the plain judge

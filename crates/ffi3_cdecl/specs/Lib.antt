@@ -7,4 +7,3 @@ pub mod PassOf
 pub mod Tells
 pub mod Going
 pub mod QuotedOf
-pub mod ReadingFor

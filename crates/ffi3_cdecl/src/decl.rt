@@ -7,7 +7,7 @@ ghost use Rattle.ffi3_cdecl_spec.specs.OnePass.{new_pass};
 ghost use Rattle.ffi3_type_spec.specs.Signature.{SignatureIsPlaced};
 ghost use Rattle.ffi3_format_spec.specs.Format.{resolved_signature};
 ghost use Rattle.ffi3_cdecl.specs.PassOf.{pass_of, outcome_of, pass_over};
-ghost use Rattle.ffi3_cdecl.specs.ReadingFor.{IsReadingEverywhere, IsReadingFor, read_everywhere, read_for};
+ghost use Rattle.ffi3_cdecl_spec.specs.ReadingFor.{IsReadingEverywhere, IsReadingFor, read_everywhere, read_for};
 ghost use Rattle.ffi3_cdecl.specs.Tells.{Tells};
 ghost use Rattle.ffi3_cdecl.specs.TokenOf.{dialect_of, sign_of};
 

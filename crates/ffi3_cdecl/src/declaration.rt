@@ -1,6 +1,6 @@
 // A function as it is declared.
 ghost use Rattle.std.specs.Prelude.{◌≡◌, IfOk};
-ghost use Rattle.ffi3_cdecl.specs.ReadingFor.{resolved_declaration};
+ghost use Rattle.ffi3_cdecl_spec.specs.ReadingFor.{resolved_declaration};
 
 use ffi3_format::{Format, resolve};
 use ffi3_types::{Bytes, NoMemory, Sig};

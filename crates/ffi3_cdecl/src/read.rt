@@ -7,7 +7,7 @@ ghost use Rattle.ffi3_type_spec.specs.FirstFault.{first_fault_for};
 ghost use Rattle.ffi3_type_spec.specs.Signature.{for_places};
 ghost use Rattle.ffi3_types.specs.SignatureFaultOf.{signature_fault_of};
 ghost use Rattle.ffi3_format_spec.specs.Format.{resolved_signature};
-ghost use Rattle.ffi3_cdecl.specs.ReadingFor.{judged_for, every_format, first_fault_by, judged_everywhere};
+ghost use Rattle.ffi3_cdecl_spec.specs.ReadingFor.{judged_for, every_format, first_fault_by, judged_everywhere};
 ghost use Rattle.ffi3_cdecl.specs.TokenOf.{dialect_of, token_of};
 ghost use Rattle.ffi3_cdecl.specs.RoundOf.{round_of};
 ghost use Rattle.ffi3_cdecl.specs.StateOf.{settled_of, state_of, wide_of};

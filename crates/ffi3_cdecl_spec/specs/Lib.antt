@@ -10,3 +10,4 @@ pub mod Expected
 pub mod Reasons
 pub mod Telling
 pub mod FaultLaws
+pub mod ReadingFor

@@ -3,12 +3,12 @@ use Rattle.std.proofs.Common.{◌≡◌, ◌∙◌, List, [], Some, None, inl, i
 use Rattle.clap.specs.Words.{App, HasKind, IsAmong, Text, fault_of, kind_of, is_simple, is_simple_and_free, subcommand_of, subcommand_rows_of}
 use Rattle.clap.specs.declared.error.Error.{Error}
 use Rattle.clap.specs.declared.parser.matches.ArgMatches.{ArgMatches}
-use Rattle.ffi3_cli.specs.declared.words.Request.{Request}
+use Rattle.ffi3_cli_spec.specs.declared.words.Request.{Request}
 use Rattle.ffi3_cli.specs.declared.words.WordsFault.{WordsFault}
 use Rattle.ffi3_cli.specs.declared.words.WordsFault.TheVariants.{Refused, NoMemory}
-use Rattle.ffi3_cli.specs.WordCommands.{LacksNumbers, asked, program}
+use Rattle.ffi3_cli_spec.specs.WordCommands.{LacksNumbers, asked, program}
 use Rattle.ffi3_cli.specs.CommandParts.{IsProgram}
-use Rattle.ffi3_cli.specs.Words.{IsRefusedForNumbers, IsStated, Takes}
+use Rattle.ffi3_cli_spec.specs.Words.{IsRefusedForNumbers, IsStated, Takes}
 use Rattle.ffi3_cli.specs.WordAnswers.{IsWordsRefusal, IsToldAs}
 use Rattle.ffi3_cli.proofs.Asked.{Decides, something_asked}
 use Rattle.ffi3_cli.proofs.Program.{is_free, is_plain}

@@ -12,7 +12,7 @@ use Rattle.std.specs.Option.{option_map, option_map_or}
 use Rattle.clap.specs.Faults.{bundle_fault, bundle_step_fault, defaults_fault, check_fault, flag_word_fault, flags_fault, level_fault, long_fault, option_fault, react_fault, settle_fault, short_fault, step_fault, turn_fault, use_fault, walk_fault, entered_fault, word_fault}
 use Rattle.clap.specs.declared.builder.value_parser.ValueParser.{ValueParser}
 use Rattle.clap.specs.declared.error.kind.ErrorKind.TheVariants.{TooManyValues}
-use Rattle.ffi3_cli.specs.WordCommands.{Addresses, program, one_of_words, targets, arguments_shape, bench_shape, cdecl_shape, cplace_shape, explain_shape, layout_shape}
+use Rattle.ffi3_cli_spec.specs.WordCommands.{Addresses, program, one_of_words, targets, arguments_shape, bench_shape, cdecl_shape, cplace_shape, explain_shape, layout_shape}
 use Rattle.ffi3_cli.proofs.Level.{above, built_beside, built_target, built_traced, built_with, help_alone, none_beside_help, none_beside_trace, trace_and_help}
 
 -- a rule that no position names

@@ -13,10 +13,10 @@ use Rattle.clap.specs.Faults.{check_fault, defaults_fault, entered_fault, other_
 use Rattle.clap.specs.declared.error.kind.ErrorKind.TheVariants.{DisplayHelpOnMissingArgumentOrSubcommand, MissingSubcommand}
 use Rattle.ffi3_type_spec.specs.declared.Target.{Target}
 use Rattle.ffi3_type_spec.specs.declared.Target.TheVariants.{Amd64, Aapcs64, Riscv, Win64, Apple}
-use Rattle.ffi3_cli.specs.declared.words.Request.{Request}
-use Rattle.ffi3_cli.specs.declared.words.Request.TheVariants.{OnInput}
-use Rattle.ffi3_cli.specs.declared.words.InputCommand.TheVariants.{Layout, Place, Run, Cdecl, Cplace, Explain, Arguments}
-use Rattle.ffi3_cli.specs.WordCommands.{Addresses, LacksNumbers, asked, bench_shape, is_set, one_of_words, targets, program, target_of, with_target_of}
+use Rattle.ffi3_cli_spec.specs.declared.words.Request.{Request}
+use Rattle.ffi3_cli_spec.specs.declared.words.Request.TheVariants.{OnInput}
+use Rattle.ffi3_cli_spec.specs.declared.words.InputCommand.TheVariants.{Layout, Place, Run, Cdecl, Cplace, Explain, Arguments}
+use Rattle.ffi3_cli_spec.specs.WordCommands.{Addresses, LacksNumbers, asked, bench_shape, is_set, one_of_words, targets, program, target_of, with_target_of}
 use Rattle.ffi3_cli.proofs.Level.{above, built_target, has_target, has_target_traced, never, or_none, trace_and_help}
 
 -- ---- a step at which no command is met

@@ -4,8 +4,8 @@ use Rattle.std.specs.Option.{option_map}
 use Rattle.clap.specs.Words.{Row, Text, first_of, subcommand_name_of, subcommand_rows_of}
 use Rattle.clap.specs.declared.parser.matches.ArgMatches.{ArgMatches}
 use Rattle.clap.specs.declared.parser.matches.ArgMatches.TheViews.{out-ArgMatches}
-use Rattle.ffi3_cli.specs.declared.words.Request.{Request}
-use Rattle.ffi3_cli.specs.WordCommands.{asked, request_of}
+use Rattle.ffi3_cli_spec.specs.declared.words.Request.{Request}
+use Rattle.ffi3_cli_spec.specs.WordCommands.{asked, request_of}
 
 two_maps : {X Y Z : Type 0} (f : Y → Z) (g : X → Y) (o : Option X) → option_map f (option_map g o) ≡ option_map (λ x. f (g x)) o
 two_maps f g None = refl

@@ -12,9 +12,9 @@ use Rattle.clap.specs.Faults.{bundle_fault, check_fault, defaults_fault, flag_wo
 use Rattle.clap.specs.declared.builder.value_parser.Reading.TheVariants as reading
 use Rattle.clap.specs.declared.parser.matches.ValueSource.TheVariants.{CommandLine}
 use Rattle.clap.proofs.OnLiterals.{clap_on_literals}
-use Rattle.ffi3_cli.specs.declared.words.Request.{Request}
-use Rattle.ffi3_cli.specs.declared.words.Request.TheVariants.{Bench}
-use Rattle.ffi3_cli.specs.WordCommands.{Addresses, asked, bench_of, bench_shape, number_of, program, with_calls}
+use Rattle.ffi3_cli_spec.specs.declared.words.Request.{Request}
+use Rattle.ffi3_cli_spec.specs.declared.words.Request.TheVariants.{Bench}
+use Rattle.ffi3_cli_spec.specs.WordCommands.{Addresses, asked, bench_of, bench_shape, number_of, program, with_calls}
 use Rattle.ffi3_cli.proofs.Level.{above}
 use Rattle.ffi3_cli.proofs.Numbers.{IsPlainWord, plain_decimal, written}
 

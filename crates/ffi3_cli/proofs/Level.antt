@@ -17,7 +17,7 @@ use Rattle.clap.specs.declared.builder.value_parser.ValueParser.{ValueParser}
 use Rattle.clap.specs.declared.error.kind.ErrorKind.{ErrorKind}
 use Rattle.clap.specs.declared.error.kind.ErrorKind.TheVariants.{InvalidValue, TooManyValues, WrongNumberOfValues}
 use Rattle.clap.specs.declared.parser.matches.ValueSource.TheVariants.{CommandLine}
-use Rattle.ffi3_cli.specs.WordCommands.{program_alone, target_rule, trace_rule, with_target, with_trace}
+use Rattle.ffi3_cli_spec.specs.WordCommands.{program_alone, target_rule, trace_rule, with_target, with_trace}
 
 -- what the program hands down to its commands
 abbrev pub above : Shape

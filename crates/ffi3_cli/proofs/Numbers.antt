@@ -8,7 +8,7 @@ use Rattle.std.proofs.lemmas.Str.Parse.{digit_from_value, without_leading_plus_n
 use Rattle.std.proofs.lemmas.Fmt.{decimal_is_IsNumeral}
 use Rattle.clap.specs.Lexer.{long_of, long_of_rest, short_of, short_of_rest, strip_byte}
 use Rattle.clap.specs.Words.{Text}
-use Rattle.ffi3_cli.specs.WordCommands.{number_of}
+use Rattle.ffi3_cli_spec.specs.WordCommands.{number_of}
 
 -- ---- the number that a text writes
 

@@ -6,7 +6,7 @@ use Rattle.clap.specs.declared.builder.command.Command.{Command}
 use Rattle.clap.specs.declared.builder.value_parser.ValueParser.{ValueParser}
 use Rattle.clap.specs.declared.builder.value_parser.ValueParser.TheVariants as vp
 use Rattle.clap.proofs.OnLiterals.{clap_on_literals}
-use Rattle.ffi3_cli.specs.WordCommands.{Addresses, lent, one_of_words, targets, target_rule, trace_rule, bench_shape, cdecl_shape, cplace_shape, explain_shape, arguments_shape, layout_shape, program_alone, program}
+use Rattle.ffi3_cli_spec.specs.WordCommands.{Addresses, lent, one_of_words, targets, target_rule, trace_rule, bench_shape, cdecl_shape, cplace_shape, explain_shape, arguments_shape, layout_shape, program_alone, program}
 use Rattle.ffi3_cli.specs.CommandParts.{IsProgram, IsTargetRule, HasTarget, IsTraceable}
 
 -- where texts lie

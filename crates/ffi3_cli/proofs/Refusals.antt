@@ -1,9 +1,9 @@
 -- Words that are refused are not taken.
 use Rattle.std.proofs.Common.{◌≡◌, ◌∙◌, List, Option, Some, None, inl, inr, sym, subst}
 use Rattle.clap.specs.Words.{Row, Text, subcommand_of}
-use Rattle.ffi3_cli.specs.declared.words.Request.{Request}
-use Rattle.ffi3_cli.specs.WordCommands.{Addresses, LacksNumbers, asked, program}
-use Rattle.ffi3_cli.specs.Words.{IsRefused, Takes}
+use Rattle.ffi3_cli_spec.specs.declared.words.Request.{Request}
+use Rattle.ffi3_cli_spec.specs.WordCommands.{Addresses, LacksNumbers, asked, program}
+use Rattle.ffi3_cli_spec.specs.Words.{IsRefused, Takes}
 
 none_is_some : {X : Type 0} (x : X) → None ≡ Some x → ⊥
 none_is_some x e = cc

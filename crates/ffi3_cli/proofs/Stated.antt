@@ -4,13 +4,13 @@ use Rattle.clap.specs.Words.{Text, fault_of, subcommand_of}
 use Rattle.clap.proofs.OnLiterals.{clap_on_literals}
 use Rattle.ffi3_type_spec.specs.declared.Target.{Target}
 use Rattle.ffi3_type_spec.specs.declared.Target.TheVariants.{Amd64, Aapcs64, Riscv, Win64, Apple}
-use Rattle.ffi3_cli.specs.declared.words.InputCommand.{InputCommand}
-use Rattle.ffi3_cli.specs.declared.words.InputCommand.TheVariants.{Layout, Place, Run, Cdecl, Cplace, Explain, Arguments}
-use Rattle.ffi3_cli.specs.declared.words.Request.{Request}
-use Rattle.ffi3_cli.specs.declared.words.Request.TheVariants.{OnInput, Bench}
-use Rattle.ffi3_cli.specs.WordCommands.{Addresses, asked, program}
+use Rattle.ffi3_cli_spec.specs.declared.words.InputCommand.{InputCommand}
+use Rattle.ffi3_cli_spec.specs.declared.words.InputCommand.TheVariants.{Layout, Place, Run, Cdecl, Cplace, Explain, Arguments}
+use Rattle.ffi3_cli_spec.specs.declared.words.Request.{Request}
+use Rattle.ffi3_cli_spec.specs.declared.words.Request.TheVariants.{OnInput, Bench}
+use Rattle.ffi3_cli_spec.specs.WordCommands.{Addresses, asked, program}
 use Rattle.ffi3_cli.proofs.BenchWords.{calls_first, seed_first}
-use Rattle.ffi3_cli.specs.Words.{IsStated, StatesAfterName, StatesCommand, Takes, target_word}
+use Rattle.ffi3_cli_spec.specs.Words.{IsStated, StatesAfterName, StatesCommand, Takes, target_word}
 
 module _ (at at' : Addresses) (name : Text) where
   -- clap takes the words after the name, and reads them as this

@@ -3,7 +3,7 @@ use Rattle.std.specs.Prelude.{◌≡◌, ℕ, List}
 use Rattle.std.specs.Borrow.{Bor}
 use Rattle.clap.specs.Words.{App, Rule, Shape, Text}
 use Rattle.clap.specs.declared.builder.value_parser.ValueParser.TheVariants as vp
-use Rattle.ffi3_cli.specs.WordCommands.{Addresses, one_of_words, target_rule, with_target, with_trace, program}
+use Rattle.ffi3_cli_spec.specs.WordCommands.{Addresses, one_of_words, target_rule, with_target, with_trace, program}
 
 pub record IsProgram (a : App) : Type 0 where
   pub placing : Addresses

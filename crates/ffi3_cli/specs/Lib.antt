@@ -1,4 +1,2 @@
-pub mod WordCommands
 pub mod CommandParts
-pub mod Words
 pub mod WordAnswers

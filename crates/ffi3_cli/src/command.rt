@@ -2,7 +2,7 @@
 ghost use Rattle.std.specs.Prelude.{◌≡◌, IfOk, false, codes};
 ghost use Rattle.clap.specs.Words.{app_of, rule_of, shape_of};
 ghost use Rattle.clap.specs.declared.builder.command.Command.TheViews.{out-Command};
-ghost use Rattle.ffi3_cli.specs.WordCommands.{arguments_shape, bench_shape, calls_rule, cdecl_shape, cplace_shape, explain_shape, layout_shape, program_alone, seed_rule, targets, trace_rule};
+ghost use Rattle.ffi3_cli_spec.specs.WordCommands.{arguments_shape, bench_shape, calls_rule, cdecl_shape, cplace_shape, explain_shape, layout_shape, program_alone, seed_rule, targets, trace_rule};
 ghost use Rattle.ffi3_cli.specs.CommandParts.{IsProgram, IsTargetRule, HasTarget, IsTraceable};
 
 use crate::help;

@@ -5,4 +5,5 @@ mod command;
 mod help;
 mod words;
 
-pub use words::{InputCommand, Request, WordsFault, read_words, target_word};
+pub use ffi3_cli_spec::words::{InputCommand, Request};
+pub use words::{WordsFault, read_words, target_word};

@@ -5,7 +5,7 @@ use Rattle.std.specs.Int.{w64, to_le_bytes}
 use Rattle.ffi3_type_spec.specs.declared.Isa.{Isa}
 use Rattle.ffi3_type_spec.specs.declared.Isa.TheVariants.{Amd64, Aarch64, Riscv}
 use Rattle.ffi3_semantics_spec.specs.declared.Closure.{Closure}
-use Rattle.ffi3_closures.specs.Slots.{trampoline, slot_head, slot_tail, live_slot}
+use Rattle.ffi3_machine_spec.specs.Slots.{trampoline, slot_head, slot_tail, live_slot}
 
 abbrev pub put : ℕ → ℕ → List ℕ → List ℕ
 put at word bytes = replace_range bytes at (at + 8) (to_le_bytes w64 word)

@@ -4,7 +4,7 @@ use Rattle.std.specs.Prelude.{is_some}
 use Rattle.std.proofs.lemmas.List.Sums.{count_by-le-length, sum_by-cons}
 use Rattle.ffi3_semantics_spec.specs.declared.Closure.{Closure}
 use Rattle.ffi3_semantics_spec.specs.Closures.{Closures, first_free}
-use Rattle.ffi3_closures.specs.Slots.{live_count}
+use Rattle.ffi3_machine_spec.specs.Slots.{live_count}
 
 abbrev live_one : Option Closure → ℕ
 live_one c = cond (is_some c) 1 0

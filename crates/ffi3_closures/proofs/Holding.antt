@@ -10,11 +10,11 @@ use Rattle.ffi3_type_spec.specs.declared.Isa.{Isa}
 use Rattle.ffi3_type_spec.specs.declared.Isa.TheVariants.{Amd64, Aarch64, Riscv}
 use Rattle.ffi3_type_spec.specs.TargetIsa.{isa_of}
 use Rattle.ffi3_type_spec.specs.declared.limits.TheConstants.{CODE}
-use Rattle.ffi3_machine.specs.State.{State, free_slot, begun_code, with_code}
+use Rattle.ffi3_machine_spec.specs.State.{State, free_slot, begun_code, with_code}
 use Rattle.ffi3_semantics_spec.specs.declared.Closure.{Closure}
 use Rattle.ffi3_semantics_spec.specs.Closures.{Closures, with_closure, no_closures}
 use Rattle.ffi3_machine.proofs.Written.{length-written, range-written, above-written, below-written}
-use Rattle.ffi3_closures.specs.Slots.{trampoline, slot_head, slot_tail, slot_content, live_slot, HoldsMap}
+use Rattle.ffi3_machine_spec.specs.Slots.{trampoline, slot_head, slot_tail, slot_content, live_slot, HoldsMap}
 
 pub length-free_slot : (isa : Isa) → length (free_slot isa) ≡ 64
 unfolding free_slot

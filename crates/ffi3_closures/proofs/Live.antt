@@ -6,10 +6,10 @@ use Rattle.std.proofs.lemmas.Bool.Decides.{nat_tests}
 use Rattle.std.proofs.lemmas.List.{get_or_past}
 use Rattle.ffi3_type_spec.specs.TargetIsa.{isa_of}
 use Rattle.ffi3_type_spec.specs.declared.limits.TheConstants.{CODE}
-use Rattle.ffi3_machine.specs.State.{State, IsMachine}
+use Rattle.ffi3_machine_spec.specs.State.{State, IsMachine}
 use Rattle.ffi3_semantics_spec.specs.declared.Closure.{Closure}
 use Rattle.ffi3_semantics_spec.specs.Closures.{Closures, closure_at}
-use Rattle.ffi3_closures.specs.Slots.{HoldsMap, slot_content}
+use Rattle.ffi3_machine_spec.specs.Slots.{HoldsMap, slot_content}
 use Rattle.ffi3_machine.specs.MachineStep.{TakesSteps}
 use Rattle.ffi3_closures.specs.Reaching.{reached}
 use Rattle.ffi3_closures.proofs.Trampolines.{reaches}

@@ -9,16 +9,16 @@ use Rattle.ffi3_isa.specs.Fields.{sign_extend, first_word}
 use Rattle.ffi3_isa.specs.Amd64.{endbr64, lea, jmp, disp32, trampoline as code_of}
 use Rattle.ffi3_isa.specs.Aarch64.{ldr_literal, adr, br, trampoline as word_of}
 use Rattle.ffi3_isa.specs.Riscv.{auipc, ld, jalr}
-use Rattle.ffi3_memory.specs.Memory.{number_of}
+use Rattle.ffi3_machine_spec.specs.Memory.{number_of}
 use Rattle.ffi3_type_spec.specs.declared.Target.{Target}
 use Rattle.ffi3_type_spec.specs.declared.Isa.{Isa}
 use Rattle.ffi3_type_spec.specs.declared.Isa.TheVariants.{Amd64, Aarch64, Riscv}
 use Rattle.ffi3_type_spec.specs.TargetIsa.{isa_of}
 use Rattle.ffi3_type_spec.specs.declared.limits.TheConstants.{CODE, CODE_END, ENTRY, STACK, STACK_TOP}
-use Rattle.ffi3_machine.specs.State.{State}
+use Rattle.ffi3_machine_spec.specs.State.{State}
 use Rattle.ffi3_machine.specs.MachineStep.{StepsBy, Steps, TakesSteps, bytes_from, has_eight, loaded, moved, goes_to, sets, even}
 use Rattle.ffi3_semantics_spec.specs.declared.Closure.{Closure}
-use Rattle.ffi3_closures.specs.Slots.{trampoline, slot_head, slot_tail, live_slot}
+use Rattle.ffi3_machine_spec.specs.Slots.{trampoline, slot_head, slot_tail, live_slot}
 use Rattle.ffi3_closures.specs.Reaching.{reached, reached_by}
 
 record ThreeSteps (isa : Isa) (s : State) : Type 0 where

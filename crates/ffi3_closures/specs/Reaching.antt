@@ -4,7 +4,7 @@ use Rattle.ffi3_type_spec.specs.declared.Isa.{Isa}
 use Rattle.ffi3_type_spec.specs.declared.limits.TheConstants.{ENTRY}
 use Rattle.ffi3_type_spec.specs.TargetIsa.{isa_of}
 use Rattle.ffi3_place_spec.specs.MachineRegisters.{closure_register, jump_register}
-use Rattle.ffi3_machine.specs.State.{State}
+use Rattle.ffi3_machine_spec.specs.State.{State}
 
 -- where the trampoline jumps through a register, this has ENTRY
 abbrev pub jumped_through : Option ℕ → List ℕ → List ℕ

@@ -16,10 +16,10 @@ ghost use Rattle.ffi3_semantics_spec.specs.Closures.{
 };
 ghost use Rattle.ffi3_type_spec.specs.declared.Target.{Target};
 ghost use Rattle.ffi3_type_spec.specs.TargetIsa.{isa_of};
-ghost use Rattle.ffi3_machine.specs.State.{IsSlot, begun_code, free_slot, with_code};
+ghost use Rattle.ffi3_machine_spec.specs.State.{IsSlot, begun_code, free_slot, with_code};
 ghost use Rattle.ffi3_machine.specs.MachineStep.{TakesSteps};
 ghost use Rattle.ffi3_closures.specs.Reaching.{reached};
-ghost use Rattle.ffi3_closures.specs.Slots.{HoldsMap, live_count, live_slot, slot_head};
+ghost use Rattle.ffi3_machine_spec.specs.Slots.{HoldsMap, live_count, live_slot, slot_head};
 
 use arrayvec::ArrayVec;
 use ffi3_machine::{CODE, Machine, free_word};
@@ -159,8 +159,7 @@ impl Table {
         ensures steps { TakesSteps 3 machine.old machine.new }
     {
         let _slots = &self.slots;
-        // its contract tells what is true of every machine
-        let _sp = machine.sp();
+        machine.facts();
         for _k in 0..3u8 {
             let _step = machine.step();
         }
@@ -184,7 +183,7 @@ fn slot_number(addr: u64) -> Option<usize>
 }
 
 // The first 32 bytes of a live slot.
-#[tactic(auto, unfolding(crate::specs::Slots::slot_head, crate::specs::Slots::trampoline))]
+#[tactic(auto, unfolding(ffi3_machine_spec::specs::Slots::slot_head, ffi3_machine_spec::specs::Slots::trampoline))]
 fn slot_head(isa: Isa) -> [u8; 32]
     ensures { result ≡ slot_head isa }
 {
@@ -225,7 +224,7 @@ fn put_word(bytes: &mut [u8; 64], at: usize, word: u64)
 }
 
 // The bytes of a free slot.
-#[tactic(auto, unfolding(ffi3_machine::specs::State::free_slot))]
+#[tactic(auto, unfolding(ffi3_machine_spec::specs::State::free_slot))]
 fn free_slot(isa: Isa) -> [u8; 64]
     ensures { result ≡ free_slot isa }
 {

@@ -11,12 +11,12 @@ use Rattle.ffi3_semantics_spec.specs.Trace.{TraceItem, Enter, Line, Leave, StopL
 use Rattle.ffi3_semantics_spec.specs.Journal.{Answers, Entered, JournalOf, events_in, stack_top}
 use Rattle.ffi3_semantics_spec.specs.Lines.{Tracing}
 use Rattle.ffi3_small_step_spec.specs.Interrupted.{begun}
-use Rattle.ffi3_io.specs.Sink.{SinkState}
-use Rattle.ffi3_machine.specs.State.{State}
+use Rattle.ffi3_io_spec.specs.Sink.{SinkState}
+use Rattle.ffi3_machine_spec.specs.State.{State}
 use Rattle.ffi3_runner.specs.declared.run.RunEnd.{RunEnd}
 use Rattle.ffi3_runner.specs.declared.run.RunEnd.TheVariants as run
-use Rattle.ffi3_runner.specs.RunMatches.{RunMatches}
-use Rattle.ffi3_runner.specs.RunInterrupted.{RunWasInterrupted}
+use Rattle.ffi3_run_spec.specs.RunMatches.{RunMatches}
+use Rattle.ffi3_run_spec.specs.RunInterrupted.{RunWasInterrupted}
 use Rattle.ffi3_explain_spec.specs.Entries.{EntriesAreExplained}
 
 -- what a trace goes on with needs no event

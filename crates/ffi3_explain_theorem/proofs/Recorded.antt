@@ -8,7 +8,7 @@ use Rattle.ffi3_type_spec.specs.Signature.{Signature, SignatureHasNoFault, for_c
 use Rattle.ffi3_type_spec.proofs.Faults.{void_faults}
 use Rattle.ffi3_type_spec.proofs.Signatures.{IsSuited, right_with_no_fixed}
 use Rattle.ffi3_place_spec.specs.Event.{Event}
-use Rattle.ffi3_machine.specs.Recorded.{event_at}
+use Rattle.ffi3_machine_spec.specs.Recorded.{event_at}
 use Rattle.ffi3_explain_spec.specs.Laws.{HasWords}
 
 below_next : (j n : ℕ) → j < n + 1 → (j < n) ⊎ (j ≡ n)

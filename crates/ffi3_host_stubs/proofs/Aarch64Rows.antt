@@ -8,7 +8,7 @@ use Rattle.ffi3_isa.specs.Aarch64.{IsAarch64, IsAarch64Word, immediate, based, b
 use Rattle.ffi3_type_spec.specs.declared.Isa.TheVariants.{Aarch64}
 use Rattle.ffi3_place_spec.specs.declared.Loc.{Loc}
 use Rattle.ffi3_place_spec.specs.declared.Loc.TheVariants.{G, F, S}
-use Rattle.ffi3_machine.specs.Stubs.{load, store, sum, jump, calls, returns, exchanged_at, row_bytes, aarch64_row, aarch64_immediate, word}
+use Rattle.ffi3_machine_spec.specs.Stubs.{load, store, sum, jump, calls, returns, exchanged_at, row_bytes, aarch64_row, aarch64_immediate, word}
 use Rattle.ffi3_machine.specs.MachineStep.{moved}
 use Rattle.ffi3_stubs.proofs.Places.{word_first, unequal}
 use Rattle.ffi3_stubs.proofs.WordSegments.{fits}

@@ -8,7 +8,7 @@ use Rattle.ffi3_isa.specs.Aarch64.{trampoline, ldr_literal, adr, br}
 use Rattle.ffi3_type_spec.specs.declared.Isa.TheVariants.{Aarch64}
 use Rattle.ffi3_place_spec.specs.declared.Loc.TheVariants.{G}
 use Rattle.ffi3_machine.specs.MachineStep.{moved}
-use Rattle.ffi3_machine.specs.Stubs.{word}
+use Rattle.ffi3_machine_spec.specs.Stubs.{word}
 use Rattle.ffi3_stubs.specs.Calls.{same_loc, is_in}
 use Rattle.ffi3_host_stubs.specs.Processor.{Processor, half, word_at, set_at, next, IsKept, Steps, HasCode}
 use Rattle.ffi3_host_stubs.specs.Slots.{less_by, slot_code, Reaches}

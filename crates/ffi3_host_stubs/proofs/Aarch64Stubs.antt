@@ -1,11 +1,12 @@
 -- The four stubs of AArch64, wherever they and the exchange region stand.
 use Rattle.std.proofs.Common.{◌≡◌, ◌≢◌, ◌⊎◌, inl, inr, ⊎_elim, ℕ, ◌+◌, ◌-◌, ◌*◌, ◌%◌, ◌<◌, ◌≤◌, Bool, true, false, if◌then◌else◌, List, [], ◌∷◌, ◌++◌, length, refl, sym, ap, ◌∙◌, subst, arith, lit<, lit≤, pos, negsuc}
-use Rattle.ffi3_memory.specs.Memory.{number_of}
+use Rattle.ffi3_machine_spec.specs.Memory.{number_of}
 use Rattle.ffi3_type_spec.specs.declared.Isa.TheVariants.{Aarch64}
 use Rattle.ffi3_place_spec.specs.declared.Loc.{Loc}
 use Rattle.ffi3_place_spec.specs.declared.Loc.TheVariants.{G}
 use Rattle.ffi3_place_spec.specs.StubRegisters.{call_loads, stub_area, callee_saved_words, entry_stores, result_loads}
-use Rattle.ffi3_machine.specs.Stubs.{Entry, Exit, Call, Return, exchanged_at, aarch64_row, load, store, sum, jump, calls, returns, exchange_loads, exchange_stores, area_loads, area_stores}
+use Rattle.ffi3_machine_spec.specs.declared.stub.TheConstants.{AREA_AT, CALLEE_AT, CALL_SP_AT, ENTRY_SP_AT, REGISTERS_END, RETURN_SP_AT}
+use Rattle.ffi3_machine_spec.specs.Stubs.{Entry, Exit, Call, Return, exchanged_at, aarch64_row, load, store, sum, jump, calls, returns, exchange_loads, exchange_stores, area_loads, area_stores}
 use Rattle.ffi3_stubs.specs.Calls.{same_loc, is_in}
 use Rattle.ffi3_stubs.proofs.WordSegments.{fits, all_fit}
 use Rattle.ffi3_stubs.proofs.Reading.{are_apart, are_disjoint, place, misses, are_spread, in_neither}
@@ -24,29 +25,29 @@ source s from low not_sp = ap (λ (b : Bool). if b then s.sp else s.general from
 -- ---- Call
 
 abbrev call_based : ℕ → Processor → Processor
-call_based x s = received 4 (G 16) (word_at (x + 520) s) (received 4 (G 17) x s)
+call_based x s = received 4 (G 16) (word_at (x + CALL_SP_AT) s) (received 4 (G 17) x s)
 
 abbrev call_placed : ℕ → Processor → Processor
-call_placed x s = with_sp_by 4 (word_at (x + 520) s) (call_based x s)
+call_placed x s = with_sp_by 4 (word_at (x + CALL_SP_AT) s) (call_based x s)
 
 abbrev call_loaded : ℕ → Processor → Processor
 call_loaded x s = from_exchange Aarch64 17 x (call_loads Aarch64) (call_placed x s)
 
 abbrev call_ready : ℕ → Processor → Processor
-call_ready x s = received 4 (G 16) (word_at (x + 512) (call_loaded x s)) (call_loaded x s)
+call_ready x s = received 4 (G 16) (word_at (x + CALLEE_AT) (call_loaded x s)) (call_loaded x s)
 
 abbrev after_call : ℕ → Processor → Processor
-after_call x s = linked (word_at (x + 512) (call_loaded x s)) (call_ready x s)
+after_call x s = linked (word_at (x + CALLEE_AT) (call_loaded x s)) (call_ready x s)
 
-call_runs : (s : Processor) (from : ℕ) → from < 31 → from ≢ 31 → s.pc % 4 ≡ 0 → s.general from + 552 ≤ half → IsRegionKept (s.general from) s.sp s → word_at (s.general from + 520) s ≤ half → IsRegionKept (s.general from) (word_at (s.general from + 520) s) s → HasCode s s.pc (host_bytes Aarch64 from 0 Call) → TakesBy Aarch64 22 s (after_call (s.general from) s)
+call_runs : (s : Processor) (from : ℕ) → from < 31 → from ≢ 31 → s.pc % 4 ≡ 0 → s.general from + 552 ≤ half → IsRegionKept (s.general from) s.sp s → word_at (s.general from + CALL_SP_AT) s ≤ half → IsRegionKept (s.general from) (word_at (s.general from + CALL_SP_AT) s) s → HasCode s s.pc (host_bytes Aarch64 from 0 Call) → TakesBy Aarch64 22 s (after_call (s.general from) s)
 unfolding host_bytes word_list fits all_fit
 call_runs s from in_range not_sp al far above low under h =
     let x : ℕ = s.general from in
     let t5 : List ℕ = aarch64_row 0 (jump (calls 16)) ++ [] in
-    let t4 : List ℕ = aarch64_row 0 (load (G 16) 17 512) ++ t5 in
+    let t4 : List ℕ = aarch64_row 0 (load (G 16) 17 CALLEE_AT) ++ t5 in
     let t3 : List ℕ = word_list Aarch64 (exchange_loads 17 (call_loads Aarch64)) ++ t4 in
     let t2 : List ℕ = aarch64_row 0 (sum 31 16 (pos 0)) ++ t3 in
-    let t1 : List ℕ = aarch64_row 0 (load (G 16) 17 520) ++ t2 in
+    let t1 : List ℕ = aarch64_row 0 (load (G 16) 17 CALL_SP_AT) ++ t2 in
     let s1 : Processor = received 4 (G 17) x s in
     let s2 : Processor = call_based x s in
     let s3 : Processor = call_placed x s in
@@ -56,16 +57,16 @@ call_runs s from in_range not_sp al far above low under h =
     let one = copy_row s 17 from x t1 (lit< tt) (omega (arith, in_range)) al (source s from in_range not_sp) (omega (arith, far)) h in
     let h1 : HasCode s1 s1.pc t1 = onward s s1 (copy_bytes Aarch64 17 from) t1 4 refl refl refl h in
     let al1 : s1.pc % 4 ≡ 0 = next_aligned s.pc s1.pc refl al in
-    let two = load_general_row s1 x 16 17 520 t2 (lit< tt) (lit< tt) refl (lit< tt) al1 (no_sp 17 s1.sp (lit< tt)) refl (omega (arith, far)) (kept_in Aarch64 s1 x 520 (omega arith) above) h1 in
-    let h2 : HasCode s2 s2.pc t2 = onward s1 s2 (aarch64_row 0 (load (G 16) 17 520)) t2 4 refl refl refl h1 in
+    let two = load_general_row s1 x 16 17 CALL_SP_AT t2 (lit< tt) (lit< tt) refl (lit< tt) al1 (no_sp 17 s1.sp (lit< tt)) refl (omega (arith, far)) (kept_in Aarch64 s1 x CALL_SP_AT (omega arith) above) h1 in
+    let h2 : HasCode s2 s2.pc t2 = onward s1 s2 (aarch64_row 0 (load (G 16) 17 CALL_SP_AT)) t2 4 refl refl refl h1 in
     let al2 : s2.pc % 4 ≡ 0 = next_aligned s1.pc s2.pc refl al1 in
-    let same : word_at (x + 520) s + 0 ≡ word_at (x + 520) s = omega arith in
-    let three = sp_row s2 16 0 (word_at (x + 520) s) t3 (lit< tt) (lit< tt) al2 same low h2 in
+    let same : word_at (x + CALL_SP_AT) s + 0 ≡ word_at (x + CALL_SP_AT) s = omega arith in
+    let three = sp_row s2 16 0 (word_at (x + CALL_SP_AT) s) t3 (lit< tt) (lit< tt) al2 same low h2 in
     let h3 : HasCode s3 s3.pc t3 = onward s2 s3 (aarch64_row 0 (sum 31 16 (pos 0))) t3 4 refl refl refl h2 in
     let al3 : s3.pc % 4 ≡ 0 = next_aligned s2.pc s3.pc refl al2 in
     let came : Came Aarch64 17 x s3 s4 17 t4 = exchange_loaded Aarch64 31 18 17 18 x (aarch64_laws 17 (lit< tt)) (call_loads Aarch64) s3 t4 refl al3 refl far under h3 in
-    let five = load_general_row s4 x 16 17 512 t5 (lit< tt) (lit< tt) refl (lit< tt) came.aligned (no_sp 17 s4.sp (lit< tt)) came.base (omega (arith, far)) (kept_in Aarch64 s4 x 512 (omega arith) under) came.stands in
-    let h5 : HasCode s5 s5.pc t5 = onward s4 s5 (aarch64_row 0 (load (G 16) 17 512)) t5 4 refl refl refl came.stands in
+    let five = load_general_row s4 x 16 17 CALLEE_AT t5 (lit< tt) (lit< tt) refl (lit< tt) came.aligned (no_sp 17 s4.sp (lit< tt)) came.base (omega (arith, far)) (kept_in Aarch64 s4 x CALLEE_AT (omega arith) under) came.stands in
+    let h5 : HasCode s5 s5.pc t5 = onward s4 s5 (aarch64_row 0 (load (G 16) 17 CALLEE_AT)) t5 4 refl refl refl came.stands in
     let al5 : s5.pc % 4 ≡ 0 = next_aligned s4.pc s5.pc refl came.aligned in
     let six : Steps Aarch64 s5 e = call_row s5 [] al5 h5 in
     and_then Aarch64 1 21 22 s s1 e refl (one_step Aarch64 s s1 one) (and_then Aarch64 1 20 21 s1 s2 e refl (one_step Aarch64 s1 s2 two) (and_then Aarch64 1 19 20 s2 s3 e refl (one_step Aarch64 s2 s3 three) (and_then Aarch64 17 2 19 s3 s4 e refl came.steps (and_then Aarch64 1 1 2 s4 s5 e refl (one_step Aarch64 s4 s5 five) (one_step Aarch64 s5 e six)))))
@@ -92,9 +93,9 @@ has_called s from x =
     let r : Processor = call_ready x s in
     let e : Processor = after_call x s in
     let behind : r.pc + 4 ≡ s.pc + length (host_bytes Aarch64 from 0 Call) = omega arith in
-    let to : ℕ = word_at (x + 512) m in
+    let to : ℕ = word_at (x + CALLEE_AT) m in
     let late : (l : Loc) → same_loc l (G 16) ≡ false → same_loc l (G 30) ≡ false → held l e ≡ held l m = λ l a b. set_other 30 (r.pc + 4) l r e refl refl b ∙ set_other 16 to l m r refl refl a in
-    let early : (l : Loc) → same_loc l (G 16) ≡ false → same_loc l (G 17) ≡ false → held l t ≡ held l s = λ l a b. set_other 16 (word_at (x + 520) s) l (received 4 (G 17) x s) t refl refl a ∙ set_other 17 x l s (received 4 (G 17) x s) refl refl b in
+    let early : (l : Loc) → same_loc l (G 16) ≡ false → same_loc l (G 17) ≡ false → held l t ≡ held l s = λ l a b. set_other 16 (word_at (x + CALL_SP_AT) s) l (received 4 (G 17) x s) t refl refl a ∙ set_other 17 x l s (received 4 (G 17) x s) refl refl b in
     let later : (l : Loc) → is_in l (G 16 ∷ G 30 ∷ []) ≡ false → held l e ≡ held l m = λ l out. let p = none_of_two l 16 30 [] out in late l p.0 p.1 in
     record {
       loaded = came_again x (call_loads Aarch64) (G 16 ∷ G 30 ∷ []) s m e refl later (came_from_exchange Aarch64 17 x (call_loads Aarch64) t refl);
@@ -120,35 +121,35 @@ abbrev return_taken : ℕ → Processor → Processor
 return_taken x s = to_exchange Aarch64 16 x (result_loads Aarch64) (received 4 (G 16) x s)
 
 abbrev return_ready : ℕ → Processor → Processor
-return_ready x s = received 4 (G 17) (word_at (x + 544) (return_taken x s)) (return_taken x s)
+return_ready x s = received 4 (G 17) (word_at (x + RETURN_SP_AT) (return_taken x s)) (return_taken x s)
 
 abbrev after_return : ℕ → Processor → Processor
-after_return x s = with_sp_by 4 (word_at (x + 544) (return_taken x s)) (return_ready x s)
+after_return x s = with_sp_by 4 (word_at (x + RETURN_SP_AT) (return_taken x s)) (return_ready x s)
 
 -- what is read behind the registers is as it was
-unread : (base_k x at : ℕ) (ls : List Loc) (t : Processor) → 512 ≤ at → are_spread ls ≡ true → word_at (x + at) (to_exchange Aarch64 base_k x ls t) ≡ word_at (x + at) t
+unread : (base_k x at : ℕ) (ls : List Loc) (t : Processor) → REGISTERS_END ≤ at → are_spread ls ≡ true → word_at (x + at) (to_exchange Aarch64 base_k x ls t) ≡ word_at (x + at) t
 unread base_k x at ls t far ok = ap (number_of 8) (exchange_beyond Aarch64 base_k x ls t at far ok)
 
-return_runs : (s : Processor) (from : ℕ) → from < 31 → from ≢ 31 → s.pc % 4 ≡ 0 → s.general from + 552 ≤ half → IsRegionKept (s.general from) s.sp s → word_at (s.general from + 544) s ≤ half → HasCode s s.pc (host_bytes Aarch64 from 0 Return) → TakesBy Aarch64 9 s (after_return (s.general from) s)
+return_runs : (s : Processor) (from : ℕ) → from < 31 → from ≢ 31 → s.pc % 4 ≡ 0 → s.general from + 552 ≤ half → IsRegionKept (s.general from) s.sp s → word_at (s.general from + RETURN_SP_AT) s ≤ half → HasCode s s.pc (host_bytes Aarch64 from 0 Return) → TakesBy Aarch64 9 s (after_return (s.general from) s)
 unfolding host_bytes word_list fits all_fit place misses are_spread
 return_runs s from in_range not_sp al far above low h =
     let x : ℕ = s.general from in
     let t3 : List ℕ = aarch64_row 0 (sum 31 17 (pos 0)) ++ [] in
-    let t2 : List ℕ = aarch64_row 0 (load (G 17) 16 544) ++ t3 in
+    let t2 : List ℕ = aarch64_row 0 (load (G 17) 16 RETURN_SP_AT) ++ t3 in
     let t1 : List ℕ = word_list Aarch64 (exchange_stores 16 (result_loads Aarch64)) ++ t2 in
     let s1 : Processor = received 4 (G 16) x s in
     let s2 : Processor = return_taken x s in
     let s3 : Processor = return_ready x s in
     let e : Processor = after_return x s in
-    let v : ℕ = word_at (x + 544) s2 in
+    let v : ℕ = word_at (x + RETURN_SP_AT) s2 in
     let one = copy_row s 16 from x t1 (lit< tt) (omega (arith, in_range)) al (source s from in_range not_sp) (omega (arith, far)) h in
     let h1 : HasCode s1 s1.pc t1 = onward s s1 (copy_bytes Aarch64 16 from) t1 4 refl refl refl h in
     let al1 : s1.pc % 4 ≡ 0 = next_aligned s.pc s1.pc refl al in
     let came : Came Aarch64 16 x s1 s2 6 t2 = exchange_stored Aarch64 31 18 16 18 x (aarch64_laws 16 (lit< tt)) (result_loads Aarch64) s1 t2 refl al1 refl far h1 in
-    let three = load_general_row s2 x 17 16 544 t3 (lit< tt) (lit< tt) refl (lit< tt) came.aligned (no_sp 16 s2.sp (lit< tt)) came.base (omega (arith, far)) (kept_in Aarch64 s2 x 544 (omega arith) above) came.stands in
-    let h3 : HasCode s3 s3.pc t3 = onward s2 s3 (aarch64_row 0 (load (G 17) 16 544)) t3 4 refl refl refl came.stands in
+    let three = load_general_row s2 x 17 16 RETURN_SP_AT t3 (lit< tt) (lit< tt) refl (lit< tt) came.aligned (no_sp 16 s2.sp (lit< tt)) came.base (omega (arith, far)) (kept_in Aarch64 s2 x RETURN_SP_AT (omega arith) above) came.stands in
+    let h3 : HasCode s3 s3.pc t3 = onward s2 s3 (aarch64_row 0 (load (G 17) 16 RETURN_SP_AT)) t3 4 refl refl refl came.stands in
     let al3 : s3.pc % 4 ≡ 0 = next_aligned s2.pc s3.pc refl came.aligned in
-    let same : v ≡ word_at (x + 544) s = unread 16 x 544 (result_loads Aarch64) s1 (omega arith) refl in
+    let same : v ≡ word_at (x + RETURN_SP_AT) s = unread 16 x RETURN_SP_AT (result_loads Aarch64) s1 (omega arith) refl in
     let plus : v + 0 ≡ v = omega arith in
     let small : v ≤ half = subst (λ (a : ℕ). a ≤ half) (sym same) low in
     let four = sp_row s3 17 0 v [] (lit< tt) (lit< tt) al3 plus small h3 in
@@ -166,8 +167,8 @@ has_returned s from x =
       stored = went_from 16 x (result_loads Aarch64) s t e refl same (went_to_exchange Aarch64 16 x (result_loads Aarch64) t refl);
       others = λ l out.
           let p = none_of_two l 16 17 [] out in
-          set_other 17 (word_at (x + 544) (return_taken x s)) l t r refl refl p.1 ∙ same l p.0;
-      sp = unread 16 x 544 (result_loads Aarch64) t (omega arith) refl;
+          set_other 17 (word_at (x + RETURN_SP_AT) (return_taken x s)) l t r refl refl p.1 ∙ same l p.0;
+      sp = unread 16 x RETURN_SP_AT (result_loads Aarch64) t (omega arith) refl;
       pc = behind;
       memory = λ a out. places_outside Aarch64 16 x (result_loads Aarch64) t a out;
       limit = refl;
@@ -182,10 +183,10 @@ returns_back from in_range not_sp s is small under =
 -- ---- Exit
 
 abbrev exit_based : ℕ → Processor → Processor
-exit_based x s = received 4 (G 17) (word_at (x + 536) s) (received 4 (G 16) x s)
+exit_based x s = received 4 (G 17) (word_at (x + AREA_AT) s) (received 4 (G 16) x s)
 
 abbrev exit_placed : ℕ → Processor → Processor
-exit_placed x s = with_sp_by 4 (word_at (x + 536) s) (exit_based x s)
+exit_placed x s = with_sp_by 4 (word_at (x + AREA_AT) s) (exit_based x s)
 
 abbrev exit_restored : ℕ → Processor → Processor
 exit_restored x s = from_area Aarch64 0 (callee_saved_words Aarch64) (exit_placed x s)
@@ -199,11 +200,11 @@ exit_raised x gap s = with_sp_by 4 ((exit_given x s).sp + (176 + gap)) (exit_giv
 abbrev after_exit : ℕ → ℕ → Processor → Processor
 after_exit x gap s = record (exit_raised x gap s) { pc = (exit_raised x gap s).general 30 }
 
-exit_runs : (s : Processor) (from gap : ℕ) → from < 31 → from ≢ 31 → gap ≤ 1024 → s.pc % 4 ≡ 0 → word_at (s.general from + 536) s % 16 ≡ 0 → s.general from + 552 ≤ half → IsRegionKept (s.general from) s.sp s → IsRegionKept (s.general from) (word_at (s.general from + 536) s) s → word_at (s.general from + 536) s + (176 + gap) + 0 ≤ half → HasCode s s.pc (host_bytes Aarch64 from gap Exit) → TakesBy Aarch64 31 s (after_exit (s.general from) gap s)
+exit_runs : (s : Processor) (from gap : ℕ) → from < 31 → from ≢ 31 → gap ≤ 1024 → s.pc % 4 ≡ 0 → word_at (s.general from + AREA_AT) s % 16 ≡ 0 → s.general from + 552 ≤ half → IsRegionKept (s.general from) s.sp s → IsRegionKept (s.general from) (word_at (s.general from + AREA_AT) s) s → word_at (s.general from + AREA_AT) s + (176 + gap) + 0 ≤ half → HasCode s s.pc (host_bytes Aarch64 from gap Exit) → TakesBy Aarch64 31 s (after_exit (s.general from) gap s)
 unfolding host_bytes word_list fits all_fit
 exit_runs s from gap in_range not_sp room al sixteen far above under top h =
     let x : ℕ = s.general from in
-    let a : ℕ = word_at (x + 536) s in
+    let a : ℕ = word_at (x + AREA_AT) s in
     let short : 0 + 8 * 20 ≤ 2048 = omega arith in
     let within : a + 0 + 8 * 20 ≤ half = omega (arith, top) in
     let t6 : List ℕ = aarch64_row 0 (jump returns) ++ [] in
@@ -211,7 +212,7 @@ exit_runs s from gap in_range not_sp room al sixteen far above under top h =
     let t4 : List ℕ = word_list Aarch64 (exchange_loads 16 (result_loads Aarch64)) ++ t5 in
     let t3 : List ℕ = word_list Aarch64 (area_loads 31 0 (callee_saved_words Aarch64)) ++ t4 in
     let t2 : List ℕ = aarch64_row 0 (sum 31 17 (pos 0)) ++ t3 in
-    let t1 : List ℕ = aarch64_row 0 (load (G 17) 16 536) ++ t2 in
+    let t1 : List ℕ = aarch64_row 0 (load (G 17) 16 AREA_AT) ++ t2 in
     let s1 : Processor = received 4 (G 16) x s in
     let s2 : Processor = exit_based x s in
     let s3 : Processor = exit_placed x s in
@@ -222,8 +223,8 @@ exit_runs s from gap in_range not_sp room al sixteen far above under top h =
     let one = copy_row s 16 from x t1 (lit< tt) (omega (arith, in_range)) al (source s from in_range not_sp) (omega (arith, far)) h in
     let h1 : HasCode s1 s1.pc t1 = onward s s1 (copy_bytes Aarch64 16 from) t1 4 refl refl refl h in
     let al1 : s1.pc % 4 ≡ 0 = next_aligned s.pc s1.pc refl al in
-    let two = load_general_row s1 x 17 16 536 t2 (lit< tt) (lit< tt) refl (lit< tt) al1 (no_sp 16 s1.sp (lit< tt)) refl (omega (arith, far)) (kept_in Aarch64 s1 x 536 (omega arith) above) h1 in
-    let h2 : HasCode s2 s2.pc t2 = onward s1 s2 (aarch64_row 0 (load (G 17) 16 536)) t2 4 refl refl refl h1 in
+    let two = load_general_row s1 x 17 16 AREA_AT t2 (lit< tt) (lit< tt) refl (lit< tt) al1 (no_sp 16 s1.sp (lit< tt)) refl (omega (arith, far)) (kept_in Aarch64 s1 x AREA_AT (omega arith) above) h1 in
+    let h2 : HasCode s2 s2.pc t2 = onward s1 s2 (aarch64_row 0 (load (G 17) 16 AREA_AT)) t2 4 refl refl refl h1 in
     let al2 : s2.pc % 4 ≡ 0 = next_aligned s1.pc s2.pc refl al1 in
     let plus : a + 0 ≡ a = omega arith in
     let three = sp_row s2 17 0 a t3 (lit< tt) (lit< tt) al2 plus (omega (arith, top)) h2 in
@@ -237,10 +238,10 @@ exit_runs s from gap in_range not_sp room al sixteen far above under top h =
     let last = return_row s6 [] al6 h6 in
     and_then Aarch64 1 30 31 s s1 e refl (one_step Aarch64 s s1 one) (and_then Aarch64 1 29 30 s1 s2 e refl (one_step Aarch64 s1 s2 two) (and_then Aarch64 1 28 29 s2 s3 e refl (one_step Aarch64 s2 s3 three) (and_then Aarch64 20 8 28 s3 s4 e refl back.steps (and_then Aarch64 6 2 8 s4 s5 e refl given.steps (and_then Aarch64 1 1 2 s5 s6 e refl (one_step Aarch64 s5 s6 six) (one_step Aarch64 s6 e last))))))
 
-has_left : (s : Processor) (x gap : ℕ) → HasLeft Aarch64 x (word_at (x + 536) s) gap s (after_exit x gap s)
+has_left : (s : Processor) (x gap : ℕ) → HasLeft Aarch64 x (word_at (x + AREA_AT) s) gap s (after_exit x gap s)
 unfolding are_apart are_disjoint
 has_left s x gap =
-    let area : ℕ = word_at (x + 536) s in
+    let area : ℕ = word_at (x + AREA_AT) s in
     let t : Processor = exit_placed x s in
     let m : Processor = exit_restored x s in
     let e : Processor = after_exit x gap s in
@@ -280,33 +281,33 @@ abbrev entry_told : ℕ → Processor → Processor
 entry_told x s = received 4 (G 9) (s.sp - 176) (entry_based x s)
 
 abbrev entry_noted : ℕ → Processor → Processor
-entry_noted x s = stored 4 (x + 536) (s.sp - 176) (entry_told x s)
+entry_noted x s = stored 4 (x + AREA_AT) (s.sp - 176) (entry_told x s)
 
 abbrev entry_passed : ℕ → Processor → Processor
 entry_passed x s = to_exchange Aarch64 16 x (entry_stores Aarch64) (entry_noted x s)
 
 abbrev entry_ready : ℕ → Processor → Processor
-entry_ready x s = received 4 (G 16) (word_at (x + 528) (entry_passed x s)) (entry_passed x s)
+entry_ready x s = received 4 (G 16) (word_at (x + ENTRY_SP_AT) (entry_passed x s)) (entry_passed x s)
 
 abbrev after_entry : ℕ → Processor → Processor
-after_entry x s = with_sp_by 4 (word_at (x + 528) (entry_passed x s)) (entry_ready x s)
+after_entry x s = with_sp_by 4 (word_at (x + ENTRY_SP_AT) (entry_passed x s)) (entry_ready x s)
 
 -- memory outside the save area is as it was
 around : (s : Processor) (a : ℕ) → 176 ≤ s.sp → IsOutside (s.sp - 176) s.sp a → (entry_saved s).memory a ≡ s.memory a
 around s a room out = area_outside Aarch64 0 (stub_area Aarch64) (entry_fallen s) a (⊎_elim (λ h. inl (omega (arith, h))) (λ h. inr (omega (arith, h, room))) out)
 
-entry_word : (s : Processor) (x : ℕ) → 176 ≤ s.sp → (x + 552 ≤ s.sp - 176) ⊎ (s.sp ≤ x) → word_at (x + 528) (entry_passed x s) ≡ word_at (x + 528) s
+entry_word : (s : Processor) (x : ℕ) → 176 ≤ s.sp → (x + 552 ≤ s.sp - 176) ⊎ (s.sp ≤ x) → word_at (x + ENTRY_SP_AT) (entry_passed x s) ≡ word_at (x + ENTRY_SP_AT) s
 unfolding place misses are_spread
 entry_word s x room above =
     let t : Processor = entry_noted x s in
-    let word : bytes_at (entry_saved s).memory (x + 528) 8 ≡ bytes_at s.memory (x + 528) 8 = bytes_alike (entry_saved s).memory s.memory (x + 528) 8 (λ a low high. around s a room (region_outside a x (s.sp - 176) s.sp (omega (arith, low)) (omega (arith, high)) above)) in
-    unread 16 x 528 (entry_stores Aarch64) t (omega arith) refl ∙ ap (number_of 8) (bytes_other (x + 536) (s.sp - 176) (entry_saved s).memory (x + 528) 8 (inl (omega arith)) ∙ word)
+    let word : bytes_at (entry_saved s).memory (x + ENTRY_SP_AT) 8 ≡ bytes_at s.memory (x + ENTRY_SP_AT) 8 = bytes_alike (entry_saved s).memory s.memory (x + ENTRY_SP_AT) 8 (λ a low high. around s a room (region_outside a x (s.sp - 176) s.sp (omega (arith, low)) (omega (arith, high)) above)) in
+    unread 16 x ENTRY_SP_AT (entry_stores Aarch64) t (omega arith) refl ∙ ap (number_of 8) (bytes_other (x + AREA_AT) (s.sp - 176) (entry_saved s).memory (x + ENTRY_SP_AT) 8 (inl (omega arith)) ∙ word)
 
 -- numbers of the entry, over plain variables
 lowered_within : (p sp : ℕ) → sp ≡ p + 176 → sp ≤ half → (p + 0 + 8 * 21 ≤ half) × (p ≤ half)
 lowered_within p sp e low = (omega (arith, e, low), omega (arith, e, low))
 
-reads_within : (x : ℕ) → x + 552 ≤ half → (x + 528 ≤ half) × (x + 536 ≤ half) × (x ≤ half)
+reads_within : (x : ℕ) → x + 552 ≤ half → (x + ENTRY_SP_AT ≤ half) × (x + AREA_AT ≤ half) × (x ≤ half)
 reads_within x far = (omega (arith, far), omega (arith, far), omega (arith, far))
 
 nothing_more : (v : ℕ) → v + 0 ≡ v
@@ -321,14 +322,14 @@ to_in_half sp v low to = omega (arith, low, to)
 in_the_set : (from : ℕ) → from < 31 → from < 32
 in_the_set from h = omega (arith, h)
 
-entry_runs : (s : Processor) (from : ℕ) → from < 31 → from ≢ 31 → s.pc % 4 ≡ 0 → s.sp % 16 ≡ 0 → s.general from + 552 ≤ half → IsRegionKept (s.general from) (s.sp - 176) s → s.sp ≤ half → (s.general from + 552 ≤ s.sp - 176) ⊎ (s.sp ≤ s.general from) → 176 ≤ s.sp → word_at (s.general from + 528) s ≤ half → HasCode s s.pc (host_bytes Aarch64 from 0 Entry) → TakesBy Aarch64 45 s (after_entry (s.general from) s)
+entry_runs : (s : Processor) (from : ℕ) → from < 31 → from ≢ 31 → s.pc % 4 ≡ 0 → s.sp % 16 ≡ 0 → s.general from + 552 ≤ half → IsRegionKept (s.general from) (s.sp - 176) s → s.sp ≤ half → (s.general from + 552 ≤ s.sp - 176) ⊎ (s.sp ≤ s.general from) → 176 ≤ s.sp → word_at (s.general from + ENTRY_SP_AT) s ≤ half → HasCode s s.pc (host_bytes Aarch64 from 0 Entry) → TakesBy Aarch64 45 s (after_entry (s.general from) s)
 unfolding host_bytes word_list fits all_fit
 entry_runs s from in_range not_sp al sixteen far above below_half region room low h =
     let x : ℕ = s.general from in
     let t7 : List ℕ = aarch64_row 0 (sum 31 16 (pos 0)) ++ [] in
-    let t6 : List ℕ = aarch64_row 0 (load (G 16) 16 528) ++ t7 in
+    let t6 : List ℕ = aarch64_row 0 (load (G 16) 16 ENTRY_SP_AT) ++ t7 in
     let t5 : List ℕ = word_list Aarch64 (exchange_stores 16 (entry_stores Aarch64)) ++ t6 in
-    let t4 : List ℕ = aarch64_row 0 (store (G 9) 16 536) ++ t5 in
+    let t4 : List ℕ = aarch64_row 0 (store (G 9) 16 AREA_AT) ++ t5 in
     let t3 : List ℕ = aarch64_row 0 (sum 9 31 (pos 0)) ++ t4 in
     let t2 : List ℕ = copy_bytes Aarch64 16 from ++ t3 in
     let t1 : List ℕ = word_list Aarch64 (area_stores 31 0 (stub_area Aarch64)) ++ t2 in
@@ -340,7 +341,7 @@ entry_runs s from in_range not_sp al sixteen far above below_half region room lo
     let s6 : Processor = entry_passed x s in
     let s7 : Processor = entry_ready x s in
     let e : Processor = after_entry x s in
-    let v : ℕ = word_at (x + 528) s6 in
+    let v : ℕ = word_at (x + ENTRY_SP_AT) s6 in
     let p : ℕ = s.sp - 176 in
     let fallen : s.sp ≡ p + 176 = omega (arith, room) in
     let bounds = lowered_within p s.sp fallen below_half in
@@ -356,12 +357,12 @@ entry_runs s from in_range not_sp al sixteen far above below_half region room lo
     let four = copy_row s3 9 31 p t4 (lit< tt) (lit< tt) al3 refl bounds.1 h3 in
     let h4 : HasCode s4 s4.pc t4 = onward s3 s4 (aarch64_row 0 (sum 9 31 (pos 0))) t4 4 refl refl refl h3 in
     let al4 : s4.pc % 4 ≡ 0 = next_aligned s3.pc s4.pc refl al3 in
-    let five = store_general_row s4 x 9 16 536 t5 (lit< tt) (lit< tt) refl (lit< tt) al4 (no_sp 16 s4.sp (lit< tt)) refl reads.1 h4 in
-    let h5 : HasCode s5 s5.pc t5 = onward s4 s5 (aarch64_row 0 (store (G 9) 16 536)) t5 4 refl refl refl h4 in
+    let five = store_general_row s4 x 9 16 AREA_AT t5 (lit< tt) (lit< tt) refl (lit< tt) al4 (no_sp 16 s4.sp (lit< tt)) refl reads.1 h4 in
+    let h5 : HasCode s5 s5.pc t5 = onward s4 s5 (aarch64_row 0 (store (G 9) 16 AREA_AT)) t5 4 refl refl refl h4 in
     let al5 : s5.pc % 4 ≡ 0 = next_aligned s4.pc s5.pc refl al4 in
     let came : Came Aarch64 16 x s5 s6 18 t6 = exchange_stored Aarch64 31 18 16 18 x (aarch64_laws 16 (lit< tt)) (entry_stores Aarch64) s5 t6 refl al5 refl far h5 in
-    let seven = load_general_row s6 x 16 16 528 t7 (lit< tt) (lit< tt) refl (lit< tt) came.aligned (no_sp 16 s6.sp (lit< tt)) came.base reads.0 (kept_in Aarch64 s6 x 528 (lit≤ tt) above) came.stands in
-    let h7 : HasCode s7 s7.pc t7 = onward s6 s7 (aarch64_row 0 (load (G 16) 16 528)) t7 4 refl refl refl came.stands in
+    let seven = load_general_row s6 x 16 16 ENTRY_SP_AT t7 (lit< tt) (lit< tt) refl (lit< tt) came.aligned (no_sp 16 s6.sp (lit< tt)) came.base reads.0 (kept_in Aarch64 s6 x ENTRY_SP_AT (lit≤ tt) above) came.stands in
+    let h7 : HasCode s7 s7.pc t7 = onward s6 s7 (aarch64_row 0 (load (G 16) 16 ENTRY_SP_AT)) t7 4 refl refl refl came.stands in
     let al7 : s7.pc % 4 ≡ 0 = next_aligned s6.pc s7.pc refl came.aligned in
     let plus : v + 0 ≡ v = nothing_more v in
     let small : v ≤ half = subst (λ (a : ℕ). a ≤ half) (sym (entry_word s x room region)) low in
@@ -385,7 +386,7 @@ unfolding place misses are_spread
 area_apart s x above room a low high =
     let below : a < s.sp = omega (arith, high, room) in
     let out : (a < x) ⊎ (x + 552 ≤ a) = outside_region a x (s.sp - 176) s.sp low below above in
-    exchange_outside Aarch64 16 x (entry_stores Aarch64) (entry_noted x s) a (⊎_elim (λ h. inl h) (λ h. inr (omega (arith, h))) out) refl ∙ byte_other (x + 536) (s.sp - 176) a (entry_saved s).memory (⊎_elim (λ h. inl (omega (arith, h))) (λ h. inr (omega (arith, h))) out)
+    exchange_outside Aarch64 16 x (entry_stores Aarch64) (entry_noted x s) a (⊎_elim (λ h. inl h) (λ h. inr (omega (arith, h))) out) refl ∙ byte_other (x + AREA_AT) (s.sp - 176) a (entry_saved s).memory (⊎_elim (λ h. inl (omega (arith, h))) (λ h. inr (omega (arith, h))) out)
 
 has_entered : (s : Processor) (from x : ℕ) → (x + 552 ≤ s.sp - 176) ⊎ (s.sp ≤ x) → 176 ≤ s.sp → HasEntered Aarch64 x (s.pc + length (host_bytes Aarch64 from 0 Entry)) s (after_entry x s)
 unfolding host_bytes place misses are_spread
@@ -402,13 +403,13 @@ has_entered s from x above room =
     record {
       saved = area_still v (stub_area Aarch64) s (entry_saved s) e (area_apart s x above room) (went_to_area Aarch64 0 v (stub_area Aarch64) w first);
       stored = went_from 16 x (entry_stores Aarch64) s b e refl (λ l out. set_other 16 x l s b refl refl out) (went_from 9 x (entry_stores Aarch64) b t e refl (λ l out. set_other 9 v l b t refl refl out) (went_to_exchange Aarch64 16 x (entry_stores Aarch64) t refl));
-      area = exchange_beyond Aarch64 16 x (entry_stores Aarch64) t 536 (omega arith) refl ∙ word_put (x + 536) v (entry_saved s).memory;
+      area = exchange_beyond Aarch64 16 x (entry_stores Aarch64) t AREA_AT (omega arith) refl ∙ word_put (x + AREA_AT) v (entry_saved s).memory;
       others = λ l out.
           let p = none_of_two l 16 9 [] out in
-          set_other 16 (word_at (x + 528) (entry_passed x s)) l t r refl refl p.0 ∙ told l p.1 p.0;
+          set_other 16 (word_at (x + ENTRY_SP_AT) (entry_passed x s)) l t r refl refl p.0 ∙ told l p.1 p.0;
       sp = entry_word s x room above;
       pc = all_in_all s.pc (entry_saved s).pc (entry_passed x s).pc (saved_pc (stub_area Aarch64) 0 w) (passed_pc (entry_stores Aarch64) x t);
-      memory = λ a low region word_out. places_outside Aarch64 16 x (entry_stores Aarch64) t a region ∙ byte_other (x + 536) v a (entry_saved s).memory (⊎_elim (λ h. inl h) (λ h. inr (omega (arith, h))) word_out) ∙ around s a room low;
+      memory = λ a low region word_out. places_outside Aarch64 16 x (entry_stores Aarch64) t a region ∙ byte_other (x + AREA_AT) v a (entry_saved s).memory (⊎_elim (λ h. inl h) (λ h. inr (omega (arith, h))) word_out) ∙ around s a room low;
       limit = refl;
       code = refl;
     }
@@ -420,4 +421,4 @@ enters from in_range not_sp s is sixteen low room to =
     let in_stack : s.limit ≤ s.sp - 176 = omega (arith, room) in
     let region : (x + 552 ≤ s.sp - 176) ⊎ (s.sp ≤ x) = apart_from x s.limit (s.sp - 176) s.sp in_stack is.region in
     let after : IsRegionKept x (s.sp - 176) s = ⊎_elim (λ h. inl h) (λ h. inr (omega (arith, h))) is.region in
-    (after_entry x s, in_turn Aarch64 45 s (after_entry x s) (entry_runs s from in_range not_sp is.aligned sixteen is.high after low region fits (to_in_half s.sp (word_at (x + 528) s) low to) is.code), has_entered s from x region fits)
+    (after_entry x s, in_turn Aarch64 45 s (after_entry x s) (entry_runs s from in_range not_sp is.aligned sixteen is.high after low region fits (to_in_half s.sp (word_at (x + ENTRY_SP_AT) s) low to) is.code), has_entered s from x region fits)

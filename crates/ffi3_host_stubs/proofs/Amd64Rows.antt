@@ -6,10 +6,11 @@ use Rattle.std.specs.Prelude.{nat_lt, ◌==◌}
 use Rattle.std.specs.Int.{w32, byte_at, from_le_bytes, to_le_bytes}
 use Rattle.ffi3_isa.specs.declared.Instr.TheVariants.{Ld, Sd, Fld, Fsd, Addi, CallMem, Ret}
 use Rattle.ffi3_isa.specs.Fields.{sign_extend}
-use Rattle.ffi3_isa.specs.Amd64.{fixed, mov_at_r11, mov_at_sp, movsd_at_r11, lea_sp, call, ret, disp32, rex, mod_rm}
+use Rattle.ffi3_isa.specs.Amd64.{fixed, mov_at_r11, mov_at_sp, movsd_at_r11, lea_sp, call, ret, disp32}
+use Rattle.ffi3_machine_spec.specs.Encoding.{rex, mod_rm}
 use Rattle.ffi3_type_spec.specs.declared.Isa.TheVariants.{Amd64}
 use Rattle.ffi3_place_spec.specs.declared.Loc.TheVariants.{G, F}
-use Rattle.ffi3_machine.specs.Stubs.{load, store, sum, jump, calls_at, returns, amd64_row}
+use Rattle.ffi3_machine_spec.specs.Stubs.{load, store, sum, jump, calls_at, returns, amd64_row}
 use Rattle.ffi3_machine.specs.MachineStep.{moved}
 use Rattle.ffi3_host_stubs.specs.Processor.{Processor, half, word_at, set_at, put_word, next, listed, move_of, IsKept, Steps, HasCode}
 use Rattle.ffi3_host_stubs.specs.Stubs.{copy_bytes}

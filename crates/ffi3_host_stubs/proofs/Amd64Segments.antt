@@ -5,7 +5,7 @@ use Rattle.std.specs.Prelude.{◌&&◌, ◌==◌, not, nat_lt}
 use Rattle.ffi3_type_spec.specs.declared.Isa.TheVariants.{Amd64}
 use Rattle.ffi3_place_spec.specs.declared.Loc.{Loc}
 use Rattle.ffi3_place_spec.specs.declared.Loc.TheVariants.{G, F, S}
-use Rattle.ffi3_machine.specs.Stubs.{Row, load, store, amd64_row, exchange_loads, exchange_stores, area_loads, area_stores}
+use Rattle.ffi3_machine_spec.specs.Stubs.{Row, load, store, amd64_row, exchange_loads, exchange_stores, area_loads, area_stores}
 use Rattle.ffi3_stubs.proofs.Amd64Segments.{is_plain, are_moved, are_saved}
 use Rattle.ffi3_host_stubs.specs.Processor.{Processor, half, word_at, set_at, Steps, HasCode}
 use Rattle.ffi3_host_stubs.specs.Calls.{IsRegionKept}

@@ -3,11 +3,12 @@ use Rattle.std.proofs.Common.{⊎_elim, subst, ◌≡◌, ◌⊎◌, inl, inr, �
 use Rattle.std.proofs.lemmas.Bool.Decides.{nat_tests}
 use Rattle.std.specs.Prelude.{nat_le}
 use Rattle.ffi3_isa.specs.declared.Instr.TheVariants.{Endbr, Lea, JmpMem}
-use Rattle.ffi3_isa.specs.Amd64.{trampoline, endbr64, lea, jmp, disp32, rex, mod_rm}
+use Rattle.ffi3_isa.specs.Amd64.{trampoline, endbr64, lea, jmp, disp32}
+use Rattle.ffi3_machine_spec.specs.Encoding.{rex, mod_rm}
 use Rattle.ffi3_type_spec.specs.declared.Isa.TheVariants.{Amd64}
 use Rattle.ffi3_place_spec.specs.declared.Loc.TheVariants.{G}
 use Rattle.ffi3_machine.specs.MachineStep.{moved}
-use Rattle.ffi3_machine.specs.Stubs.{word}
+use Rattle.ffi3_machine_spec.specs.Stubs.{word}
 use Rattle.ffi3_stubs.specs.Calls.{same_loc}
 use Rattle.ffi3_host_stubs.specs.Processor.{Processor, half, word_at, set_at, next, listed, IsKept, Steps, HasCode}
 use Rattle.ffi3_host_stubs.specs.Slots.{less_by, slot_code, Reaches}

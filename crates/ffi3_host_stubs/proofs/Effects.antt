@@ -4,7 +4,7 @@ use Rattle.ffi3_type_spec.specs.declared.Isa.{Isa}
 use Rattle.ffi3_place_spec.specs.declared.Loc.{Loc}
 use Rattle.ffi3_place_spec.specs.declared.Loc.TheVariants.{G, F, S}
 use Rattle.ffi3_place_spec.specs.MachineRegisters.{stack_pointer}
-use Rattle.ffi3_machine.specs.Stubs.{load, size_of, exchanged_at}
+use Rattle.ffi3_machine_spec.specs.Stubs.{load, size_of, exchanged_at}
 use Rattle.ffi3_host_stubs.specs.Processor.{Processor, word_at, set_at, put_word}
 use Rattle.ffi3_host_stubs.specs.Calls.{held}
 

@@ -2,8 +2,8 @@
 use Rattle.std.proofs.Common.{◌≡◌, ◌≢◌, ℕ, ◌≤◌, ◌==◌, Bool, true, false, refl, ap}
 use Rattle.ffi3_type_spec.specs.declared.Isa.{Isa}
 use Rattle.ffi3_type_spec.specs.declared.Isa.TheVariants.{Amd64, Aarch64, Riscv}
-use Rattle.ffi3_machine.specs.Stubs.{Call, Entry, Exit, Return, rows}
-use Rattle.ffi3_closures.specs.Slots.{trampoline}
+use Rattle.ffi3_machine_spec.specs.Stubs.{Call, Entry, Exit, Return, rows}
+use Rattle.ffi3_machine_spec.specs.Slots.{trampoline}
 use Rattle.ffi3_host_stubs.specs.Stubs.{exit_rows, host_bytes}
 use Rattle.ffi3_host_stubs.specs.Calls.{IsSource, Calls, Returns, Enters, Leaves, most_gap}
 use Rattle.ffi3_host_stubs.specs.Slots.{CanReach, Reaches, slot_code}

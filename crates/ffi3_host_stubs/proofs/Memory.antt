@@ -3,12 +3,13 @@ use Rattle.std.proofs.Common.{◌≡◌, ◌≢◌, ℕ, zero, suc, ◌+◌, ◌
 use Rattle.std.proofs.lemmas.Bool.Decides.{nat_tests}
 use Rattle.std.specs.Prelude.{◌&&◌, ◌||◌, ◌==◌, not, nat_lt}
 use Rattle.std.specs.Int.{byte_at}
-use Rattle.ffi3_memory.specs.Memory.{low_bytes}
+use Rattle.ffi3_machine_spec.specs.Memory.{low_bytes}
 use Rattle.ffi3_type_spec.specs.declared.Isa.{Isa}
 use Rattle.ffi3_place_spec.specs.declared.Loc.{Loc}
 use Rattle.ffi3_place_spec.specs.declared.Loc.TheVariants.{G, F, S}
 use Rattle.ffi3_place_spec.specs.MachineRegisters.{stack_pointer}
-use Rattle.ffi3_machine.specs.Stubs.{load, size_of, exchanged_at}
+use Rattle.ffi3_machine_spec.specs.declared.stub.TheConstants.{REGISTERS_END}
+use Rattle.ffi3_machine_spec.specs.Stubs.{load, size_of, exchanged_at}
 use Rattle.ffi3_stubs.specs.Calls.{same_loc, is_in}
 use Rattle.ffi3_stubs.proofs.Reading.{are_apart, are_disjoint, place, misses, are_spread}
 use Rattle.ffi3_host_stubs.specs.Processor.{Processor, bytes_at, word_at, is_within, put_word, set_at}
@@ -155,7 +156,7 @@ came_from_area isa at addr (S k w ∷ ls) s here ok = absurd cc
 -- ---- to the exchange region
 
 -- bytes outside the places of registers stay
-pub exchange_outside : (isa : Isa) (base x : ℕ) (ls : List Loc) (s : Processor) (a : ℕ) → IsOutside x (x + 512) a → are_spread ls ≡ true → (to_exchange isa base x ls s).memory a ≡ s.memory a
+pub exchange_outside : (isa : Isa) (base x : ℕ) (ls : List Loc) (s : Processor) (a : ℕ) → IsOutside x (x + REGISTERS_END) a → are_spread ls ≡ true → (to_exchange isa base x ls s).memory a ≡ s.memory a
 unfolding are_spread
 exchange_outside isa base x [] s a out ok = refl
 exchange_outside isa base x (G k ∷ ls) s a out ok =
@@ -189,7 +190,7 @@ bytes_alike f g addr (suc n) same =
     let more = bytes_alike f g (addr + 1) n (λ a low high. same a (omega (arith, low)) (omega (arith, high))) in
     λ i. one i ∷ more i
 
-pub exchange_beyond : (isa : Isa) (base x : ℕ) (ls : List Loc) (s : Processor) (at : ℕ) → 512 ≤ at → are_spread ls ≡ true → bytes_at (to_exchange isa base x ls s).memory (x + at) 8 ≡ bytes_at s.memory (x + at) 8
+pub exchange_beyond : (isa : Isa) (base x : ℕ) (ls : List Loc) (s : Processor) (at : ℕ) → REGISTERS_END ≤ at → are_spread ls ≡ true → bytes_at (to_exchange isa base x ls s).memory (x + at) 8 ≡ bytes_at s.memory (x + at) 8
 exchange_beyond isa base x ls s at far ok =
     bytes_alike (to_exchange isa base x ls s).memory s.memory (x + at) 8 (λ a low high. exchange_outside isa base x ls s a (inr (omega (arith, low, far))) ok)
 
@@ -276,7 +277,7 @@ went_from b x (l ∷ ls) s t u out same h =
     (h.0 ∙ ap (low_bytes 8) (same l (turned b l parts.0)), went_from b x ls s t u parts.1 same h.1)
 
 -- memory that is the same where they went
-pub went_still : (x : ℕ) (ls : List Loc) (s t u : Processor) → ((at : ℕ) → at + 8 ≤ 512 → bytes_at u.memory (x + at) 8 ≡ bytes_at t.memory (x + at) 8) → are_spread ls ≡ true → WentToExchange x ls s t → WentToExchange x ls s u
+pub went_still : (x : ℕ) (ls : List Loc) (s t u : Processor) → ((at : ℕ) → at + 8 ≤ REGISTERS_END → bytes_at u.memory (x + at) 8 ≡ bytes_at t.memory (x + at) 8) → are_spread ls ≡ true → WentToExchange x ls s t → WentToExchange x ls s u
 unfolding are_spread
 went_still x [] s t u same ok h = tt
 went_still x (G k ∷ ls) s t u same ok h =

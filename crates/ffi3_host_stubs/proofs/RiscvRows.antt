@@ -9,7 +9,7 @@ use Rattle.ffi3_isa.specs.Riscv.{IsRiscv, IsRiscvWord, ld, jalr, addi, sd, fld, 
 use Rattle.ffi3_type_spec.specs.declared.Isa.TheVariants.{Riscv}
 use Rattle.ffi3_place_spec.specs.declared.Loc.{Loc}
 use Rattle.ffi3_place_spec.specs.declared.Loc.TheVariants.{G, F, S}
-use Rattle.ffi3_machine.specs.Stubs.{load, store, sum, jump, calls, returns, exchanged_at, row_bytes, riscv_row, word}
+use Rattle.ffi3_machine_spec.specs.Stubs.{load, store, sum, jump, calls, returns, exchanged_at, row_bytes, riscv_row, word}
 use Rattle.ffi3_machine.specs.MachineStep.{moved, even}
 use Rattle.ffi3_stubs.proofs.Places.{word_first, unequal}
 use Rattle.ffi3_stubs.proofs.WordSegments.{fits}

@@ -8,7 +8,7 @@ use Rattle.ffi3_isa.specs.Riscv.{auipc, jalr}
 use Rattle.ffi3_type_spec.specs.declared.Isa.TheVariants.{Riscv}
 use Rattle.ffi3_place_spec.specs.declared.Loc.TheVariants.{G}
 use Rattle.ffi3_machine.specs.MachineStep.{moved, even}
-use Rattle.ffi3_machine.specs.Stubs.{word, load, riscv_row, riscv_i}
+use Rattle.ffi3_machine_spec.specs.Stubs.{word, load, riscv_row, riscv_i}
 use Rattle.ffi3_stubs.specs.Calls.{same_loc, is_in}
 use Rattle.ffi3_host_stubs.specs.Processor.{Processor, half, word_at, set_at, next, Steps, HasCode}
 use Rattle.ffi3_host_stubs.specs.Slots.{slot_code, Reaches}

@@ -6,7 +6,7 @@ use Rattle.ffi3_type_spec.specs.declared.Isa.{Isa}
 use Rattle.ffi3_place_spec.specs.declared.Loc.{Loc}
 use Rattle.ffi3_place_spec.specs.declared.Loc.TheVariants.{G, F, S}
 use Rattle.ffi3_place_spec.specs.MachineRegisters.{stack_pointer}
-use Rattle.ffi3_machine.specs.Stubs.{Row, load, store, size_of, row_bytes, exchanged_at, exchange_loads, exchange_stores, area_loads, area_stores}
+use Rattle.ffi3_machine_spec.specs.Stubs.{Row, load, store, size_of, row_bytes, exchanged_at, exchange_loads, exchange_stores, area_loads, area_stores}
 use Rattle.ffi3_stubs.proofs.WordSegments.{fits, all_fit}
 use Rattle.ffi3_host_stubs.specs.Processor.{Processor, half, word_at, set_at, IsStackAligned, Steps, HasCode}
 use Rattle.ffi3_host_stubs.specs.Calls.{held, IsRegionKept}

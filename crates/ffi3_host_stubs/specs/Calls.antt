@@ -1,7 +1,7 @@
 -- What the four stubs do, wherever they and the exchange region stand: which registers came from where, which went where, and what stays.
 use Rattle.std.specs.Prelude.{◌≡◌, ℕ, ◌+◌, ◌-◌, ◌<◌, ◌≤◌, ◌⊎◌, ⊤, false, List, [], ◌∷◌, ◌++◌, length}
 use Rattle.std.specs.List.{AllByRecursion}
-use Rattle.ffi3_memory.specs.Memory.{number_of, low_bytes}
+use Rattle.ffi3_machine_spec.specs.Memory.{number_of, low_bytes}
 use Rattle.ffi3_type_spec.specs.declared.Isa.{Isa}
 use Rattle.ffi3_type_spec.specs.declared.Isa.TheVariants.{Amd64, Aarch64, Riscv}
 use Rattle.ffi3_place_spec.specs.declared.Loc.{Loc}
@@ -9,8 +9,9 @@ use Rattle.ffi3_place_spec.specs.declared.Loc.TheVariants.{G, F, S}
 use Rattle.ffi3_place_spec.specs.MachineRegisters.{general_registers, stack_pointer, is_zero_register, pushed_bytes}
 use Rattle.ffi3_place_spec.specs.StubRegisters.{area_bytes}
 use Rattle.ffi3_place_spec.specs.StubRegisters.{call_loads, entry_stores, callee_saved_words, stub_area, result_loads, call_scratch, entry_scratch, exit_scratch}
+use Rattle.ffi3_machine_spec.specs.declared.stub.TheConstants.{AREA_AT, CALLEE_AT, CALL_SP_AT, ENTRY_SP_AT, RETURN_SP_AT}
 use Rattle.ffi3_machine.specs.MachineStep.{IsAligned}
-use Rattle.ffi3_machine.specs.Stubs.{StubName, Entry, Exit, Call, Return, exchanged_at}
+use Rattle.ffi3_machine_spec.specs.Stubs.{StubName, Entry, Exit, Call, Return, exchanged_at}
 use Rattle.ffi3_stubs.specs.Calls.{is_in, steps_of, target_of}
 use Rattle.ffi3_host_stubs.specs.Processor.{Processor, half, bytes_at, word_at, IsStackAligned, TakesSteps, HasCode}
 
@@ -108,21 +109,21 @@ IsLinked Riscv to s = s.general 1 ≡ to
 pub record HasCalled (isa : Isa) (x behind : ℕ) (before after : Processor) : Type 0 where
   pub loaded : CameFromExchange x (call_loads isa) before after
   pub others : OthersStay (call_scratch isa ++ call_loads isa) before after
-  pub sp : after.sp ≡ word_at (x + 520) before - pushed_bytes isa
-  pub pc : after.pc ≡ target_of isa (word_at (x + 512) before)
+  pub sp : after.sp ≡ word_at (x + CALL_SP_AT) before - pushed_bytes isa
+  pub pc : after.pc ≡ target_of isa (word_at (x + CALLEE_AT) before)
   pub link : IsLinked isa behind after
-  pub memory : (a : ℕ) → IsOutside (word_at (x + 520) before - pushed_bytes isa) (word_at (x + 520) before) a
+  pub memory : (a : ℕ) → IsOutside (word_at (x + CALL_SP_AT) before - pushed_bytes isa) (word_at (x + CALL_SP_AT) before) a
       → after.memory a ≡ before.memory a
   pub limit : after.limit ≡ before.limit
   pub code : after.code ≡ before.code
 
--- Wherever the bytes stand they call, by the exchange region whose address register `from` holds: with the sp that stands at 520 there, which is in the stack and not below sp
+-- Wherever the bytes stand they call, by the exchange region whose address register `from` holds: with the sp that stands at CALL_SP_AT there, which is in the stack and not below sp
 abbrev pub Calls : Isa → ℕ → List ℕ → Type 0
 Calls isa from bytes =
     (s : Processor) → IsAtStub isa (s.general from) bytes s
-    → s.limit + pushed_bytes isa ≤ word_at (s.general from + 520) s → s.sp ≤ word_at (s.general from + 520) s
-    → word_at (s.general from + 520) s ≤ half → IsRegionKept (s.general from) (word_at (s.general from + 520) s) s
-    → word_at (s.general from + 512) s ≤ half
+    → s.limit + pushed_bytes isa ≤ word_at (s.general from + CALL_SP_AT) s → s.sp ≤ word_at (s.general from + CALL_SP_AT) s
+    → word_at (s.general from + CALL_SP_AT) s ≤ half → IsRegionKept (s.general from) (word_at (s.general from + CALL_SP_AT) s) s
+    → word_at (s.general from + CALLEE_AT) s ≤ half
     → (t : Processor) × TakesSteps isa (host_steps isa Call) s t × HasCalled isa (s.general from) (s.pc + length bytes) s t
 
 -- ---- Return
@@ -130,17 +131,17 @@ Calls isa from bytes =
 pub record HasReturned (isa : Isa) (x behind : ℕ) (before after : Processor) : Type 0 where
   pub stored : WentToExchange x (result_loads isa) before after
   pub others : OthersStay (exit_scratch isa) before after
-  pub sp : after.sp ≡ word_at (x + 544) before
+  pub sp : after.sp ≡ word_at (x + RETURN_SP_AT) before
   pub pc : after.pc ≡ behind
   pub memory : (a : ℕ) → IsInNoPlace x (result_loads isa) a → after.memory a ≡ before.memory a
   pub limit : after.limit ≡ before.limit
   pub code : after.code ≡ before.code
 
--- Wherever the bytes stand, results go to the exchange region whose address register `from` holds, and sp becomes what stands at 544 there, below which the region is not
+-- Wherever the bytes stand, results go to the exchange region whose address register `from` holds, and sp becomes what stands at RETURN_SP_AT there, below which the region is not
 abbrev pub Returns : Isa → ℕ → List ℕ → Type 0
 Returns isa from bytes =
-    (s : Processor) → IsAtStub isa (s.general from) bytes s → word_at (s.general from + 544) s ≤ half
-    → IsRegionKept (s.general from) (word_at (s.general from + 544) s) s
+    (s : Processor) → IsAtStub isa (s.general from) bytes s → word_at (s.general from + RETURN_SP_AT) s ≤ half
+    → IsRegionKept (s.general from) (word_at (s.general from + RETURN_SP_AT) s) s
     → (t : Processor) × TakesSteps isa (host_steps isa Return) s t × HasReturned isa (s.general from) (s.pc + length bytes) s t
 
 -- ---- Entry
@@ -149,21 +150,21 @@ pub record HasEntered (isa : Isa) (x behind : ℕ) (before after : Processor) : 
   pub saved : WentToArea (before.sp - area_bytes isa) (stub_area isa) before after
   pub stored : WentToExchange x (entry_stores isa) before after
   -- sp is stored too, where Exit finds the save area
-  pub area : bytes_at after.memory (x + 536) 8 ≡ low_bytes 8 (before.sp - area_bytes isa)
+  pub area : bytes_at after.memory (x + AREA_AT) 8 ≡ low_bytes 8 (before.sp - area_bytes isa)
   pub others : OthersStay (host_entry_scratch isa) before after
-  pub sp : after.sp ≡ word_at (x + 528) before
+  pub sp : after.sp ≡ word_at (x + ENTRY_SP_AT) before
   pub pc : after.pc ≡ behind
   pub memory : (a : ℕ) → IsOutside (before.sp - area_bytes isa) before.sp a → IsInNoPlace x (entry_stores isa) a
-      → IsOutside (x + 536) (x + 544) a → after.memory a ≡ before.memory a
+      → IsOutside (x + AREA_AT) (x + RETURN_SP_AT) a → after.memory a ≡ before.memory a
   pub limit : after.limit ≡ before.limit
   pub code : after.code ≡ before.code
 
--- Wherever the bytes stand, what is preserved goes below sp, and arguments and sp to the exchange region whose address register `from` holds; sp becomes what stands at 528 there, which is not above what was saved
+-- Wherever the bytes stand, what is preserved goes below sp, and arguments and sp to the exchange region whose address register `from` holds; sp becomes what stands at ENTRY_SP_AT there, which is not above what was saved
 abbrev pub Enters : Isa → ℕ → List ℕ → Type 0
 Enters isa from bytes =
     (s : Processor) → IsAtStub isa (s.general from) bytes s → IsStackAligned isa s.sp → s.sp ≤ half
     → s.limit + area_bytes isa ≤ s.sp
-    → word_at (s.general from + 528) s ≤ s.sp - area_bytes isa
+    → word_at (s.general from + ENTRY_SP_AT) s ≤ s.sp - area_bytes isa
     → (t : Processor) × TakesSteps isa (host_steps isa Entry) s t × HasEntered isa (s.general from) (s.pc + length bytes) s t
 
 -- ---- Exit
@@ -195,13 +196,13 @@ IsReturnLow Amd64 area s = ⊤
 IsReturnLow Aarch64 area s = ⊤
 IsReturnLow Riscv area s = word_at area s ≤ half
 
--- Wherever the bytes stand, what is preserved comes from the save area, whose address stands at 536 of the exchange region and is not below sp, and results from that region, whose address register `from` holds
+-- Wherever the bytes stand, what is preserved comes from the save area, whose address stands at AREA_AT of the exchange region and is not below sp, and results from that region, whose address register `from` holds
 abbrev pub Leaves : Isa → ℕ → ℕ → List ℕ → Type 0
 Leaves isa from gap bytes =
     (s : Processor) → IsAtStub isa (s.general from) bytes s
-    → IsStackAligned isa (word_at (s.general from + 536) s) → s.sp ≤ word_at (s.general from + 536) s
-    → IsRegionKept (s.general from) (word_at (s.general from + 536) s) s → IsReturnLow isa (word_at (s.general from + 536) s) s
-    → word_at (s.general from + 536) s + (area_bytes isa + gap) + pushed_bytes isa ≤ half
+    → IsStackAligned isa (word_at (s.general from + AREA_AT) s) → s.sp ≤ word_at (s.general from + AREA_AT) s
+    → IsRegionKept (s.general from) (word_at (s.general from + AREA_AT) s) s → IsReturnLow isa (word_at (s.general from + AREA_AT) s) s
+    → word_at (s.general from + AREA_AT) s + (area_bytes isa + gap) + pushed_bytes isa ≤ half
     → (t : Processor)
     × TakesSteps isa (host_steps isa Exit) s t
-    × HasLeft isa (s.general from) (word_at (s.general from + 536) s) gap s t
+    × HasLeft isa (s.general from) (word_at (s.general from + AREA_AT) s) gap s t

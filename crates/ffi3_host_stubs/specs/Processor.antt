@@ -2,14 +2,15 @@
 use Rattle.std.specs.Prelude.{◌≡◌, ℕ, zero, suc, ⊤, ◌+◌, ◌-◌, ◌*◌, ◌%◌, ◌<◌, ◌≤◌, ◌⊎◌, Bool, ◌&&◌, ◌==◌, if◌then◌else◌, nat_le, nat_lt}
 use Rattle.std.specs.Prelude.{pos, negsuc, List, [], ◌∷◌, length}
 use Rattle.std.specs.Int.{byte_at}
-use Rattle.ffi3_memory.specs.Memory.{number_of}
+use Rattle.ffi3_machine_spec.specs.Memory.{number_of}
 use Rattle.ffi3_type_spec.specs.declared.Isa.{Isa}
 use Rattle.ffi3_type_spec.specs.declared.Isa.TheVariants.{Amd64, Aarch64, Riscv}
 use Rattle.ffi3_place_spec.specs.MachineRegisters.{is_zero_register, stack_pointer}
 use Rattle.ffi3_isa.specs.declared.Instr.{Instr}
 use Rattle.ffi3_isa.specs.declared.Instr.TheVariants.{Endbr, Nop, Lea, JmpMem, LdrLit, Adr, Br, Auipc, Ld, Jalr, Addi}
 use Rattle.ffi3_isa.specs.declared.Instr.TheVariants.{Sd, Fld, Fsd, CallMem, Ret, Blr}
-use Rattle.ffi3_isa.specs.Amd64.{IsAmd64, rex, mod_rm}
+use Rattle.ffi3_isa.specs.Amd64.{IsAmd64}
+use Rattle.ffi3_machine_spec.specs.Encoding.{rex, mod_rm}
 use Rattle.ffi3_isa.specs.Aarch64.{IsAarch64}
 use Rattle.ffi3_isa.specs.Riscv.{IsRiscv}
 use Rattle.ffi3_machine.specs.MachineStep.{moved, even, reads_zero, reads_sp, IsAligned}

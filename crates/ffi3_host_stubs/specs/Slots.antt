@@ -3,9 +3,9 @@ use Rattle.std.specs.Prelude.{◌≡◌, ℕ, ◌+◌, ◌-◌, ◌*◌, ◌/◌
 use Rattle.ffi3_type_spec.specs.declared.Isa.{Isa}
 use Rattle.ffi3_type_spec.specs.declared.Isa.TheVariants.{Amd64, Aarch64, Riscv}
 use Rattle.ffi3_place_spec.specs.MachineRegisters.{closure_register, trampoline_registers}
-use Rattle.ffi3_isa.specs.Amd64.{rex, mod_rm}
+use Rattle.ffi3_machine_spec.specs.Encoding.{rex, mod_rm}
 use Rattle.ffi3_machine.specs.MachineStep.{IsAligned}
-use Rattle.ffi3_machine.specs.Stubs.{word, riscv_i}
+use Rattle.ffi3_machine_spec.specs.Stubs.{word, riscv_i}
 use Rattle.ffi3_stubs.specs.Calls.{target_of}
 use Rattle.ffi3_host_stubs.specs.Processor.{Processor, half, word_at, TakesSteps, HasCode}
 use Rattle.ffi3_host_stubs.specs.Calls.{OthersStay}

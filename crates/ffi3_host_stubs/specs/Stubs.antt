@@ -5,9 +5,10 @@ use Rattle.ffi3_type_spec.specs.declared.Isa.TheVariants.{Amd64, Aarch64, Riscv}
 use Rattle.ffi3_place_spec.specs.declared.Loc.TheVariants.{G}
 use Rattle.ffi3_place_spec.specs.MachineRegisters.{stack_pointer}
 use Rattle.ffi3_place_spec.specs.StubRegisters.{callee_saved_words, area_bytes, result_loads}
-use Rattle.ffi3_isa.specs.Amd64.{rex, mod_rm}
-use Rattle.ffi3_machine.specs.Stubs.{Row, address, load, store, sum, jump, returns, StubName, Entry, Exit, Call, Return}
-use Rattle.ffi3_machine.specs.Stubs.{rows, row_bytes, sp_rows, area_loads, exchange_loads, return_base}
+use Rattle.ffi3_machine_spec.specs.declared.stub.TheConstants.{AREA_AT}
+use Rattle.ffi3_machine_spec.specs.Encoding.{rex, mod_rm}
+use Rattle.ffi3_machine_spec.specs.Stubs.{Row, address, load, store, sum, jump, returns, StubName, Entry, Exit, Call, Return}
+use Rattle.ffi3_machine_spec.specs.Stubs.{rows, row_bytes, sp_rows, area_loads, exchange_loads, return_base}
 
 pub data HostRow : Type 0 where
   -- the value of a register into another
@@ -15,11 +16,11 @@ pub data HostRow : Type 0 where
   -- a row of the model's stubs
   same : Row → HostRow
 
--- sp to the exchange region, at 536, where Exit finds the save area: AArch64's stores can't name sp, and x9 is one that a call need not preserve
+-- sp to the exchange region, at AREA_AT, where Exit finds the save area: AArch64's stores can't name sp, and x9 is one that a call need not preserve
 abbrev pub sp_stores : Isa → ℕ → List HostRow
-sp_stores Amd64 base = same (store (G 4) base 536) ∷ []
-sp_stores Aarch64 base = same (sum 9 31 (pos 0)) ∷ same (store (G 9) base 536) ∷ []
-sp_stores Riscv base = same (store (G 2) base 536) ∷ []
+sp_stores Amd64 base = same (store (G 4) base AREA_AT) ∷ []
+sp_stores Aarch64 base = same (sum 9 31 (pos 0)) ∷ same (store (G 9) base AREA_AT) ∷ []
+sp_stores Riscv base = same (store (G 2) base AREA_AT) ∷ []
 
 -- the model's rows, with register `from` where they have the address; behind it come the rows `more`
 abbrev pub based : ℕ → (ℕ → List HostRow) → List Row → List HostRow
@@ -34,7 +35,7 @@ based from more (jump j ∷ rest) = same (jump j) ∷ based from more rest
 abbrev pub exit_rows : Isa → ℕ → List Row
 exit_rows isa gap =
     address (return_base isa)
-    ∷ (sp_rows isa (return_base isa) 17 536
+    ∷ (sp_rows isa (return_base isa) 17 AREA_AT
     ++ (area_loads (stack_pointer isa) 0 (callee_saved_words isa)
     ++ (exchange_loads (return_base isa) (result_loads isa)
     ++ (sum (stack_pointer isa) (stack_pointer isa) (pos (area_bytes isa + gap))

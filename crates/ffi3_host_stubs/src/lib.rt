@@ -4,11 +4,11 @@
 #![tactic(auto)]
 
 ghost use Rattle.std.specs.Prelude.{◌≡◌, ◌≤◌, ℕ};
-ghost use Rattle.ffi3_closures.specs.Slots.{trampoline};
+ghost use Rattle.ffi3_machine_spec.specs.Slots.{trampoline};
 ghost use Rattle.ffi3_host_stubs.specs.Calls.{Calls, Enters, IsSource, Leaves, Returns, most_gap};
 ghost use Rattle.ffi3_host_stubs.specs.Slots.{CanReach, Reaches, slot_code};
 ghost use Rattle.ffi3_host_stubs.specs.Stubs.{exit_rows, host_bytes};
-ghost use Rattle.ffi3_machine.specs.Stubs.{Call, Entry, Exit, Return, rows};
+ghost use Rattle.ffi3_machine_spec.specs.Stubs.{Call, Entry, Exit, Return, rows};
 
 use ffi3_type_spec::Isa;
 

@@ -5,7 +5,7 @@ ghost use Rattle.ffi3_type_spec.specs.Value.{fits};
 ghost use Rattle.ffi3_values.specs.ValueOf.{value_of};
 ghost use Rattle.ffi3_semantics_spec.specs.Move.{MoveFits};
 ghost use Rattle.ffi3_body.specs.MoveOf.{move_of};
-ghost use Rattle.ffi3_body.specs.SeenActivation.{arguments_of};
+ghost use Rattle.ffi3_semantics_spec.specs.SeenActivation.{arguments_of};
 ghost use Rattle.ffi3_hostile_tests.specs.Hostile.{again_signature, once_less, plus};
 
 use ffi3_body::{Body, Move, Native, Seen};

@@ -1,6 +1,6 @@
 //! Scripts that call these natives.
 ghost use Rattle.std.specs.Prelude.{◌<◌, ◌^◌, length, map};
-ghost use Rattle.ffi3_next_move.specs.Handed.{handed_in, signatures_in};
+ghost use Rattle.ffi3_script_spec.specs.Handed.{handed_in, signatures_in};
 
 use crate::{Again, DropSelf, Flood, Talker};
 use ffi3_aapcs64::Aapcs64;

@@ -18,7 +18,7 @@ use Rattle.ffi3_explain_spec.specs.declared.Part.{Part}
 use Rattle.ffi3_explain_spec.specs.declared.Part.TheVariants.{Arg, Hidden, Count}
 use Rattle.ffi3_explain_spec.specs.declared.Check.{Check}
 use Rattle.ffi3_explain_spec.specs.declared.Outside.{Outside}
-use Rattle.ffi3_text.specs.Registers.{loc_name}
+use Rattle.ffi3_text_spec.specs.Registers.{loc_name}
 use Rattle.ffi3_image_spec.specs.Object.{Reason, as_in_scripts, unknown_target, bad_number, too_short}
 
 -- ---- values

@@ -17,7 +17,7 @@ use Rattle.ffi3_place_spec.specs.Standard.{Standard, block_bytes, frame_of, plan
 use Rattle.ffi3_place_spec.specs.Agrees.{AgreesWithMachine}
 use Rattle.ffi3_place_spec.specs.Sound.{IsSound}
 use Rattle.ffi3_place_spec.proofs.Tests.{each_at, each_weaker}
-use Rattle.ffi3_machine.specs.State.{State, HasReturnAddress, HasReturnAt, after_enter, image_of}
+use Rattle.ffi3_machine_spec.specs.State.{State, HasReturnAddress, HasReturnAt, after_enter, image_of}
 use Rattle.ffi3_machine_transfer.specs.Stored.{WroteWithin, word_in, with_journal_of}
 use Rattle.ffi3_callee.specs.Given.{IsAddressOf, ReservedStay}
 use Rattle.ffi3_callee.specs.Received.{IsReceived, OwnsAtEntry, hidden_of}

@@ -13,8 +13,8 @@ use Rattle.ffi3_place_spec.specs.Standard.{Standard, block_bytes, frame_of, need
 use Rattle.ffi3_place_spec.specs.Agrees.{AgreesWithMachine}
 use Rattle.ffi3_semantics_spec.specs.Journal.{Entered, needs, IsEntry}
 use Rattle.ffi3_semantics_spec.proofs.Aligned.{entry_is_aligned}
-use Rattle.ffi3_machine.specs.State.{State, after_enter, image_of}
-use Rattle.ffi3_machine.specs.Stubs.{Entry, Return}
+use Rattle.ffi3_machine_spec.specs.State.{State, after_enter, image_of}
+use Rattle.ffi3_machine_spec.specs.Stubs.{Entry, Return}
 use Rattle.ffi3_stubs.specs.Calls.{steps_of}
 use Rattle.ffi3_machine_transfer.specs.Passing.{by_exchange, steps_if}
 use Rattle.ffi3_machine_transfer.specs.Stored.{IsPlace, SameAt, WroteWithin, with_journal_of}

@@ -16,9 +16,9 @@ use Rattle.ffi3_place_spec.specs.Standard.{Standard, frame_of}
 use Rattle.ffi3_place_spec.specs.Agrees.{AgreesWithMachine, special}
 use Rattle.ffi3_place_spec.specs.Holds.{Holds, SameIn}
 use Rattle.ffi3_place_spec.specs.Sound.{Apart, IsNoneOf, IsSound}
-use Rattle.ffi3_machine.specs.State.{State, IsMachine, image_of, scribbled}
+use Rattle.ffi3_machine_spec.specs.State.{State, IsMachine, image_of, scribbled}
 use Rattle.ffi3_machine.specs.MachineStep.{TakesSteps}
-use Rattle.ffi3_machine.specs.Stubs.{Call}
+use Rattle.ffi3_machine_spec.specs.Stubs.{Call}
 use Rattle.ffi3_stubs.specs.Calls.{steps_of}
 use Rattle.ffi3_closures.specs.Reaching.{reached}
 use Rattle.ffi3_machine_transfer.specs.Passing.{by_exchange, passing, steps_if}

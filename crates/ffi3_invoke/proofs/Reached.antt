@@ -15,7 +15,7 @@ use Rattle.ffi3_place_spec.specs.MachineRegisters.{closure_register, is_reserved
 use Rattle.ffi3_place_spec.specs.Scribble.{scribble}
 use Rattle.ffi3_place_spec.specs.Sound.{IsNoneOf}
 use Rattle.ffi3_place_spec.proofs.Forbidden.{each_none_of, none_of}
-use Rattle.ffi3_machine.specs.State.{State, HasReturnAddress, HasReturnAt, linked_stack, scribbled}
+use Rattle.ffi3_machine_spec.specs.State.{State, HasReturnAddress, HasReturnAt, linked_stack, scribbled}
 use Rattle.ffi3_machine.specs.Scribbled.{get_or-scribbled_floating, get_or-scribbled_general}
 use Rattle.ffi3_closures.specs.Reaching.{jumped_through, reached}
 use Rattle.ffi3_machine_transfer.specs.Stored.{IsPlace, word_in, WroteWithin, with_journal_of}

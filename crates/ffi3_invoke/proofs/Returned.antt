@@ -22,8 +22,8 @@ use Rattle.ffi3_place_spec.specs.Standard.{Standard, block_bytes, frame_of, plan
 use Rattle.ffi3_place_spec.specs.Agrees.{AgreesWithMachine}
 use Rattle.ffi3_place_spec.specs.Holds.{HoldsResult, Kept, SameIn}
 use Rattle.ffi3_semantics_spec.specs.Journal.{IsReturn}
-use Rattle.ffi3_machine.specs.State.{State, HasReturnAddress, HasReturnAt, LieInStack, after_arrive, image_of}
-use Rattle.ffi3_machine.specs.Stubs.{Exit}
+use Rattle.ffi3_machine_spec.specs.State.{State, HasReturnAddress, HasReturnAt, LieInStack, after_arrive, image_of}
+use Rattle.ffi3_machine_spec.specs.Stubs.{Exit}
 use Rattle.ffi3_stubs.specs.Calls.{steps_of}
 use Rattle.ffi3_machine_transfer.specs.Passing.{by_exchange, passing, steps_if}
 use Rattle.ffi3_machine_transfer.specs.Stored.{IsPlace, WroteWithin, with_journal_of}

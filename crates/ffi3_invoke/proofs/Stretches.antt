@@ -7,7 +7,7 @@ use Rattle.ffi3_type_spec.specs.declared.limits.TheConstants.{STACK}
 use Rattle.ffi3_place_spec.specs.declared.Loc.TheVariants.{S}
 use Rattle.ffi3_place_spec.specs.MachineRegisters.{link_register}
 use Rattle.ffi3_place_spec.specs.Standard.{Standard, frame_of}
-use Rattle.ffi3_machine.specs.State.{State, HasReturnAt, stack_at}
+use Rattle.ffi3_machine_spec.specs.State.{State, HasReturnAt, stack_at}
 use Rattle.ffi3_machine_transfer.specs.Stored.{WroteWithin, with_journal_of}
 use Rattle.ffi3_machine_transfer.proofs.Stepping.{same_word_in}
 use Rattle.ffi3_callee.specs.Saved.{saved_word}

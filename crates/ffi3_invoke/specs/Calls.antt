@@ -17,10 +17,10 @@ use Rattle.ffi3_place_spec.specs.Event.{Event, enters, leaves}
 use Rattle.ffi3_place_spec.specs.Standard.{Standard, block_bytes, frame_of, need_of, plan_of}
 use Rattle.ffi3_place_spec.specs.Holds.{FillArguments, Holds, OwnsArguments, OwnsHidden, RegisterHolds, SameIn}
 use Rattle.ffi3_semantics_spec.specs.Journal.{Entered, needs, IsEntry, IsReturn}
-use Rattle.ffi3_machine.specs.State.{State, HasReturnAddress, HasReturnAt, image_of, scribbled, stack_at}
-use Rattle.ffi3_body.specs.SeenActivation.{arguments_in}
+use Rattle.ffi3_machine_spec.specs.State.{State, HasReturnAddress, HasReturnAt, image_of, scribbled, stack_at}
+use Rattle.ffi3_semantics_spec.specs.SeenActivation.{arguments_in}
 use Rattle.ffi3_machine.specs.MachineStep.{TakesSteps}
-use Rattle.ffi3_machine.specs.Stubs.{Call, Entry, Exit, Return}
+use Rattle.ffi3_machine_spec.specs.Stubs.{Call, Entry, Exit, Return}
 use Rattle.ffi3_stubs.specs.Calls.{steps_of}
 use Rattle.ffi3_machine_transfer.specs.Passing.{by_exchange, passing, steps_if}
 use Rattle.ffi3_machine_transfer.specs.Stored.{WroteWithin, with_journal_of}

@@ -3,7 +3,7 @@ ghost use Rattle.std.specs.Prelude.{◌≡◌, ◌+◌, ◌≤◌, true};
 ghost use Rattle.ffi3_type_spec.specs.declared.limits.TheConstants.{STACK, STACK_TOP};
 ghost use Rattle.ffi3_type_spec.specs.Value.{fits};
 ghost use Rattle.ffi3_values.specs.ValueOf.{value_of};
-ghost use Rattle.ffi3_machine.specs.State.{after_arrive};
+ghost use Rattle.ffi3_machine_spec.specs.State.{after_arrive};
 ghost use Rattle.ffi3_machine_transfer.specs.Passing.{by_exchange};
 ghost use Rattle.ffi3_callee.specs.GoneBack.{IsAtReturn, returned_by};
 ghost use Rattle.ffi3_callee.specs.Received.{IsIncoming};
@@ -43,9 +43,9 @@ pub fn give_back<A: Abi>(machine: &mut Machine, cif: &Cif<A>, incoming: Incoming
     requires fits { fits cif.now.result_type (value_of value.now) ≡ true }
     ensures { HasReturned A.standard cif.now (value_of value.now) machine.old machine.new }
 {
-    // their contracts tell what is true of every interface and of every machine
+    // its contract tells what is true of every interface
     let _sig = cif.sig();
-    let _sp = machine.sp();
+    machine.facts();
     give_result(machine, cif, &incoming, value);
     go_back(machine, cif, incoming);
     record_return(machine, cif.frame());

@@ -4,8 +4,8 @@ ghost use Rattle.ffi3_type_spec.specs.TargetIsa.{isa_of};
 ghost use Rattle.ffi3_type_spec.specs.Value.{ValueTree};
 ghost use Rattle.ffi3_type_spec.specs.declared.limits.TheConstants.{ENTRY, STACK, STACK_TOP};
 ghost use Rattle.ffi3_place_spec.specs.Standard.{block_bytes, frame_of};
-ghost use Rattle.ffi3_machine.specs.State.{HasReturnAddress, after_enter, scribbled_floating, scribbled_general};
-ghost use Rattle.ffi3_machine.specs.Stubs.{Entry};
+ghost use Rattle.ffi3_machine_spec.specs.State.{HasReturnAddress, after_enter, scribbled_floating, scribbled_general};
+ghost use Rattle.ffi3_machine_spec.specs.Stubs.{Entry};
 ghost use Rattle.ffi3_stubs.specs.Calls.{steps_of};
 ghost use Rattle.ffi3_machine_transfer.specs.Passing.{by_exchange, steps_if};
 ghost use Rattle.ffi3_machine_transfer.specs.Stored.{WroteWithin, with_journal_of};
@@ -50,9 +50,9 @@ pub fn accept<A: Abi>(machine: &mut Machine, cif: &Cif<A>) -> Incoming
     ensures in_callee { HasReturnAddress machine.old → 2 ≤ machine.old.spare_events → A.standard.link + frame_of A.standard cif.now + frame_of A.standard cif.now ≤ machine.old.spare_bytes →
         IsInCallee A.standard (record { signature = cif.now; event = entry_at A.standard cif.now machine.old }) machine.new }
 {
-    // their contracts tell what is true of every interface and of every machine
+    // its contract tells what is true of every interface
     let _sig = cif.sig();
-    let _sp = machine.sp();
+    machine.facts();
     let bytes = A::LINK + cif.frame();
     machine.enter(bytes);
     receive(machine, cif)

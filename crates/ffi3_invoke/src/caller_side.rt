@@ -5,8 +5,8 @@ ghost use Rattle.ffi3_type_spec.specs.Tree.{trees_of};
 ghost use Rattle.ffi3_type_spec.specs.Value.{all_fit, values_of};
 ghost use Rattle.ffi3_place_spec.specs.Standard.{frame_of};
 ghost use Rattle.ffi3_semantics_spec.specs.Closures.{closure_at};
-ghost use Rattle.ffi3_machine.specs.State.{IsSlot};
-ghost use Rattle.ffi3_closures.specs.Slots.{HoldsMap};
+ghost use Rattle.ffi3_machine_spec.specs.State.{IsSlot};
+ghost use Rattle.ffi3_machine_spec.specs.Slots.{HoldsMap};
 ghost use Rattle.ffi3_invoke.specs.Calls.{HasPassed};
 
 use ffi3_caller::{call, store_args};
@@ -35,12 +35,12 @@ pub fn pass_arguments<A: Abi>(
     requires live { IsSome (closure_at table.now ptr) }
     ensures { HasPassed A.standard cif.now values.now ptr machine.old machine.new }
 {
-    // their contracts tell what is true of every interface and of every machine
+    // its contract tells what is true of every interface
     let _sig = cif.sig();
-    let _sp = machine.sp();
+    machine.facts();
     store_args(machine, cif, values);
-    let _stored = machine.sp();
+    machine.facts();
     call(machine, cif, ptr);
-    let _called = machine.sp();
+    machine.facts();
     table.run_trampoline(machine);
 }

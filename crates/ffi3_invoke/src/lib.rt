@@ -10,8 +10,8 @@ ghost use Rattle.ffi3_type_spec.specs.Value.{all_fit, fits, value_in, values_of}
 ghost use Rattle.ffi3_values.specs.ValueOf.{value_of};
 ghost use Rattle.ffi3_place_spec.specs.Standard.{frame_of, need_of};
 ghost use Rattle.ffi3_semantics_spec.specs.Closures.{closure_at};
-ghost use Rattle.ffi3_machine.specs.State.{IsSlot};
-ghost use Rattle.ffi3_closures.specs.Slots.{HoldsMap};
+ghost use Rattle.ffi3_machine_spec.specs.State.{IsSlot};
+ghost use Rattle.ffi3_machine_spec.specs.Slots.{HoldsMap};
 ghost use Rattle.ffi3_callee.specs.Received.{IsIncoming};
 ghost use Rattle.ffi3_invoke.specs.Calls.{HasBegun, HasEnded, IsCalled};
 
@@ -53,8 +53,7 @@ pub fn begin_call<A: Abi>(
     ensures incoming { IsIncoming A.standard cif.now result }
     ensures block { result.block ≡ machine.new.sp }
 {
-    // its contract tells what is true of every machine
-    let _sp = machine.sp();
+    machine.facts();
     pass_arguments(machine, table, cif, values, ptr);
     accept(machine, cif)
 }
@@ -77,8 +76,7 @@ pub fn end_call<A: Abi>(
     ensures sized { length out.new ≡ length out.old }
     ensures value { value_in cif.now.result_type out.new ≡ value_of value.now }
 {
-    // its contract tells what is true of every machine
-    let _sp = machine.sp();
+    machine.facts();
     give_back(machine, cif, incoming, value);
     come_back(machine, cif);
     load_result(machine, cif, out);

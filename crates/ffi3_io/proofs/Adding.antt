@@ -1,7 +1,7 @@
 -- Pieces that a sink takes, one after another.
 use Rattle.std.proofs.Common.{◌≡◌, ℕ, ◌-◌, List, [], ◌++◌, take, drop, length, Option, sym, ◌∙◌, ap, arith, append_assoc, append-nil, subst}
 use Rattle.std.proofs.lemmas.Grind.{common_steps}
-use Rattle.ffi3_io.specs.Sink.{Adds}
+use Rattle.ffi3_io_spec.specs.Sink.{Adds}
 
 pub Adds-then : (a b c : Option (List ℕ)) (x y : List ℕ) → Adds a x b → Adds b y c → Adds a (x ++ y) c
 Adds-then a b c x y first second = λ all is.

@@ -1,7 +1,7 @@
 -- Bytes that a source gives, one piece after another.
 use Rattle.std.proofs.Common.{◌≡◌, ◌≤◌, ◌+◌, ◌-◌, ℕ, List, [], ◌++◌, take, drop, length, Option, Some, sym, ◌∙◌, ap, arith, append_assoc, append-nil, refl}
 use Rattle.std.proofs.lemmas.List.{take-append-drop, length-take-le, take_at, drop_at, take_all, drop_all, drop-drop}
-use Rattle.ffi3_io.specs.Source.{Gives, GivesFirst, LosesSome}
+use Rattle.ffi3_io_spec.specs.Source.{Gives, GivesFirst, LosesSome}
 
 pub Gives-none : (a : Option (List ℕ)) → Gives a [] a
 Gives-none a = λ all is. (all, is, refl)

@@ -1,7 +1,7 @@
 -- Reads of a source, one after another.
 use Rattle.std.proofs.Common.{◌≡◌, ℕ, ◌<◌, List, [], ◌++◌, Option, Some, sym, ◌∙◌, ap, subst, arith, append-nil}
 use Rattle.std.proofs.lemmas.List.{nil_from_length}
-use Rattle.ffi3_io.specs.Source.{HasRead, one_more, HasReadAll, at_end, HasFailed, at_fault, HasOneMore, FailsNext}
+use Rattle.ffi3_io_spec.specs.Source.{HasRead, one_more, HasReadAll, at_end, HasFailed, at_fault, HasOneMore, FailsNext}
 
 module _ {S : Type 0} (gives : S → ℕ → Option (List ℕ) → S → Type 0) (limit : ℕ) (from s t : S) (before after : List ℕ) (so_far : HasRead gives limit from before s) where
   pub one_more_read : (n : ℕ) → 0 < n → HasOneMore gives limit s before n after t → HasRead gives limit from after t

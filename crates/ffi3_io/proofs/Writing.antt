@@ -2,11 +2,11 @@
 use Rattle.std.proofs.Common.{◌≡◌, ℕ, ◌+◌, ◌≤◌, List, [], ◌++◌, length, take, Option, Result, Ok, Err, refl, sym, ap, ◌∙◌, subst, arith, length-append}
 use Rattle.std.proofs.lemmas.List.{take-append-le}
 use Rattle.std.proofs.Math.Seq.{take-append-add, take-length}
-use Rattle.ffi3_io.specs.Sink.{Adds, SinkState}
+use Rattle.ffi3_io_spec.specs.Sink.{Adds, SinkState}
 use Rattle.ffi3_io.proofs.Adding.{Adds-then, Adds-along, Adds-none}
-use Rattle.ffi3_io.specs.declared.IoError.{IoError}
-use Rattle.ffi3_io.specs.declared.IoError.TheVariants.{NoMemory, Failed}
-use Rattle.ffi3_io.specs.Written.{Interrupted, IsCause, TookText, Wrote, WroteLine}
+use Rattle.ffi3_io_spec.specs.declared.IoError.{IoError}
+use Rattle.ffi3_io_spec.specs.declared.IoError.TheVariants.{NoMemory, Failed}
+use Rattle.ffi3_io_spec.specs.Written.{Interrupted, IsCause, TookText, Wrote, WroteLine}
 
 pub took_nothing : (before : SinkState) → TookText [] before before
 took_nothing before = record { added = Adds-none before.taken; count = refl }

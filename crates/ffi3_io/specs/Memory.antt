@@ -1,7 +1,7 @@
 -- Sources and sinks in memory, as their callers see them.
 use Rattle.std.specs.Prelude.{◌≡◌, ℕ, ◌+◌, List, ◌++◌, length, take, drop, min, Contains, Option, None, Some}
 use Rattle.std.specs.Prelude.{if◌then◌else◌, nat_le}
-use Rattle.ffi3_io.specs.Count.{next_count}
+use Rattle.ffi3_io_spec.specs.Count.{next_count}
 
 -- the bytes left, the most of them that one read gives, the calls that fail, the number of the last
 -- call and the count of faults

@@ -1,10 +1,10 @@
 //! Sources and sinks over std's readers and writers: the edge to the world outside.
 ghost use Rattle.std.specs.Prelude.{◌≡◌, ◌<◌, ◌≤◌, [], None, Some, take, length, IfOk, OnOk, OnErr};
 ghost use Rattle.std.specs.Io.Buffered.{writer_buffer, writer_contents};
-ghost use Rattle.ffi3_io.specs.Count.{next_count};
+ghost use Rattle.ffi3_io_spec.specs.Count.{next_count};
 ghost use Rattle.std.specs.Io.KnownBytes.{Appends, Consumes, IsAtEnd, Keeps};
 ghost use Rattle.ffi3_io.specs.Adapter.{ReaderGives};
-ghost use Rattle.ffi3_io.specs.Source.{Rose};
+ghost use Rattle.ffi3_io_spec.specs.Source.{Rose};
 
 use crate::{Failed, Sink, Source};
 use std::io::{BufWriter, Read, Write};

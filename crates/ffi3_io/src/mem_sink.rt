@@ -1,7 +1,7 @@
 //! A sink in memory with a room, that fails at chosen calls.
 ghost use Rattle.std.specs.Prelude.{◌≡◌, ◌<◌, ◌≤◌, ◌-◌, ◌^◌, ◌++◌, ◌⊎◌, [], Some, take, min, length, Contains, IfOk, OnOk, OnErr};
-ghost use Rattle.ffi3_io.specs.Count.{next_count};
-ghost use Rattle.ffi3_io.specs.Sink.{Adds, Rose};
+ghost use Rattle.ffi3_io_spec.specs.Count.{next_count};
+ghost use Rattle.ffi3_io_spec.specs.Sink.{Adds, Rose};
 
 use crate::due::is_due;
 use crate::sure_sink::add_within;

@@ -1,8 +1,8 @@
 //! A source in memory that fails at chosen calls.
 ghost use Rattle.std.specs.Prelude.{◌≡◌, ◌<◌, ◌≤◌, ◌++◌, ◌-◌, ◌^◌, Some, take, drop, min, length, Contains, IfOk, OnOk, OnErr};
-ghost use Rattle.ffi3_io.specs.Count.{next_count};
+ghost use Rattle.ffi3_io_spec.specs.Count.{next_count};
 ghost use Rattle.ffi3_io.specs.Memory.{MemoryGives};
-ghost use Rattle.ffi3_io.specs.Source.{Gives, IsEndAtZero, Rose};
+ghost use Rattle.ffi3_io_spec.specs.Source.{Gives, IsEndAtZero, Rose};
 
 use crate::due::is_due;
 use crate::sure_source::copy_start;

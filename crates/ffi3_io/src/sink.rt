@@ -1,7 +1,7 @@
 //! Where bytes go.
 ghost use Rattle.std.specs.Prelude.{◌≡◌, ◌<◌, ◌≤◌, [], take, length, IfOk, OnOk, OnErr};
-ghost use Rattle.ffi3_io.specs.Sink.{Adds, AddsSome, Rose, SinkState};
-ghost use Rattle.ffi3_io.specs.Written.{WroteLine};
+ghost use Rattle.ffi3_io_spec.specs.Sink.{Adds, AddsSome, Rose, SinkState};
+ghost use Rattle.ffi3_io_spec.specs.Written.{WroteLine};
 
 use crate::{Failed, IoError};
 

@@ -1,6 +1,6 @@
 //! Where bytes come from.
 ghost use Rattle.std.specs.Prelude.{◌≡◌, ◌<◌, ◌≤◌, ◌+◌, ◌-◌, List, ℕ, Option, Some, None, ⊤, take, length, vec_len, IfOk, IfErr, OnOk, OnErr};
-ghost use Rattle.ffi3_io.specs.Source.{Gives, GivesAfter, GivesFirst, HasRead, HasReadAll, HasFailed, HasOneMore, FailsNext, IsEndAtZero, LosesSome, Rose, SourceState};
+ghost use Rattle.ffi3_io_spec.specs.Source.{Gives, GivesAfter, GivesFirst, HasRead, HasReadAll, HasFailed, HasOneMore, FailsNext, IsEndAtZero, LosesSome, Rose, SourceState};
 
 use crate::{Failed, IoError};
 use std::alloc::Global;

@@ -1,7 +1,7 @@
 //! A sink in memory that never fails, and tells what it took while that fits its room.
 ghost use Rattle.std.specs.Prelude.{◌≡◌, ◌<◌, ◌≤◌, ◌+◌, ◌++◌, [], Ok, Some, length, vec_len, vec_capacity, IsSome, IfOk};
 ghost use Rattle.ffi3_io.specs.Memory.{fitting};
-ghost use Rattle.ffi3_io.specs.Sink.{Adds};
+ghost use Rattle.ffi3_io_spec.specs.Sink.{Adds};
 
 use crate::{Failed, NoMemory, Sink};
 use std::alloc::Global;

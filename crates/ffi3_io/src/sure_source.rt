@@ -1,7 +1,7 @@
 //! A source in memory that never fails.
 ghost use Rattle.std.specs.Prelude.{◌≡◌, ◌<◌, ◌≤◌, ◌++◌, Some, take, drop, min, length, IsOk, IfOk};
 ghost use Rattle.ffi3_io.specs.Memory.{SureGives};
-ghost use Rattle.ffi3_io.specs.Source.{Gives, IsEndAtZero};
+ghost use Rattle.ffi3_io_spec.specs.Source.{Gives, IsEndAtZero};
 
 use crate::{Failed, Source};
 use std::marker::Model;

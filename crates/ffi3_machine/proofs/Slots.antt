@@ -6,7 +6,7 @@ use Rattle.std.specs.List.{repeat, replace_range}
 use Rattle.ffi3_type_spec.specs.declared.Isa.{Isa}
 use Rattle.ffi3_type_spec.specs.declared.limits.TheConstants.{STACK_BYTES, CODE_BYTES}
 use Rattle.ffi3_type_spec.specs.declared.Isa.TheVariants.{Amd64, Aarch64, Riscv}
-use Rattle.ffi3_machine.specs.State.{free_word, free_slot, begun_code, begun_stack, begun_exchange}
+use Rattle.ffi3_machine_spec.specs.State.{free_word, free_slot, begun_code, begun_stack, begun_exchange}
 
 pub repeat-add : (m n : ℕ) (xs : List ℕ) → repeat (m + n) xs ≡ repeat m xs ++ repeat n xs
 repeat-add zero n xs = rw zero-add refl

@@ -4,12 +4,12 @@ use Rattle.std.proofs.lemmas.Bool.Decides.{nat_tests}
 use Rattle.std.proofs.lemmas.List.{take_all, drop_all}
 use Rattle.std.specs.Prelude.{nat_le}
 use Rattle.std.specs.List.{repeat, replace_range}
-use Rattle.ffi3_memory.specs.Memory.{Memory, range_of, with_bytes}
+use Rattle.ffi3_machine_spec.specs.Memory.{Memory, range_of, with_bytes}
 use Rattle.ffi3_type_spec.specs.declared.Isa.{Isa}
 use Rattle.ffi3_type_spec.specs.declared.Isa.TheVariants.{Amd64, Aarch64, Riscv}
 use Rattle.ffi3_type_spec.specs.declared.limits.TheConstants.{CODE}
-use Rattle.ffi3_machine.specs.State.{free_word}
-use Rattle.ffi3_machine.specs.Stubs.{StubName, Entry, Exit, Call, Return, stub_at, stub_bytes, with_stub, begun_stubs}
+use Rattle.ffi3_machine_spec.specs.State.{free_word}
+use Rattle.ffi3_machine_spec.specs.Stubs.{StubName, Entry, Exit, Call, Return, stub_at, stub_bytes, with_stub, begun_stubs}
 use Rattle.ffi3_machine.specs.MachineStep.{bytes_from, has_eight}
 use Rattle.ffi3_machine.proofs.Slots.{length-repeat, length-replaced}
 

@@ -2,9 +2,9 @@
 use Rattle.std.proofs.Common.{◌≡◌, ℕ, zero, suc, ◌+◌, ◌*◌, ◌-◌, ◌<◌, ◌^◌, List, [], ◌∷◌, length, take, drop, arith, lit<, ap, ◌∙◌, sym, subst}
 use Rattle.std.proofs.Math.Seq.{take-length}
 use Rattle.std.specs.Prelude.{slice_index}
-use Rattle.ffi3_memory.specs.Memory.{number_of}
+use Rattle.ffi3_machine_spec.specs.Memory.{number_of}
 use Rattle.ffi3_type_spec.specs.declared.limits.TheConstants.{STACK}
-use Rattle.ffi3_machine.specs.State.{State, IsMachine, AreBytes, x_of, stack_at}
+use Rattle.ffi3_machine_spec.specs.State.{State, IsMachine, AreBytes, x_of, stack_at}
 
 none_is_byte : (k : ℕ) → slice_index [] k < 256
 none_is_byte k = lit< tt

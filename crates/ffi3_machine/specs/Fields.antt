@@ -1,6 +1,6 @@
 -- The state that a machine's fields make.
 use Rattle.ffi3_machine.specs.declared.Machine.TheInside.{Inside}
-use Rattle.ffi3_machine.specs.State.{State}
+use Rattle.ffi3_machine_spec.specs.State.{State}
 
 abbrev pub state_of : Inside → State
 state_of m = record {

@@ -4,7 +4,7 @@ use Rattle.std.specs.Prelude.{if◌then◌else◌, min, ℤ, pos, negsuc, List, 
 use Rattle.std.specs.Prelude.{Option, Some, None, option_map, unwrap_or, IfSome}
 use Rattle.std.specs.Int.{w64, cast_unsigned}
 use Rattle.std.specs.List.{replace_range}
-use Rattle.ffi3_memory.specs.Memory.{number_of, low_bytes}
+use Rattle.ffi3_machine_spec.specs.Memory.{number_of, low_bytes}
 use Rattle.ffi3_type_spec.specs.declared.Isa.{Isa}
 use Rattle.ffi3_type_spec.specs.declared.Isa.TheVariants.{Amd64, Aarch64, Riscv}
 use Rattle.ffi3_type_spec.specs.declared.limits.TheConstants.{STACK, STACK_TOP, CODE, CODE_END}
@@ -17,9 +17,9 @@ use Rattle.ffi3_isa.specs.Amd64.{IsAmd64}
 use Rattle.ffi3_isa.specs.Aarch64.{IsAarch64}
 use Rattle.ffi3_isa.specs.Riscv.{IsRiscv}
 use Rattle.ffi3_machine.specs.declared.step.Change.{Change}
-use Rattle.ffi3_machine.specs.declared.stub.TheConstants.{STUBS, STUBS_END, EXCHANGE, EXCHANGE_END}
-use Rattle.ffi3_machine.specs.State.{State, stack_at, code_at}
-use Rattle.ffi3_machine.specs.Stubs.{begun_stubs}
+use Rattle.ffi3_machine_spec.specs.declared.stub.TheConstants.{STUBS, STUBS_END, EXCHANGE, EXCHANGE_END}
+use Rattle.ffi3_machine_spec.specs.State.{State, stack_at, code_at}
+use Rattle.ffi3_machine_spec.specs.Stubs.{begun_stubs}
 
 -- ---- addresses
 

@@ -3,8 +3,8 @@ use Rattle.std.proofs.Common.{◌≡◌, ℕ, ◌<◌, List, length, get_or, ref
 use Rattle.std.proofs.lemmas.List.FromFn.{length-map-range_with_len, get_or-map-range_with_len}
 use Rattle.ffi3_type_spec.specs.declared.Isa.{Isa}
 use Rattle.ffi3_type_spec.specs.declared.Isa.TheVariants.{Amd64, Aarch64, Riscv}
-use Rattle.ffi3_machine.specs.State.{scribble_floating, scribbled_register, scribbled_general, scribbled_floating}
-use Rattle.ffi3_machine.specs.State.{begun_general, IsZeroHeld}
+use Rattle.ffi3_machine_spec.specs.State.{scribble_floating, scribbled_register, scribbled_general, scribbled_floating}
+use Rattle.ffi3_machine_spec.specs.State.{begun_general, IsZeroHeld}
 
 pub length-scribbled_general : (isa : Isa) (n : ℕ) (old : List ℕ) → length (scribbled_general isa n old) ≡ 32
 unfolding scribbled_general

@@ -2,9 +2,9 @@
 ghost use Rattle.std.specs.Prelude.{◌≡◌, ◌<◌, ◌≤◌, ◌+◌, ◌-◌, drop, length, OnOk, OnErr, take};
 ghost use Rattle.ffi3_type_spec.specs.TargetIsa.{isa_of};
 ghost use Rattle.ffi3_place_spec.specs.MachineRegisters.{closure_register, link_register, pushed_bytes};
-ghost use Rattle.ffi3_machine.specs.Stubs.{goes_for};
+ghost use Rattle.ffi3_machine_spec.specs.Stubs.{goes_for};
 ghost use Rattle.ffi3_machine.specs.Entries.{kind_of};
-ghost use Rattle.ffi3_machine.specs.State.{
+ghost use Rattle.ffi3_machine_spec.specs.State.{
   HasReturnAddress,
   IsSlot,
   LieInStack,

@@ -1,6 +1,6 @@
 // The journal: what the machine was at each entry and each return.
 ghost use Rattle.std.specs.Prelude.{◌≡◌, ◌<◌, ◌≤◌, ◌+◌, ◌-◌, ◌*◌, ◌++◌, [], ◌∷◌, length, OnOk, OnErr};
-ghost use Rattle.ffi3_machine.specs.Recorded.{Recorded, event_at};
+ghost use Rattle.ffi3_machine_spec.specs.Recorded.{Recorded, event_at};
 ghost use Rattle.ffi3_machine.specs.Entries.{event_of};
 
 use crate::NoMemory;
@@ -45,7 +45,7 @@ pub struct Journal {
 impl Model for Journal {
     ghost use Rattle.std.specs.Prelude.{◌≤◌, ◌+◌, length, vec_len, vec_capacity};
     ghost use Rattle.std.specs.List.{AllByRecursion};
-    ghost use Rattle.ffi3_machine.specs.Recorded.{Recorded};
+    ghost use Rattle.ffi3_machine_spec.specs.Recorded.{Recorded};
 
     ghost Value = { Recorded };
 

@@ -2,7 +2,7 @@
 #![tactic(auto)]
 
 ghost use Rattle.std.specs.Prelude.{◌≡◌, IfOk};
-ghost use Rattle.ffi3_machine.specs.State.{AreBytes, AreWords, IsMachine, begun};
+ghost use Rattle.ffi3_machine_spec.specs.State.{AreBytes, AreWords, IsMachine, begun};
 
 mod calls;
 mod journal;
@@ -15,6 +15,10 @@ mod step;
 mod stub;
 
 pub use calls::closure_register;
+pub use ffi3_machine_spec::stub::{
+    AREA_AT, CALL_SP_AT, CALLEE_AT, ENTRY_SP_AT, EXCHANGE, EXCHANGE_BYTES, EXCHANGE_END,
+    RETURN_SP_AT, STUBS, STUBS_BYTES, STUBS_END, Stub,
+};
 pub use ffi3_memory::NoMemory;
 use ffi3_memory::Region;
 use ffi3_type_spec::Isa;
@@ -30,7 +34,6 @@ use std::alloc::Global;
 use std::marker::Model;
 pub use step::Trap;
 use stub::{begin_stubs, new_stubs};
-pub use stub::{EXCHANGE, EXCHANGE_BYTES, EXCHANGE_END, STUBS, STUBS_BYTES, STUBS_END, Stub};
 
 /// Registers, four regions of memory, the count of steps and the journal. General and floating registers go by their
 /// numbers in the target's instructions; sp is apart.
@@ -54,9 +57,9 @@ impl Model for Machine {
     ghost use Rattle.std.specs.Prelude.{◌≡◌};
     ghost use Rattle.ffi3_type_spec.specs.declared.limits.TheConstants.{STACK, CODE};
     ghost use Rattle.ffi3_type_spec.specs.TargetIsa.{isa_of};
-    ghost use Rattle.ffi3_machine.specs.declared.stub.TheConstants.{STUBS, EXCHANGE};
-    ghost use Rattle.ffi3_machine.specs.Stubs.{begun_stubs};
-    ghost use Rattle.ffi3_machine.specs.State.{State, HasForm};
+    ghost use Rattle.ffi3_machine_spec.specs.declared.stub.TheConstants.{STUBS, EXCHANGE};
+    ghost use Rattle.ffi3_machine_spec.specs.Stubs.{begun_stubs};
+    ghost use Rattle.ffi3_machine_spec.specs.State.{State, HasForm};
 
     ghost Value = { State };
 
@@ -144,8 +147,8 @@ impl Machine {
         &self.journal
     }
 
-    // What is true of every machine. It does nothing.
-    fn known(&self)
+    /// What is true of every machine: its contract tells it, and it does nothing.
+    pub fn facts(&self)
         ensures { IsMachine self.now }
     {
         let _sp = self.sp;

@@ -1,7 +1,7 @@
 // The regions of a machine as it begins: the stack of A5 bytes, free slots, and an exchange region of zeros.
 ghost use Rattle.std.specs.Prelude.{◌≡◌, ◌<◌, ◌+◌, ◌^◌, length, IfOk, replicate};
 ghost use Rattle.std.specs.Int.{w32, to_le_bytes};
-ghost use Rattle.ffi3_machine.specs.State.{begun_code, begun_exchange, begun_stack, free_word};
+ghost use Rattle.ffi3_machine_spec.specs.State.{begun_code, begun_exchange, begun_stack, free_word};
 
 use crate::{CODE, EXCHANGE, EXCHANGE_BYTES, NoMemory, STACK};
 use ffi3_memory::Region;
@@ -27,7 +27,7 @@ pub(crate) fn begin_stack(stack: &mut Region)
 }
 
 /// Clears the exchange region.
-#[tactic(auto, unfolding(crate::specs::State::begun_exchange))]
+#[tactic(auto, unfolding(ffi3_machine_spec::specs::State::begun_exchange))]
 pub(crate) fn begin_exchange(exchange: &mut Region)
     requires base { exchange.old.base ≡ EXCHANGE }
     requires length { length exchange.old.bytes ≡ EXCHANGE_BYTES }

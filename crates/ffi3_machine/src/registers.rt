@@ -2,7 +2,7 @@
 ghost use Rattle.std.specs.Prelude.{◌≡◌, ◌<◌, slice_index, true};
 ghost use Rattle.ffi3_type_spec.specs.TargetIsa.{isa_of};
 ghost use Rattle.ffi3_place_spec.specs.MachineRegisters.{is_zero_register};
-ghost use Rattle.ffi3_machine.specs.State.{IsMachine, with_floating, with_general, with_sp};
+ghost use Rattle.ffi3_machine_spec.specs.State.{IsMachine, with_floating, with_general, with_sp};
 
 use crate::Machine;
 use ffi3_type_spec::Isa;
@@ -30,7 +30,7 @@ impl Machine {
         ensures value { result ≡ self.now.sp }
         ensures machine { IsMachine self.now }
     {
-        self.known();
+        self.facts();
         self.sp
     }
 

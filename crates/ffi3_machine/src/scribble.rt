@@ -1,7 +1,7 @@
 // Scribbles: every register but sp and the reserved ones gets a number of its own.
 ghost use Rattle.std.specs.Prelude.{◌≡◌, ◌+◌, ◌*◌, ◌%◌, ◌^◌};
 ghost use Rattle.ffi3_place_spec.specs.MachineRegisters.{is_reserved};
-ghost use Rattle.ffi3_machine.specs.State.{
+ghost use Rattle.ffi3_machine_spec.specs.State.{
   scribble_floating,
   scribble_general,
   scribbled,

@@ -4,7 +4,7 @@ ghost use Rattle.ffi3_isa.specs.declared.Instr.{Instr};
 ghost use Rattle.ffi3_isa.specs.Registers.{HasRegistersBelow};
 ghost use Rattle.ffi3_type_spec.specs.TargetIsa.{isa_of};
 ghost use Rattle.ffi3_place_spec.specs.MachineRegisters.{stack_pointer};
-ghost use Rattle.ffi3_machine.specs.State.{IsMachine, State};
+ghost use Rattle.ffi3_machine_spec.specs.State.{IsMachine, State};
 ghost use Rattle.ffi3_machine.specs.MachineStep.{
   IsInRange,
   IsInstructionAt,
@@ -66,7 +66,7 @@ impl Machine {
         ensures trapped { OnErr result (self.new ≡ self.old) }
         ensures machine { IsMachine self.old }
     {
-        self.known();
+        self.facts();
         let pc = self.pc;
         let Some((instr, size)) = self.decoded() else {
             return Err(Trap { pc });

@@ -1,8 +1,8 @@
 // The regions of stubs and of exchange, and the stubs' bytes.
 ghost use Rattle.std.specs.Prelude.{◌≡◌, length, IfOk};
 ghost use Rattle.std.specs.List.{repeat};
-ghost use Rattle.ffi3_machine.specs.State.{free_word};
-ghost use Rattle.ffi3_machine.specs.Stubs.{
+ghost use Rattle.ffi3_machine_spec.specs.State.{free_word};
+ghost use Rattle.ffi3_machine_spec.specs.Stubs.{
   Call,
   Entry,
   Exit,
@@ -14,31 +14,10 @@ ghost use Rattle.ffi3_machine.specs.Stubs.{
 
 use crate::NoMemory;
 use crate::regions::free_word;
+use ffi3_machine_spec::stub::{STUBS, STUBS_BYTES};
 use ffi3_memory::Region;
 use ffi3_type_spec::Isa;
 use std::alloc::Global;
-
-/// The lowest address of the stubs.
-pub const STUBS: u64 = 0x1000;
-/// The bytes of the region of the stubs.
-pub const STUBS_BYTES: u64 = 6_144;
-/// The address above the highest byte of the stubs' region.
-pub const STUBS_END: u64 = 0x2800;
-/// The lowest address of the exchange region.
-pub const EXCHANGE: u64 = 0x2_0000;
-/// The bytes of the exchange region.
-pub const EXCHANGE_BYTES: u64 = 552;
-/// The address above the highest byte of the exchange region.
-pub const EXCHANGE_END: u64 = 0x2_0228;
-
-/// A stub that the machine is sent to.
-#[derive(Clone, Copy, Debug, PartialEq, Eq)]
-pub enum Stub {
-    /// It loads arguments and calls.
-    Call,
-    /// It loads results and returns.
-    Exit,
-}
 
 fn amd64_call() -> [u8; 142]
     ensures { result ≡ stub_bytes Isa.Amd64 Call }

@@ -13,7 +13,7 @@ use Rattle.ffi3_place_spec.specs.Sound.{IsNoneOf}
 use Rattle.ffi3_type_spec.specs.declared.limits.TheConstants.{STACK}
 use Rattle.ffi3_marshal.proofs.Arguments.{AtArgument, ready_length}
 use Rattle.ffi3_marshal.proofs.Lawful.{each_first, each_rest, apart_across, across_none}
-use Rattle.ffi3_machine.specs.State.{State}
+use Rattle.ffi3_machine_spec.specs.State.{State}
 use Rattle.ffi3_machine_transfer.specs.Stored.{Stays, WroteWithin}
 use Rattle.ffi3_machine_transfer.specs.Standing.{place_uses, all_uses, PlaceKeepsUnused, PlaceStands, AllKeepUnused, AllStand, AreReady}
 use Rattle.ffi3_machine_transfer.proofs.Composing.{stays_none, stays_then, wrote_nothing, wrote_then}

@@ -6,7 +6,7 @@ use Rattle.ffi3_place_spec.specs.declared.Loc.TheVariants.{G, F, S}
 use Rattle.ffi3_place_spec.specs.Sound.{place_size}
 use Rattle.ffi3_marshal.proofs.Composing.{none_append}
 pub use Rattle.ffi3_machine_transfer.specs.Lent.{wrote_nothing, wrote_then}
-use Rattle.ffi3_machine.specs.State.{State}
+use Rattle.ffi3_machine_spec.specs.State.{State}
 use Rattle.ffi3_machine_transfer.specs.Stored.{byte_of, SameAt, Stays, WroteOnly, WroteWithin}
 
 -- ---- the same at a place

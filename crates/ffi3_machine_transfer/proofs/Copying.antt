@@ -13,7 +13,7 @@ use Rattle.ffi3_place_spec.specs.declared.Place.{Place}
 use Rattle.ffi3_place_spec.specs.declared.Place.TheVariants.{Direct, ByRef}
 use Rattle.ffi3_place_spec.specs.Sound.{IsNoneOf, PlaceHasAll, stack_words, stack_words_for}
 use Rattle.ffi3_type_spec.specs.declared.limits.TheConstants.{STACK}
-use Rattle.ffi3_machine.specs.State.{State, stored, stack_at}
+use Rattle.ffi3_machine_spec.specs.State.{State, stored, stack_at}
 use Rattle.ffi3_machine_transfer.specs.Stored.{stack_byte, KeepsPadding, Stays}
 use Rattle.ffi3_machine_transfer.specs.Standing.{place_uses, CopyStands, PlaceKeepsUnused, PlaceStands}
 use Rattle.ffi3_machine_transfer.proofs.Putting.{stored_inside, stored_outside}

@@ -3,7 +3,7 @@ use Rattle.std.proofs.Common.{◌≡◌, ℕ, ◌+◌, ◌≤◌, List, ◌++◌
 use Rattle.std.specs.List.{replace_range}
 use Rattle.std.proofs.lemmas.List.{length-take-le}
 use Rattle.std.proofs.lemmas.Slice.{drop-append-drop}
-use Rattle.ffi3_memory.specs.Memory.{low_bytes}
+use Rattle.ffi3_machine_spec.specs.Memory.{low_bytes}
 use Rattle.ffi3_machine.proofs.Written.{range-written, above-written, below-written}
 
 pub word_written : (xs : List ℕ) (at v : ℕ) → at + 8 ≤ length xs → take 8 (drop at (replace_range xs at (at + length (low_bytes 8 v)) (low_bytes 8 v))) ≡ low_bytes 8 v

@@ -2,12 +2,12 @@
 use Rattle.std.specs.Prelude.{◌||◌, slice_index}
 use Rattle.std.proofs.Common.{◌≡◌, ℕ, ◌^◌, ◌<◌, Bool, true, false, List, [], ◌∷◌, refl, ap, sym, ◌∙◌, arith}
 use Rattle.std.proofs.lemmas.Bool.{ne_eqb}
-use Rattle.ffi3_memory.specs.Memory.{low_bytes}
+use Rattle.ffi3_machine_spec.specs.Memory.{low_bytes}
 use Rattle.ffi3_place_spec.specs.declared.Loc.{Loc}
 use Rattle.ffi3_place_spec.specs.declared.Loc.TheVariants.{G, F, S}
 use Rattle.ffi3_place_spec.specs.Sound.{Apart, IsNoneOf, IsOneOf}
-use Rattle.ffi3_machine.specs.State.{State, IsMachine, x_of}
-use Rattle.ffi3_machine.specs.Stubs.{exchanged_at}
+use Rattle.ffi3_machine_spec.specs.State.{State, IsMachine, x_of}
+use Rattle.ffi3_machine_spec.specs.Stubs.{exchanged_at}
 use Rattle.ffi3_stubs.specs.Effects.{held}
 use Rattle.ffi3_stubs.specs.Calls.{CameFromExchange, OthersStay, WentToExchange, exchange_bytes, is_in, same_loc}
 use Rattle.ffi3_machine_transfer.specs.Passing.{passing_if}

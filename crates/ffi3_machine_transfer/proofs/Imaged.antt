@@ -23,7 +23,7 @@ use Rattle.ffi3_place_spec.proofs.Words.{same_bytes}
 use Rattle.ffi3_marshal.specs.Stored as core
 use Rattle.ffi3_marshal.specs.Read as read
 use Rattle.ffi3_marshal.specs.Standing as standing
-use Rattle.ffi3_machine.specs.State.{State, stack_at, stored, with_general}
+use Rattle.ffi3_machine_spec.specs.State.{State, stack_at, stored, with_general}
 use Rattle.ffi3_machine_transfer.specs.Stored.{AreBytesOf, IsPieceLoaded, IsPlace, IsPut, IsSet, IsSetAndFilled, IsWordPut, IsWritable, KeepsPadding, SameAt, Stays, WroteWithin, byte_of, word_in}
 use Rattle.ffi3_machine_transfer.specs.Standing.{IsCopied}
 use Rattle.ffi3_machine_transfer.specs.Lent.{image_passed}

@@ -4,7 +4,7 @@ use Rattle.std.proofs.lemmas.Bool.{cases_lt}
 use Rattle.ffi3_type_spec.specs.Tree.{Tree}
 use Rattle.ffi3_type_spec.specs.Value.{ValueTree, IsWritten}
 use Rattle.ffi3_place_spec.specs.declared.Piece.{Piece}
-use Rattle.ffi3_machine.specs.State.{State}
+use Rattle.ffi3_machine_spec.specs.State.{State}
 use Rattle.ffi3_machine_transfer.specs.Stored.{byte_of, IsPieceLoaded, IsSetAndFilled, IsStored}
 use Rattle.ffi3_machine_transfer.proofs.Reading.{piece_held}
 

@@ -19,7 +19,7 @@ use Rattle.ffi3_place_spec.specs.Sound.{IsPieceOf, piece_locs, place_size}
 use Rattle.ffi3_place_spec.proofs.Words.{same_bytes}
 use Rattle.ffi3_place_spec.proofs.Tests.{and_left, and_right}
 use Rattle.ffi3_type_spec.specs.declared.limits.TheConstants.{STACK}
-use Rattle.ffi3_machine.specs.State.{State, image_of, stack_at}
+use Rattle.ffi3_machine_spec.specs.State.{State, image_of, stack_at}
 use Rattle.ffi3_machine_transfer.specs.Stored.{IsByteOf, IsPlace, byte_of, word_in, PieceStands}
 use Rattle.ffi3_machine_transfer.specs.Standing.{CopyStands, PlaceStands, AllStand, IsReady, AreReady}
 use Rattle.ffi3_place_spec.proofs.Reading.{counted}

@@ -7,17 +7,18 @@ use Rattle.std.proofs.lemmas.Bool.{cases_lt}
 use Rattle.std.proofs.lemmas.List.{ext_get_or, get_or-set_same, get_or-set_other, drop_at, take_at}
 use Rattle.std.proofs.lemmas.List.FromFn.{length-map-range_with_len, get_or-map-range_with_len}
 use Rattle.std.proofs.lemmas.Nat.{from_le_bytes-to_le_bytes_8}
-use Rattle.ffi3_memory.specs.Memory.{number_of, low_bytes}
+use Rattle.ffi3_machine_spec.specs.Memory.{number_of, low_bytes}
 use Rattle.ffi3_type_spec.specs.declared.limits.TheConstants.{STACK}
 use Rattle.ffi3_type_spec.proofs.Parts.{index_part}
 use Rattle.ffi3_type_spec.specs.declared.Target.{Target}
 use Rattle.ffi3_type_spec.specs.TargetIsa.{isa_of}
 use Rattle.ffi3_place_spec.specs.MachineRegisters.{is_zero_register}
 use Rattle.ffi3_place_spec.specs.StubRegisters.{has_stubs}
-use Rattle.ffi3_machine.specs.State.{State, x_of, with_x, with_general, with_floating}
+use Rattle.ffi3_machine_spec.specs.State.{State, x_of, with_x, with_general, with_floating}
 use Rattle.ffi3_place_spec.specs.declared.Loc.{Loc}
 use Rattle.ffi3_place_spec.specs.declared.Loc.TheVariants.{G, F, S}
-use Rattle.ffi3_machine.specs.Stubs.{exchanged_at}
+use Rattle.ffi3_machine_spec.specs.declared.stub.TheConstants.{REGISTERS_END}
+use Rattle.ffi3_machine_spec.specs.Stubs.{exchanged_at}
 use Rattle.ffi3_marshal.proofs.Ranges.{range_length}
 use Rattle.ffi3_machine_transfer.specs.Stored.{IsPlace, SameAt, byte_of, word_in}
 use Rattle.ffi3_machine_transfer.specs.Passing.{by_exchange, words_at, passing_if, passing, steps_if}
@@ -72,8 +73,8 @@ module _ (from k v : ℕ) (xs : List ℕ) (below : k < 32) (room : from + 256 �
       stays j h (inl low) = get_or-words_at other (put_word xs at v) j h ∙ ap (number_of 8) (word_below xs (other + 8 * j) at v (omega arith) (omega arith)) ∙ sym (get_or-words_at other xs j h)
       stays j h (inr high) = get_or-words_at other (put_word xs at v) j h ∙ ap (number_of 8) (word_above xs (other + 8 * j) at v (omega arith) (omega arith)) ∙ sym (get_or-words_at other xs j h)
 
-  pub behind_stays : from + 256 ≤ 512 → drop 512 (put_word xs at v) ≡ drop 512 xs
-  behind_stays high = above_all xs at v 512 (omega arith) (omega arith)
+  pub behind_stays : from + 256 ≤ REGISTERS_END → drop REGISTERS_END (put_word xs at v) ≡ drop REGISTERS_END xs
+  behind_stays high = above_all xs at v REGISTERS_END (omega arith) (omega arith)
 
 -- ---- the view
 
@@ -86,7 +87,7 @@ general_passed b k v s e size below small writable =
     let here : 8 * k ≡ 0 + 8 * k = omega arith in
     let g : words_at 0 (put_word xs (8 * k) v) ≡ (if is_zero_register (isa_of s.target) k then words_at 0 xs else slice_set (words_at 0 xs) k v) = ap (λ i. words_at 0 (put_word xs i v)) here ∙ word_set 0 k v xs below (omega arith) small ∙ sym (not_zero (is_zero_register (isa_of s.target) k) (words_at 0 xs) (slice_set (words_at 0 xs) k v) writable) in
     let f : words_at 256 (put_word xs (8 * k) v) ≡ words_at 256 xs = ap (λ i. words_at 256 (put_word xs i v)) here ∙ others_stay 0 k v xs below (omega arith) small 256 (inr (omega arith)) (omega arith) in
-    let x : drop 512 (put_word xs (8 * k) v) ≡ drop 512 xs = ap (λ i. drop 512 (put_word xs i v)) here ∙ behind_stays 0 k v xs below (omega arith) small (omega arith) in
+    let x : drop REGISTERS_END (put_word xs (8 * k) v) ≡ drop REGISTERS_END xs = ap (λ i. drop REGISTERS_END (put_word xs i v)) here ∙ behind_stays 0 k v xs below (omega arith) small (omega arith) in
     let P : Bool → Type 0 = λ c. passing_if c (with_x (8 * k) v s) ≡ with_general k v (passing_if c s) in
     subst P (sym e) (λ i. record s { general = g i; floating = f i; exchange = s.general ++ (s.floating ++ x i) })
 
@@ -95,7 +96,7 @@ floating_passed b k v s e size below small =
     let xs : List ℕ = s.exchange in
     let g : words_at 0 (put_word xs (256 + 8 * k) v) ≡ words_at 0 xs = others_stay 256 k v xs below (omega arith) small 0 (inl (omega arith)) (omega arith) in
     let f : words_at 256 (put_word xs (256 + 8 * k) v) ≡ slice_set (words_at 256 xs) k v = word_set 256 k v xs below (omega arith) small in
-    let x : drop 512 (put_word xs (256 + 8 * k) v) ≡ drop 512 xs = behind_stays 256 k v xs below (omega arith) small (omega arith) in
+    let x : drop REGISTERS_END (put_word xs (256 + 8 * k) v) ≡ drop REGISTERS_END xs = behind_stays 256 k v xs below (omega arith) small (omega arith) in
     let P : Bool → Type 0 = λ c. passing_if c (with_x (256 + 8 * k) v s) ≡ with_floating k v (passing_if c s) in
     subst P (sym e) (λ i. record s { general = g i; floating = f i; exchange = s.general ++ (s.floating ++ x i) })
 
@@ -151,11 +152,11 @@ same_prefix xs ys us vs n e = (
 -- A register that the view has alike in both, and what stands behind the view too, is the same.
 pub own_same : (b : Bool) (l : Loc) (x y : State) → IsPlace 0 l → length x.general ≡ length y.general → length x.floating ≡ length y.floating → SameAt 0 l (passing_if b x) (passing_if b y) → (passing_if b y).exchange ≡ (passing_if b x).exchange → SameAt 0 l x y
 own_same true (G r) x y h g f same behind =
-    let parts = same_prefix y.general x.general (y.floating ++ drop 512 y.exchange) (x.floating ++ drop 512 x.exchange) (sym g) behind in
+    let parts = same_prefix y.general x.general (y.floating ++ drop REGISTERS_END y.exchange) (x.floating ++ drop REGISTERS_END x.exchange) (sym g) behind in
     ap (λ e. get_or e r 0) parts.0
 own_same true (F r) x y h g f same behind =
-    let parts = same_prefix y.general x.general (y.floating ++ drop 512 y.exchange) (x.floating ++ drop 512 x.exchange) (sym g) behind in
-    ap (λ e. get_or e r 0) (same_prefix y.floating x.floating (drop 512 y.exchange) (drop 512 x.exchange) (sym f) parts.1).0
+    let parts = same_prefix y.general x.general (y.floating ++ drop REGISTERS_END y.exchange) (x.floating ++ drop REGISTERS_END x.exchange) (sym g) behind in
+    ap (λ e. get_or e r 0) (same_prefix y.floating x.floating (drop REGISTERS_END y.exchange) (drop REGISTERS_END x.exchange) (sym f) parts.1).0
 own_same true (S n w) x y h g f same behind = absurd (omega (arith, h.0, h.1))
 own_same false (G r) x y h g f same behind = same
 own_same false (F r) x y h g f same behind = same
@@ -170,7 +171,7 @@ own_register l x y h target g f same behind =
 -- a general register that is the machine's own
 pub own_general : (b : Bool) (x y : State) → length x.general ≡ length y.general → (passing_if b y).general ≡ (passing_if b x).general → (passing_if b y).exchange ≡ (passing_if b x).exchange → y.general ≡ x.general
 own_general true x y g same behind =
-    (same_prefix y.general x.general (y.floating ++ drop 512 y.exchange) (x.floating ++ drop 512 x.exchange) (sym g) behind).0
+    (same_prefix y.general x.general (y.floating ++ drop REGISTERS_END y.exchange) (x.floating ++ drop REGISTERS_END x.exchange) (sym g) behind).0
 own_general false x y g same behind = same
 
 -- ---- a number beside the words that are passed
@@ -192,8 +193,8 @@ word_passed base (G r) s h = sym (general_read true r s refl h)
 word_passed base (F r) s h = sym (floating_read true r s refl h)
 word_passed base (S n w) s h = absurd (omega (arith, h.0, h.1))
 
--- below 512
-pub place_low : (l : Loc) → IsPlace 0 l → exchanged_at l + 8 ≤ 512
+-- below REGISTERS_END
+pub place_low : (l : Loc) → IsPlace 0 l → exchanged_at l + 8 ≤ REGISTERS_END
 place_low (G r) h = omega (arith, h)
 place_low (F r) h = omega (arith, h)
 place_low (S n w) h = absurd (omega (arith, h.0, h.1))

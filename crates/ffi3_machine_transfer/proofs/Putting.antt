@@ -7,7 +7,7 @@ use Rattle.ffi3_place_spec.specs.declared.Loc.TheVariants.{S}
 use Rattle.ffi3_type_spec.specs.declared.limits.TheConstants.{STACK}
 use Rattle.ffi3_marshal.proofs.Puts.{eight_bytes}
 use Rattle.ffi3_marshal.proofs.Ranges.{in_range, below_range, above_range, range_length}
-use Rattle.ffi3_machine.specs.State.{State, stored, lowered}
+use Rattle.ffi3_machine_spec.specs.State.{State, stored, lowered}
 use Rattle.ffi3_machine_transfer.specs.Stored.{stack_byte, byte_of, WroteOnly, WroteWithin, word_in}
 
 -- ---- words

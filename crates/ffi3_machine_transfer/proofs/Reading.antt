@@ -6,7 +6,7 @@ use Rattle.ffi3_type_spec.specs.Value.{ValueTree, value_in}
 use Rattle.ffi3_place_spec.specs.declared.Piece.{Piece}
 use Rattle.ffi3_place_spec.specs.Holds.{leaf_bytes}
 use Rattle.ffi3_place_spec.proofs.Reading.{LeavesRead, leaves_read}
-use Rattle.ffi3_machine.specs.State.{State}
+use Rattle.ffi3_machine_spec.specs.State.{State}
 use Rattle.ffi3_machine_transfer.specs.Stored.{HasLeaves, HasPiece, IsByteOf}
 
 byte_read : (out : List ℕ) (ls : List Leaf) (bs : List (List ℕ)) (o : ℕ) → LeavesRead out ls bs → IsByteOf ls bs o (get_or out o 0)

@@ -20,7 +20,7 @@ use Rattle.ffi3_place_spec.proofs.Elements.{drop_read}
 use Rattle.ffi3_cif.specs.declared.runs.Run.{Run}
 use Rattle.ffi3_cif.specs.Runs.{AreRunsOf, Copies, Neighbours, OneCopies, Rises}
 use Rattle.ffi3_type_spec.specs.declared.limits.TheConstants.{STACK}
-use Rattle.ffi3_machine.specs.State.{State, stack_at, stored}
+use Rattle.ffi3_machine_spec.specs.State.{State, stack_at, stored}
 use Rattle.ffi3_machine_transfer.specs.Stored.{IsByteOf, IsPlace, IsStored, KeepsUnused, PieceStands, SameAt, Stays, WroteOnly, byte_of, stack_byte, word_in}
 use Rattle.ffi3_machine_transfer.specs.Runs.{AreRunsStored, IsRunStored, goes_by_run}
 use Rattle.ffi3_machine_transfer.proofs.Composing.{only_nothing, only_then, only_wider, same_itself, same_then, wrote_nothing}

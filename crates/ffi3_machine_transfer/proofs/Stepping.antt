@@ -14,7 +14,7 @@ use Rattle.ffi3_place_spec.specs.Sound.{AreApart, IsNoneOf, IsPieceOf, piece_loc
 use Rattle.ffi3_place_spec.proofs.Words.{same_bytes}
 use Rattle.ffi3_place_spec.proofs.Elements.{drop_read}
 use Rattle.ffi3_marshal.proofs.Stepping.{apart_drop, each_drop, each_loc, each_read, none_of_one}
-use Rattle.ffi3_machine.specs.State.{State}
+use Rattle.ffi3_machine_spec.specs.State.{State}
 use Rattle.ffi3_machine_transfer.specs.Stored.{IsByteOf, IsPlace, byte_of, word_in, KeepsUnused, SameAt, Stays, WroteWithin, PieceStands, IsStored}
 use Rattle.ffi3_machine_transfer.specs.Runs.{goes_by_run}
 use Rattle.ffi3_machine_transfer.proofs.Composing.{same_byte, stays_none, stays_then, wrote_nothing, wrote_then}

@@ -5,7 +5,7 @@ use Rattle.ffi3_type_spec.specs.TargetIsa.{isa_of}
 use Rattle.ffi3_place_spec.specs.MachineRegisters.{is_zero_register}
 use Rattle.ffi3_type_spec.specs.declared.limits.TheConstants.{STACK}
 use Rattle.ffi3_place_spec.specs.Image.{Image}
-use Rattle.ffi3_machine.specs.State.{State}
+use Rattle.ffi3_machine_spec.specs.State.{State}
 use Rattle.ffi3_machine_transfer.specs.Passing.{passing}
 use Rattle.ffi3_machine_transfer.specs.Stored.{WroteWithin}
 

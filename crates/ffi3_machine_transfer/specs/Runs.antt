@@ -11,7 +11,7 @@ use Rattle.ffi3_place_spec.specs.declared.Ext.TheVariants.{Free, Widen, Riscv, B
 use Rattle.ffi3_place_spec.specs.Holds.{leaf_bytes}
 use Rattle.ffi3_cif.specs.declared.runs.Run.{Run}
 use Rattle.ffi3_cif.specs.Runs.{Copies, OneCopies}
-use Rattle.ffi3_machine.specs.State.{State}
+use Rattle.ffi3_machine_spec.specs.State.{State}
 use Rattle.ffi3_machine_transfer.specs.Stored.{IsByteOf, WroteOnly, stack_byte}
 
 -- the run lies in so many bytes of the stack, and its bytes are of a value of so many

@@ -13,7 +13,7 @@ use Rattle.ffi3_place_spec.specs.declared.Res.TheVariants.{Nothing, Direct as Di
 use Rattle.ffi3_place_spec.specs.Sound.{stack_words_for}
 use Rattle.ffi3_type_spec.specs.declared.limits.TheConstants.{STACK}
 pub use Rattle.ffi3_marshal.specs.Standing.{AreReady, IsReady, PlaceLies, all_uses, place_uses}
-use Rattle.ffi3_machine.specs.State.{State, stack_at}
+use Rattle.ffi3_machine_spec.specs.State.{State, stack_at}
 use Rattle.ffi3_machine_transfer.specs.Stored.{IsPlace, word_in, KeepsPadding, KeepsUnused, PieceStands, Stays}
 use Rattle.ffi3_machine_transfer.specs.Stored.{WroteWithin}
 

@@ -13,7 +13,7 @@ use Rattle.ffi3_place_spec.specs.Holds.{Carries, FillsAs, leaf_bytes}
 use Rattle.ffi3_place_spec.specs.Sound.{place_size, IsWhole, IsNoneOf}
 use Rattle.ffi3_type_spec.specs.declared.limits.TheConstants.{STACK}
 pub use Rattle.ffi3_marshal.specs.Stored.{IsPlace, IsWritable}
-use Rattle.ffi3_machine.specs.State.{State}
+use Rattle.ffi3_machine_spec.specs.State.{State}
 
 -- the byte of the stack at an address
 abbrev pub stack_byte : State → ℕ → ℕ

@@ -111,8 +111,7 @@ pub(crate) fn offset_of(machine: &Machine, base: StackBase) -> u64
     ensures room { length (passing machine.now).stack - result ≡ STACK_TOP - base }
     ensures within { result ≤ length (passing machine.now).stack }
 {
-    // its contract tells what is true of every machine
-    let _m = machine.sp();
+    machine.facts();
     base.address() - STACK
 }
 
@@ -120,8 +119,7 @@ pub(crate) fn offset_of(machine: &Machine, base: StackBase) -> u64
 fn stack_len(machine: &Machine) -> u64
     ensures { result ≡ length (passing machine.now).stack }
 {
-    // its contract tells what is true of every machine
-    let _m = machine.sp();
+    machine.facts();
     STACK_TOP - STACK
 }
 
@@ -130,8 +128,7 @@ fn read_stack(machine: &Machine, from: u64, out: &mut [u8])
     requires { from + length out.old ≤ length (passing machine.now).stack }
     ensures { out.new ≡ part (passing machine.now).stack from (length out.old) }
 {
-    // its contract tells what is true of every machine
-    let _m = machine.sp();
+    machine.facts();
     let len = out.len() as u64;
     out.copy_from_slice(machine.lend_stack(STACK + from, len));
 }
@@ -144,8 +141,7 @@ fn set_general(machine: &mut Machine, k: u8, value: u64)
     ensures there { k < length (image_passed (passing machine.old)).general }
     ensures within { (low high : ℕ) → ChangesWithin low high machine.old machine.new }
 {
-    // its contract tells what is true of every machine
-    let _m = machine.sp();
+    machine.facts();
     pass_general(machine, k, value);
 }
 
@@ -156,8 +152,7 @@ fn set_floating(machine: &mut Machine, k: u8, value: u64)
     ensures there { k < length (image_passed (passing machine.old)).floating }
     ensures within { (low high : ℕ) → ChangesWithin low high machine.old machine.new }
 {
-    // its contract tells what is true of every machine
-    let _m = machine.sp();
+    machine.facts();
     pass_floating(machine, k, value);
 }
 
@@ -167,7 +162,6 @@ fn write_stack(machine: &mut Machine, from: u64, bytes: &[u8])
     ensures stored { image_passed (passing machine.new) ≡ stored from bytes.now (image_passed (passing machine.old)) }
     ensures within { (low high : ℕ) → low ≤ from → from + length bytes.now ≤ high → ChangesWithin low high machine.old machine.new }
 {
-    // its contract tells what is true of every machine
-    let _m = machine.sp();
+    machine.facts();
     machine.store_stack(STACK + from, bytes);
 }

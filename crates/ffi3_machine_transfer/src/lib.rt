@@ -1,4 +1,4 @@
-//! Values at the places of a plan: what a caller stores for its callee.
+//! Stores a caller's values at the places of a plan, on the modelled machine.
 #![tactic(auto)]
 
 ghost use Rattle.std.specs.Prelude.{◌≡◌, ℕ, ◌+◌, ◌-◌, ◌≤◌, length, true};
@@ -11,7 +11,7 @@ ghost use Rattle.ffi3_place_spec.specs.Standard.{frame_of, plan_of};
 ghost use Rattle.ffi3_place_spec.specs.Holds.{FillArguments, OwnsArguments};
 ghost use Rattle.ffi3_place_spec.specs.Sound.{Apart, AreApart, hidden_locs, IsPieceOf, IsWhole, PlaceHasAll, piece_locs, place_locs, place_size, stack_words_for, IsWithin};
 ghost use Rattle.ffi3_type_spec.specs.declared.limits.TheConstants.{STACK, STACK_TOP};
-ghost use Rattle.ffi3_machine.specs.State.{image_of};
+ghost use Rattle.ffi3_machine_spec.specs.State.{image_of};
 ghost use Rattle.ffi3_machine_transfer.specs.Passing.{passing};
 ghost use Rattle.ffi3_machine_transfer.specs.Stored.{IsPlace, IsPut, IsSet, IsSetAndFilled, IsStored, IsWordPut, IsWritable, KeepsUnused, PieceStands, Stays, WroteWithin};
 ghost use Rattle.ffi3_cif.specs.Runs.{AreRunsOf, pieces_of};
@@ -285,8 +285,7 @@ fn store_copy(
     requires sized { length bytes.old ≡ size_of ty.now }
     ensures { IsCopied base ty.now (value_of value.now) at copy (passing machine.old) (passing machine.new) }
 {
-    // its contract tells what is true of every machine
-    let _m = machine.sp();
+    machine.facts();
     let first = base.address();
     let size = ty.size();
     bytes.copy_from_slice(machine.lend_stack(first + copy as u64, size));

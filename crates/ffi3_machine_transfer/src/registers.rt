@@ -2,7 +2,7 @@
 ghost use Rattle.std.specs.Prelude.{◌≡◌, ◌<◌, slice_index, false};
 ghost use Rattle.ffi3_type_spec.specs.TargetIsa.{isa_of};
 ghost use Rattle.ffi3_place_spec.specs.MachineRegisters.{is_zero_register};
-ghost use Rattle.ffi3_machine.specs.State.{with_floating, with_general};
+ghost use Rattle.ffi3_machine_spec.specs.State.{with_floating, with_general};
 ghost use Rattle.ffi3_machine_transfer.specs.Passing.{by_exchange, passing};
 
 use ffi3_machine::{Machine, Target};
@@ -53,8 +53,7 @@ pub fn pass_general(machine: &mut Machine, k: u8, value: u64)
     requires writable { is_zero_register (isa_of machine.old.target) k ≡ false }
     ensures { passing machine.new ≡ with_general k value (passing machine.old) }
 {
-    // its contract tells what is true of every machine
-    let _m = machine.sp();
+    machine.facts();
     let exchanged = by_exchange(machine.target());
     if exchanged {
         machine.set_x(8 * k as u64, value);
@@ -68,8 +67,7 @@ pub fn pass_floating(machine: &mut Machine, k: u8, value: u64)
     requires { k < 32 }
     ensures { passing machine.new ≡ with_floating k value (passing machine.old) }
 {
-    // its contract tells what is true of every machine
-    let _m = machine.sp();
+    machine.facts();
     let exchanged = by_exchange(machine.target());
     if exchanged {
         machine.set_x(256 + 8 * k as u64, value);

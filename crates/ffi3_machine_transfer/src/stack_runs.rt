@@ -30,8 +30,7 @@ fn store_run(
     ensures stored { IsRunStored base ty.now (value_of value.now) run (passing machine.old) (passing machine.new) }
     ensures sized { length bytes.new ≡ length bytes.old }
 {
-    // its contract tells what is true of every machine
-    let _m = machine.sp();
+    machine.facts();
     let start = base.address() + run.at as u64;
     let from = run.off as usize;
     let to = from + run.len as usize;

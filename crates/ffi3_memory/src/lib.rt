@@ -3,7 +3,7 @@
 
 ghost use Rattle.std.specs.Prelude.{◌≡◌, ◌<◌, ◌≤◌, ◌+◌, ◌^◌, ◌↔◌, length, take, drop, replicate, [], IfOk, IsTrue};
 ghost use Rattle.std.specs.List.{replace_range};
-ghost use Rattle.ffi3_memory.specs.Memory.{LiesIn, range_of, with_bytes, IsWidth, number_of, low_bytes};
+ghost use Rattle.ffi3_machine_spec.specs.Memory.{LiesIn, range_of, with_bytes, IsWidth, number_of, low_bytes};
 
 /// A want of memory: the one answer that no clause ties to a cause.
 pub use std::alloc::AllocError as NoMemory;
@@ -28,7 +28,7 @@ pub struct Region {
 
 impl Model for Region {
     ghost use Rattle.std.specs.Prelude.{◌≡◌, ◌<◌, ◌+◌, ◌^◌, length};
-    ghost use Rattle.ffi3_memory.specs.Memory.{Memory};
+    ghost use Rattle.ffi3_machine_spec.specs.Memory.{Memory};
 
     ghost Value = { Memory };
 

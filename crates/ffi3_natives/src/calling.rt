@@ -5,7 +5,7 @@ ghost use Rattle.ffi3_type_spec.specs.Value.{fits, void_value};
 ghost use Rattle.ffi3_values.specs.ValueOf.{value_of};
 ghost use Rattle.ffi3_semantics_spec.specs.Move.{MoveFits, return};
 ghost use Rattle.ffi3_body.specs.MoveOf.{move_of};
-ghost use Rattle.ffi3_body.specs.SeenActivation.{arguments_of};
+ghost use Rattle.ffi3_semantics_spec.specs.SeenActivation.{arguments_of};
 ghost use Rattle.ffi3_natives.specs.Natives.{call_on, calling_signatures, closure_signature, number_signature};
 
 use ffi3_body::{Move, Seen};

@@ -8,8 +8,8 @@ use Rattle.ffi3_type_spec.specs.Value.{ValueTree}
 use Rattle.ffi3_place_spec.specs.Standard.{Standard}
 use Rattle.ffi3_semantics_spec.specs.Move.{Move, Behaviour, MoveFits, result_type_of}
 use Rattle.ffi3_semantics_spec.specs.Meaning.{Program, Native, renumbered, Who, main, function, behaviour_of}
-use Rattle.ffi3_body.specs.SeenActivation.{SeenActivation, arguments_of}
-use Rattle.ffi3_body.specs.Follow.{IsOfType, ResultsFollow}
+use Rattle.ffi3_semantics_spec.specs.SeenActivation.{SeenActivation, arguments_of}
+use Rattle.ffi3_semantics_spec.specs.Follow.{IsOfType, ResultsFollow}
 use Rattle.ffi3_body.proofs.Follow.{one_more_follows, none_follow}
 use Rattle.ffi3_script_spec.specs.Script as rules
 use Rattle.ffi3_script_spec.specs.Meaning as script
@@ -19,7 +19,7 @@ use Rattle.ffi3_script_body.specs.BodyOf.{moves_of, signatures_of, functions_of,
 use Rattle.ffi3_script_body.specs.declared.body.ScriptBody.{ScriptBody}
 use Rattle.ffi3_script_body.specs.declared.cursor.Cursor.{Cursor}
 use Rattle.ffi3_script.specs.ScriptOf as read
-use Rattle.ffi3_next_move.specs.Handed.{natives_in, signatures_in, signatures_before, HasRoom}
+use Rattle.ffi3_script_spec.specs.Handed.{natives_in, signatures_in, signatures_before, HasRoom}
 use Rattle.ffi3_script.specs.declared.script.Script.{Script}
 use Rattle.ffi3_next_move.specs.Stands.{IsInBody, IsInNative, IsInHanded}
 use Rattle.ffi3_next_move.specs.Asked.{IsAsked, IsNext, own_signature}

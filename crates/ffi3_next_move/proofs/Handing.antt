@@ -5,7 +5,7 @@ use Rattle.ffi3_place_spec.specs.Standard.{Standard}
 use Rattle.ffi3_semantics_spec.specs.Move.{Behaviour}
 use Rattle.ffi3_script_spec.specs.Script.{Script}
 use Rattle.ffi3_script_spec.specs.Natives.{program_beside}
-use Rattle.ffi3_next_move.specs.Handed.{handed}
+use Rattle.ffi3_script_spec.specs.Handed.{handed}
 
 -- the program is the same, where the boxes and the script are
 pub same_program : {A : Type 0} (std : Standard) (title : A → List ℕ) (meaning : A → Behaviour) (signatures : A → List Signature) (bs cs : List A) (s t : Script) → bs ≡ cs → s ≡ t → program_beside std (handed title meaning signatures bs) s ≡ program_beside std (handed title meaning signatures cs) t

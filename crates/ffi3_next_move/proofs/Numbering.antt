@@ -13,7 +13,7 @@ use Rattle.ffi3_script_spec.specs.Script.{Script}
 use Rattle.ffi3_script_spec.specs.Meaning as script
 use Rattle.ffi3_script_spec.specs.Natives.{NamedNative, program_beside}
 use Rattle.ffi3_script.specs.ScriptOf as read
-use Rattle.ffi3_next_move.specs.Handed.{natives_in, signatures_in, signatures_before, HasRoom}
+use Rattle.ffi3_script_spec.specs.Handed.{natives_in, signatures_in, signatures_before, HasRoom}
 
 -- ---- natives one after another
 

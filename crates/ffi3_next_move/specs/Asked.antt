@@ -4,8 +4,8 @@ use Rattle.ffi3_type_spec.specs.Signature.{Signature, signature_at}
 use Rattle.ffi3_type_spec.specs.Value.{ValueTree}
 use Rattle.ffi3_semantics_spec.specs.Move.{Move, Behaviour, MoveFits, no_signature, result_type_of}
 use Rattle.ffi3_semantics_spec.specs.Meaning.{Program, Who, main, function, function_at, behaviour_of}
-use Rattle.ffi3_body.specs.SeenActivation.{SeenActivation, arguments_of}
-use Rattle.ffi3_body.specs.Follow.{IsOfType}
+use Rattle.ffi3_semantics_spec.specs.SeenActivation.{SeenActivation, arguments_of}
+use Rattle.ffi3_semantics_spec.specs.Follow.{IsOfType}
 
 -- the signature by which it is called
 abbrev pub own_signature : Program → Who → Signature

@@ -1,3 +1,2 @@
-pub mod Handed
 pub mod Stands
 pub mod Asked

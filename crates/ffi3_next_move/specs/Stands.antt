@@ -3,8 +3,8 @@ use Rattle.std.specs.Prelude.{◌≡◌, ℕ, ◌+◌, ◌-◌, ◌<◌, ◌≤�
 use Rattle.ffi3_type_spec.specs.Signature.{signature_at}
 use Rattle.ffi3_place_spec.specs.Standard.{Standard}
 use Rattle.ffi3_semantics_spec.specs.Meaning.{Who, main, function, Native}
-use Rattle.ffi3_body.specs.SeenActivation.{SeenActivation, arguments_of}
-use Rattle.ffi3_body.specs.Follow.{ResultsFollow}
+use Rattle.ffi3_semantics_spec.specs.SeenActivation.{SeenActivation, arguments_of}
+use Rattle.ffi3_semantics_spec.specs.Follow.{ResultsFollow}
 use Rattle.ffi3_script_spec.specs.Natives.{NamedNative, program_beside}
 use Rattle.ffi3_script_body.specs.Agrees.{Agrees}
 use Rattle.ffi3_script_body.specs.BodyOf.{signatures_of, signature_of, meaning_of}
@@ -13,7 +13,7 @@ use Rattle.ffi3_script_body.specs.declared.cursor.Cursor.{Cursor}
 use Rattle.ffi3_script.specs.ScriptOf.{script_of, main_body, body_at}
 use Rattle.ffi3_script.specs.declared.script.Script.{Script}
 use Rattle.ffi3_next_move.specs.Asked.{own_signature}
-use Rattle.ffi3_next_move.specs.Handed.{natives_in, signatures_before}
+use Rattle.ffi3_script_spec.specs.Handed.{natives_in, signatures_before}
 use Rattle.ffi3_next_move.specs.declared.standing.Standing.{Standing}
 use Rattle.ffi3_next_move.specs.declared.standing.Standing.TheVariants.{InMain, InFunction, InNative}
 

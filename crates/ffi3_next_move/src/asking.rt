@@ -7,7 +7,7 @@ ghost use Rattle.ffi3_script_spec.specs.Natives.{NamedNative, program_beside};
 ghost use Rattle.ffi3_script_body.specs.Agrees.{one_more};
 ghost use Rattle.ffi3_script_body.specs.BodyOf.{signatures_of, functions_of, meaning_of};
 ghost use Rattle.ffi3_script.specs.ScriptOf.{script_of, natives_of, main_body};
-ghost use Rattle.ffi3_next_move.specs.Handed.{handed, signatures_in};
+ghost use Rattle.ffi3_script_spec.specs.Handed.{handed, signatures_in};
 ghost use Rattle.ffi3_next_move.specs.Asked.{IsAsked, IsNext};
 ghost use Rattle.ffi3_next_move.specs.Stands.{who_of, StandingAgrees, IsInBody, IsInFunction, IsInHanded};
 

@@ -1,5 +1,5 @@
-//! What a function of a run asks for next, by the numbers of the run: its functions are the
-//! script's and then the natives, its signatures the script's and then those of each native.
+//! Asks a function of a run for its next move, by the numbers of the run: its functions are the script's and then the
+//! natives, its signatures the script's and then those of each native.
 #![tactic(auto)]
 
 mod asking;

@@ -5,9 +5,9 @@ ghost use Rattle.ffi3_type_spec.specs.Signature.{SignatureHasNoFault, signature_
 ghost use Rattle.ffi3_semantics_spec.specs.Move.{MoveFits};
 ghost use Rattle.ffi3_semantics_spec.specs.Meaning.{renumbered};
 ghost use Rattle.ffi3_body.specs.MoveOf.{move_of};
-ghost use Rattle.ffi3_body.specs.SeenActivation.{arguments_of};
-ghost use Rattle.ffi3_body.specs.Follow.{ResultsFollow};
-ghost use Rattle.ffi3_next_move.specs.Handed.{handed, handed_in, HasRoom};
+ghost use Rattle.ffi3_semantics_spec.specs.SeenActivation.{arguments_of};
+ghost use Rattle.ffi3_semantics_spec.specs.Follow.{ResultsFollow};
+ghost use Rattle.ffi3_script_spec.specs.Handed.{handed, handed_in, HasRoom};
 
 use ffi3_body::{Move, Native, Seen};
 use ffi3_types::{NoMemory, Sigs};

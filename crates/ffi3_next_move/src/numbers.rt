@@ -5,7 +5,7 @@ ghost use Rattle.ffi3_place_spec.specs.Standard.{Standard};
 ghost use Rattle.ffi3_semantics_spec.specs.Meaning.{function_at};
 ghost use Rattle.ffi3_script_spec.specs.Natives.{NamedNative, program_beside};
 ghost use Rattle.ffi3_script.specs.ScriptOf.{script_of};
-ghost use Rattle.ffi3_next_move.specs.Handed.{AreFew, handed, natives_in, signatures_in, signatures_before};
+ghost use Rattle.ffi3_script_spec.specs.Handed.{AreFew, handed, natives_in, signatures_in, signatures_before};
 
 use crate::natives::{native_at, sigs_of};
 use ffi3_body::Native;

@@ -2,11 +2,11 @@
 ghost use Rattle.std.specs.Prelude.{◌≡◌, ◌<◌, ◌≤◌, ◌+◌, ◌^◌, [], List, length};
 ghost use Rattle.ffi3_semantics_spec.specs.Move.{no_signature};
 ghost use Rattle.ffi3_semantics_spec.specs.Meaning.{main};
-ghost use Rattle.ffi3_body.specs.SeenActivation.{SeenActivation};
+ghost use Rattle.ffi3_semantics_spec.specs.SeenActivation.{SeenActivation};
 ghost use Rattle.ffi3_script_spec.specs.Natives.{NamedNative};
 ghost use Rattle.ffi3_script_body.specs.BodyOf.{signature_of};
 ghost use Rattle.ffi3_script.specs.ScriptOf.{script_of};
-ghost use Rattle.ffi3_next_move.specs.Handed.{handed, signatures_in};
+ghost use Rattle.ffi3_script_spec.specs.Handed.{handed, signatures_in};
 ghost use Rattle.ffi3_next_move.specs.Stands.{who_of, StandingAgrees, IsBeforeMoves, IsInBody};
 
 use crate::natives::{native_at, sigs_of};

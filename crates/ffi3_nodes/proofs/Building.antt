@@ -116,7 +116,7 @@ node_fits ns j d ts h below w =
 
 -- ---- one type more
 
-same_node : (n : Node) (k c : ℕ) → n.kind ≡ k → n.count ≡ c → n ≡ node k c
+pub same_node : (n : Node) (k c : ℕ) → n.kind ≡ k → n.count ≡ c → n ≡ node k c
 same_node n k c e f = λ i. record { kind = e i; count = f i }
 
 pub first_leaf : (n : Node) (t : Tree) (ts : List Tree) (ns : List Node) → n.count ≡ 0 → slice_get leaves n.kind ≡ Some t → AreWritten ts ns → AreWritten (t ∷ ts) (n ∷ ns)

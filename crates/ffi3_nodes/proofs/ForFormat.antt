@@ -143,7 +143,7 @@ module _ (format : Format) (ns : List Node) (fixed : Option ℕ) (t s : Signatur
       )
   fault_without types NoMemory h without = (tt, tt)
 
--- ---- nodes that are scalars alone, whose signature has no fault
+-- ---- nodes that are scalars and structs of them, whose signature has no fault
 
 pub nodes_of_types : (ns : List Node) (fixed : Option ℕ) (s : Signature) → IsSignatureOf ns fixed s → SignatureHasNoFault s → AreNodesOfTypes ns
 nodes_of_types ns fixed s is right = (few_nodes ns fixed s is right, faultless_nodes ns fixed s is right)

@@ -6,5 +6,5 @@ pub mod Taking
 pub mod OneType
 pub mod Shallow
 pub mod Few
-pub mod ScalarsAlone
+pub mod FlatTypes
 pub mod ForFormat

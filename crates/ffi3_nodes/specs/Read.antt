@@ -1,11 +1,15 @@
 -- What the reader answers, in the words of the definitions.
-use Rattle.std.specs.Prelude.{◌≡◌, ℕ, ◌^◌, ◌<◌, ◌≤◌, ⊤, false, List, Option, Some, None, length}
+use Rattle.std.specs.List.{AllByRecursion}
+use Rattle.std.specs.Prelude.{◌≡◌, ℕ, ◌^◌, ◌<◌, ◌≤◌, ⊤, false, List, [], ◌∷◌, Option, Some, None, length, take}
 use Rattle.ffi3_type_spec.specs.Signature.{Signature, SignatureHasNoFault, IsFirstSignatureFault, SignatureIsPlaced}
 use Rattle.ffi3_type_spec.specs.Signature.{IsFirstFaultFor, for_places}
 use Rattle.ffi3_format_spec.specs.declared.Format.{Format}
 use Rattle.ffi3_format_spec.specs.Format.{resolved_signature, signature_wants_format}
+use Rattle.ffi3_type_spec.specs.declared.limits.TheConstants.{MOST_ARGUMENTS}
+use Rattle.ffi3_type_spec.specs.declared.Role.{Role}
 use Rattle.ffi3_type_spec.specs.declared.Role.TheVariants.{AsResult}
-use Rattle.ffi3_type_spec.specs.Fault.{IsFirstFault, IsResultType}
+use Rattle.ffi3_type_spec.specs.Layout.{has_long_double}
+use Rattle.ffi3_type_spec.specs.Fault.{HasNoFault, IsArgumentType, IsFirstFault, IsResultType}
 use Rattle.ffi3_types.specs.FaultOf.{path_of, fault_of}
 use Rattle.ffi3_types.specs.SignatureFaultOf.{signature_fault_of}
 use Rattle.ffi3_type_spec.specs.Tree.{Tree}
@@ -146,3 +150,18 @@ pub record Fits (n : Node) (ts : List Tree) : Type 0 where
   pub plain : n.kind < STRUCT → n.count ≡ 0
   pub elements : n.kind ≡ STRUCT → n.count ≤ length ts
   pub element : n.kind ≡ ARRAY → 1 ≤ length ts
+
+-- and these: a type, the nodes that it is, and that it has no fault in such a role, nor a long double of 16 bytes in it;
+pub record IsReadAs (role : Role) (t : Tree) (ns : List Node) : Type 0 where
+  pub written : AreWritten (t ∷ []) ns
+  pub right : HasNoFault 0 role t
+  pub plain : has_long_double t ≡ false
+
+-- the result and so many arguments are read, which the first i nodes are, and none of them has a fault
+pub record AreReadSoFar (ret : Tree) (args : List Tree) (ns : List Node) (i : ℕ) : Type 0 where
+  pub written : AreWritten (ret ∷ args) (take i ns)
+  pub right_result : IsResultType ret
+  pub right : AllByRecursion IsArgumentType args
+  pub plain_result : has_long_double ret ≡ false
+  pub plain : AllByRecursion (λ t. has_long_double t ≡ false) args
+  pub few : length args ≤ MOST_ARGUMENTS

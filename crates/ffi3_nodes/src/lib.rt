@@ -2,6 +2,7 @@
 #![tactic(auto)]
 
 mod build;
+mod flat;
 mod open;
 mod scalars;
 mod scan;

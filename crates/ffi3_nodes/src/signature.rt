@@ -9,7 +9,7 @@ ghost use Rattle.ffi3_nodes.specs.Read.{IsSignatureFor, IsUnread, IsRefusedFor, 
 
 use crate::Node;
 use crate::build::build;
-use crate::scalars::signature_of_scalars;
+use crate::flat::flat_signature;
 use crate::scan::{NodeFault, scan};
 use ffi3_format::{Format, resolve};
 use ffi3_types::{NoMemory, Sig, SigFault, check_placed, check_sig};
@@ -71,7 +71,7 @@ pub fn read_unchecked(alloc: Global, nodes: &[Node], fixed: Option<u32>) -> Resu
     ensures none { IfErr result (λ r. IsOfNone nodes.now r) }
     ensures unplaceable { (format : Format) → IfErr result (λ r. IsUnplaceable format nodes.now fixed r) }
 {
-    match signature_of_scalars(alloc, nodes, fixed) {
+    match flat_signature(alloc, nodes, fixed) {
         Ok(Some(sig)) => return Ok(sig),
         Ok(None) => {}
         Err(_) => return Err(Refused::NoMemory),
@@ -89,7 +89,7 @@ pub fn read_signature(alloc: Global, nodes: &[Node], fixed: Option<u32>) -> Resu
     ensures none { IfErr result (λ r. IsOfNone nodes.now r) }
     ensures uncallable { IfErr result (λ r. IsUncallable nodes.now fixed r) }
 {
-    match signature_of_scalars(alloc, nodes, fixed) {
+    match flat_signature(alloc, nodes, fixed) {
         Ok(Some(sig)) => return Ok(sig),
         Ok(None) => {}
         Err(_) => return Err(Refused::NoMemory),
@@ -116,7 +116,8 @@ fn placed(sig: Sig) -> Result<Sig, Refused>
 }
 
 /// Reads a signature that can be placed, where long doubles have this format: the nodes of the result, and then those of
-/// the arguments; of a variadic function how many arguments are fixed. One of scalars is not looked at again.
+/// the arguments; of a variadic function how many arguments are fixed. One of scalars and of structs of them is not looked
+/// at again.
 pub fn read_signature_for(
     alloc: Global,
     format: Format,
@@ -132,7 +133,7 @@ pub fn read_signature_for(
     ensures unplaceable { IfErr result (λ r. IsUnplaceable format nodes.now fixed r) }
     ensures without { IfErr result (λ r. IsRefusedWithout nodes.now fixed r) }
 {
-    match signature_of_scalars(alloc, nodes, fixed) {
+    match flat_signature(alloc, nodes, fixed) {
         Ok(Some(sig)) => return Ok(sig),
         Ok(None) => {}
         Err(_) => return Err(Refused::NoMemory),

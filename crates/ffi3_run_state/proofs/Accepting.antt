@@ -22,12 +22,12 @@ use Rattle.ffi3_small_step_spec.specs.Remainder.{Remainder}
 use Rattle.ffi3_small_step_spec.specs.SoFar.{Base}
 use Rattle.ffi3_small_step_spec.specs.TracingOf.{IsTracingOf}
 use Rattle.ffi3_small_step_spec.proofs.Coming.{comes_from}
-use Rattle.ffi3_machine.specs.State.{State, after_enter, image_of, stack_at}
-use Rattle.ffi3_closures.specs.Slots.{HoldsMap}
-use Rattle.ffi3_io.specs.Sink.{SinkState}
-use Rattle.ffi3_io.specs.declared.IoError.{IoError}
+use Rattle.ffi3_machine_spec.specs.State.{State, after_enter, image_of, stack_at}
+use Rattle.ffi3_machine_spec.specs.Slots.{HoldsMap}
+use Rattle.ffi3_io_spec.specs.Sink.{SinkState}
+use Rattle.ffi3_io_spec.specs.declared.IoError.{IoError}
 use Rattle.ffi3_io.proofs.Writing.{took_nothing}
-use Rattle.ffi3_body.specs.SeenActivation.{arguments_in}
+use Rattle.ffi3_semantics_spec.specs.SeenActivation.{arguments_in}
 use Rattle.ffi3_machine_transfer.specs.Stored.{WroteWithin, with_journal_of}
 use Rattle.ffi3_callee.specs.declared.Incoming.{Incoming}
 use Rattle.ffi3_callee.specs.Received.{IsIncoming, IsReceived}
@@ -42,7 +42,7 @@ use Rattle.ffi3_run_state.specs.Between.{Beginning, RunState, IsMarkOf, IsBetwee
 use Rattle.ffi3_run_state.specs.Activations.{acting, arguments_at}
 use Rattle.ffi3_run_state.specs.Accepted.{WasInterruptedAtEntry}
 use Rattle.ffi3_run_state.specs.TraceLines.{last_event, entry_lines}
-use Rattle.ffi3_io.specs.Written.{LineInterrupted}
+use Rattle.ffi3_io_spec.specs.Written.{LineInterrupted}
 use Rattle.ffi3_run_state.proofs.Telling.{last_is}
 use Rattle.ffi3_run_state.specs.Served.{ShowsCall, served_leaves, served_tracing, served_activation, served_base, served_beginning, served_left}
 use Rattle.ffi3_run_state.proofs.Opened.{same_then_held}

@@ -8,7 +8,7 @@ use Rattle.ffi3_place_spec.specs.Standard.{Standard, need_of}
 use Rattle.ffi3_semantics_spec.specs.Journal.{Entered}
 use Rattle.ffi3_semantics_spec.specs.Meaning as meaning
 use Rattle.ffi3_small_step_spec.specs.Remainder.{Suspended}
-use Rattle.ffi3_machine.specs.State.{State}
+use Rattle.ffi3_machine_spec.specs.State.{State}
 use Rattle.ffi3_run_state.specs.declared.activation.OpenCall.{OpenCall}
 use Rattle.ffi3_run_state.specs.declared.activation.Activation.{Activation}
 use Rattle.ffi3_run_state.specs.declared.activation.Waiting.{Waiting}

@@ -13,7 +13,7 @@ use Rattle.ffi3_small_step_spec.specs.Remainder.{Remainder, Suspended, Bottom, a
 use Rattle.ffi3_small_step_spec.specs.Open.{open_calls}
 use Rattle.ffi3_small_step_spec.specs.SoFar.{Base, open_at, HasComeTo}
 use Rattle.ffi3_small_step_spec.specs.Path.{Position}
-use Rattle.ffi3_machine.specs.State.{State, stack_at}
+use Rattle.ffi3_machine_spec.specs.State.{State, stack_at}
 use Rattle.ffi3_run_state.specs.declared.activation.OpenCall.{OpenCall}
 use Rattle.ffi3_run_state.specs.Between.{Beginning, RunState, position, IsBetween}
 use Rattle.ffi3_run_state.specs.Outermost.{AreEntriesOf}

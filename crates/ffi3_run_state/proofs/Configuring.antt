@@ -23,12 +23,12 @@ use Rattle.ffi3_semantics_spec.specs.Trace.{TraceItem, Enter, Leave}
 use Rattle.ffi3_small_step_spec.specs.Remainder.{Remainder, Suspended}
 use Rattle.ffi3_small_step_spec.specs.SoFar.{Base, text_after}
 use Rattle.ffi3_small_step_spec.specs.TracingOf.{IsTracingOf}
-use Rattle.ffi3_machine.specs.State.{State, stack_at}
-use Rattle.ffi3_body.specs.SeenActivation.{arguments_in}
-use Rattle.ffi3_io.specs.Sink.{SinkState}
-use Rattle.ffi3_io.specs.Written.{TookText}
-use Rattle.ffi3_io.specs.declared.IoError.{IoError}
-use Rattle.ffi3_io.specs.declared.IoError.TheVariants as cut
+use Rattle.ffi3_machine_spec.specs.State.{State, stack_at}
+use Rattle.ffi3_semantics_spec.specs.SeenActivation.{arguments_in}
+use Rattle.ffi3_io_spec.specs.Sink.{SinkState}
+use Rattle.ffi3_io_spec.specs.Written.{TookText}
+use Rattle.ffi3_io_spec.specs.declared.IoError.{IoError}
+use Rattle.ffi3_io_spec.specs.declared.IoError.TheVariants as cut
 use Rattle.ffi3_callee.specs.declared.Incoming.{Incoming}
 use Rattle.ffi3_invoke.specs.Calls.{HasEnded}
 use Rattle.ffi3_run_state.specs.declared.activation.Activation.{Activation}
@@ -42,7 +42,7 @@ use Rattle.ffi3_run_state.specs.Going.{StoppedBy, GoneOn, HasGoneBack, activatio
 use Rattle.ffi3_run_state.specs.Activations.{acting, arguments_at, call_inside, suspended_at, calls_of}
 use Rattle.ffi3_run_state.specs.TraceLines.{last_event, entry_lines, return_lines}
 use Rattle.ffi3_run_state.specs.Turned.{TurnHasStopped, WasInterruptedAfter, LooksAs, turn_of, WentOn, Turned}
-use Rattle.ffi3_io.specs.Written.{LineInterrupted}
+use Rattle.ffi3_io_spec.specs.Written.{LineInterrupted}
 use Rattle.ffi3_run_state.proofs.Blocks.{AreAbove, blocks_above, acting_kept, suspended_kept}
 use Rattle.ffi3_run_state.proofs.Opened.{StaysFrom}
 use Rattle.ffi3_run_state.proofs.Moving.{cut_after, cut_between, looks_as_itself, limit_ends, limit_failed, limit_is_last, move_is_last, stop_ends, stop_failed}

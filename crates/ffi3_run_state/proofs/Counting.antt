@@ -9,11 +9,11 @@ use Rattle.ffi3_type_spec.specs.Value.{ValueTree}
 use Rattle.ffi3_semantics_spec.specs.Meaning.{End, returned, stopped}
 use Rattle.ffi3_semantics_spec.specs.Trace.{TraceItem, Enter, Line, Leave, StopLine}
 use Rattle.ffi3_small_step_spec.specs.Remainder.{as_main}
-use Rattle.ffi3_machine.specs.Stubs.{Exit, Return}
+use Rattle.ffi3_machine_spec.specs.Stubs.{Exit, Return}
 use Rattle.ffi3_stubs.specs.Calls.{steps_of}
 use Rattle.ffi3_machine_transfer.specs.Passing.{by_exchange, steps_if}
 use Rattle.ffi3_invoke.specs.Calls.{begun_steps, ended_steps}
-use Rattle.ffi3_run_state.specs.CallSteps.{entry_steps, return_steps, call_steps, steps_of_item, steps_in, entries_in, returns_in}
+use Rattle.ffi3_run_spec.specs.CallSteps.{entry_steps, return_steps, call_steps, steps_of_item, steps_in, entries_in, returns_in}
 use Rattle.ffi3_run_state.specs.Counted.{counted, steps_after, count_at_end}
 
 -- ---- item after item

@@ -23,12 +23,12 @@ use Rattle.ffi3_small_step_spec.proofs.Depths.{depth_at-append}
 use Rattle.ffi3_small_step_spec.proofs.Coming.{comes_in, deepest_enter}
 use Rattle.ffi3_small_step_spec.proofs.Ending.{cut_in_entry}
 use Rattle.ffi3_small_step_spec.proofs.Opens.{opens_enter}
-use Rattle.ffi3_machine.specs.State.{State, image_of, stack_at, with_room}
-use Rattle.ffi3_closures.specs.Slots.{HoldsMap}
-use Rattle.ffi3_io.specs.Sink.{SinkState}
-use Rattle.ffi3_io.specs.Written.{TookText}
-use Rattle.ffi3_io.specs.declared.IoError.{IoError}
-use Rattle.ffi3_body.specs.SeenActivation.{arguments_in}
+use Rattle.ffi3_machine_spec.specs.State.{State, image_of, stack_at, with_room}
+use Rattle.ffi3_machine_spec.specs.Slots.{HoldsMap}
+use Rattle.ffi3_io_spec.specs.Sink.{SinkState}
+use Rattle.ffi3_io_spec.specs.Written.{TookText}
+use Rattle.ffi3_io_spec.specs.declared.IoError.{IoError}
+use Rattle.ffi3_semantics_spec.specs.SeenActivation.{arguments_in}
 use Rattle.ffi3_callee.specs.declared.Incoming.{Incoming}
 use Rattle.ffi3_callee.specs.Received.{IsIncoming}
 use Rattle.ffi3_invoke.specs.Calls.{HasBegun, KeepsOpen, Stands}
@@ -40,7 +40,7 @@ use Rattle.ffi3_run_state.specs.Served.{KeepsCallers}
 use Rattle.ffi3_run_state.specs.Stack.{caller_sp, IsOpen, OpenStand, frames}
 use Rattle.ffi3_run_state.specs.TraceLines.{entry_lines}
 use Rattle.ffi3_run_state.specs.Turned.{is_in_line, WasInterruptedAfter}
-use Rattle.ffi3_io.specs.Written.{LineInterrupted}
+use Rattle.ffi3_io_spec.specs.Written.{LineInterrupted}
 use Rattle.ffi3_run_state.proofs.Callers.{callers_kept}
 use Rattle.ffi3_run_state.proofs.Counting.{count_enter}
 use Rattle.ffi3_run_state.proofs.Marks.{mark_enter, fewer, text_then}

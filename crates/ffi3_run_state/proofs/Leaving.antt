@@ -24,11 +24,11 @@ use Rattle.ffi3_small_step_spec.proofs.Depths.{depth_at-append, ends_below}
 use Rattle.ffi3_small_step_spec.proofs.Coming.{comes_back, deepest_same, innermost_entry}
 use Rattle.ffi3_small_step_spec.proofs.Ending.{cut_in_return}
 use Rattle.ffi3_small_step_spec.proofs.Opens.{unreturned_leave}
-use Rattle.ffi3_machine.specs.State.{State, image_of, stack_at}
-use Rattle.ffi3_closures.specs.Slots.{HoldsMap}
-use Rattle.ffi3_io.specs.Sink.{SinkState}
-use Rattle.ffi3_io.specs.Written.{TookText}
-use Rattle.ffi3_io.specs.declared.IoError.{IoError}
+use Rattle.ffi3_machine_spec.specs.State.{State, image_of, stack_at}
+use Rattle.ffi3_machine_spec.specs.Slots.{HoldsMap}
+use Rattle.ffi3_io_spec.specs.Sink.{SinkState}
+use Rattle.ffi3_io_spec.specs.Written.{TookText}
+use Rattle.ffi3_io_spec.specs.declared.IoError.{IoError}
 use Rattle.ffi3_invoke.specs.Calls.{HasEnded}
 use Rattle.ffi3_run_state.specs.declared.activation.OpenCall.{OpenCall}
 use Rattle.ffi3_run_state.specs.Between.{Beginning, RunState, asking, position, text_so_far, depth_below, open_calls_at, IsMarkOf, KeepsFound, IsBetween, IsAsking}
@@ -38,7 +38,7 @@ use Rattle.ffi3_run_state.specs.Stack.{caller_sp, OpenStand, frames, HoldsCalls}
 use Rattle.ffi3_run_state.proofs.Blocks.{AreAbove, blocks_above}
 use Rattle.ffi3_run_state.specs.TraceLines.{return_lines}
 use Rattle.ffi3_run_state.specs.Turned.{is_in_line, WasInterruptedAfter}
-use Rattle.ffi3_io.specs.Written.{LineInterrupted}
+use Rattle.ffi3_io_spec.specs.Written.{LineInterrupted}
 use Rattle.ffi3_run_state.proofs.Callers.{callers_kept}
 use Rattle.ffi3_run_state.proofs.Counting.{count_leave}
 use Rattle.ffi3_run_state.proofs.Marks.{mark_leave, fewer, text_then}

@@ -9,10 +9,10 @@ use Rattle.ffi3_semantics_spec.specs.Move.{Move}
 use Rattle.ffi3_semantics_spec.specs.Trace.{TraceItem}
 use Rattle.ffi3_small_step_spec.specs.Remainder.{Remainder}
 use Rattle.ffi3_small_step_spec.specs.SoFar.{Base}
-use Rattle.ffi3_machine.specs.State.{State, with_code}
-use Rattle.ffi3_closures.specs.Slots.{HoldsMap}
-use Rattle.ffi3_io.specs.Sink.{SinkState}
-use Rattle.ffi3_io.specs.declared.IoError.TheVariants as cut
+use Rattle.ffi3_machine_spec.specs.State.{State, with_code}
+use Rattle.ffi3_machine_spec.specs.Slots.{HoldsMap}
+use Rattle.ffi3_io_spec.specs.Sink.{SinkState}
+use Rattle.ffi3_io_spec.specs.declared.IoError.TheVariants as cut
 use Rattle.ffi3_run_state.specs.declared.activation.Activation.{Activation}
 use Rattle.ffi3_run_state.specs.declared.configuration.Configuration.{Configuration}
 use Rattle.ffi3_run_state.specs.declared.configuration.Turn.{Turn}

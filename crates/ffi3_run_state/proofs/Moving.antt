@@ -21,13 +21,13 @@ use Rattle.ffi3_small_step_spec.proofs.Steps.{paths_follow, rest_at_limit, rest_
 use Rattle.ffi3_small_step_spec.proofs.Depths.{depth_at-append}
 use Rattle.ffi3_small_step_spec.proofs.Coming.{comes_on, comes_by_print, deepest_same}
 use Rattle.ffi3_small_step_spec.proofs.Ending as ending
-use Rattle.ffi3_machine.specs.State.{State, with_code}
-use Rattle.ffi3_closures.specs.Slots.{HoldsMap}
-use Rattle.ffi3_io.specs.Sink.{Adds, Rose, SinkState}
-use Rattle.ffi3_io.specs.Written.{TookText}
-use Rattle.ffi3_io.specs.declared.IoError.TheVariants as cut
+use Rattle.ffi3_machine_spec.specs.State.{State, with_code}
+use Rattle.ffi3_machine_spec.specs.Slots.{HoldsMap}
+use Rattle.ffi3_io_spec.specs.Sink.{Adds, Rose, SinkState}
+use Rattle.ffi3_io_spec.specs.Written.{TookText}
+use Rattle.ffi3_io_spec.specs.declared.IoError.TheVariants as cut
 use Rattle.ffi3_run_state.specs.Known.{AreKnown}
-use Rattle.ffi3_io.specs.Written.{LineFailed}
+use Rattle.ffi3_io_spec.specs.Written.{LineFailed}
 use Rattle.ffi3_run_state.specs.Between.{Beginning, RunState, asking, position, text_so_far, depth_below, open_calls_at, IsBetween, IsAsking}
 use Rattle.ffi3_run_state.specs.Counted.{steps_after, back_at_caller}
 use Rattle.ffi3_run_state.specs.Served.{KeepsCallers}

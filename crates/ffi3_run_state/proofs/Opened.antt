@@ -8,8 +8,8 @@ use Rattle.ffi3_place_spec.specs.Holds.{Own, SameIn}
 use Rattle.ffi3_place_spec.specs.Image.{Image, register}
 use Rattle.ffi3_place_spec.specs.Standard.{Standard, frame_of, need_of, block_bytes}
 use Rattle.ffi3_semantics_spec.specs.Journal.{Entered, needs}
-use Rattle.ffi3_machine.specs.State.{State, image_of, stack_at, with_code, with_room}
-use Rattle.ffi3_body.specs.SeenActivation.{arguments_in}
+use Rattle.ffi3_machine_spec.specs.State.{State, image_of, stack_at, with_code, with_room}
+use Rattle.ffi3_semantics_spec.specs.SeenActivation.{arguments_in}
 use Rattle.ffi3_callee.specs.Received.{IsIncoming}
 use Rattle.ffi3_invoke.specs.Calls.{Stands, IsInCallee, IsCalled, KeepsOpen}
 use Rattle.ffi3_run_state.specs.declared.activation.OpenCall.{OpenCall}

@@ -5,7 +5,7 @@ use Rattle.ffi3_type_spec.specs.Signature.{Signature}
 use Rattle.ffi3_type_spec.specs.Value.{ValueTree}
 use Rattle.ffi3_place_spec.specs.Agrees.{AgreesWithMachine}
 use Rattle.ffi3_place_spec.specs.Standard.{Standard, block_bytes, frame_of, need_of}
-use Rattle.ffi3_machine.specs.State.{State, with_room}
+use Rattle.ffi3_machine_spec.specs.State.{State, with_room}
 use Rattle.ffi3_callee.specs.declared.Incoming.{Incoming}
 use Rattle.ffi3_invoke.specs.Calls.{HasBegun, HasPassed, KeepsReserved}
 use Rattle.ffi3_invoke.proofs.Made.{begun}

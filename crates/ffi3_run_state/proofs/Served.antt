@@ -30,11 +30,11 @@ use Rattle.ffi3_small_step_spec.proofs.Steps.{rest_leaves}
 use Rattle.ffi3_small_step_spec.proofs.Depths.{ends_below}
 use Rattle.ffi3_small_step_spec.proofs.Coming.{deepest_same, open_alone}
 use Rattle.ffi3_small_step_spec.proofs.Ending as ending
-use Rattle.ffi3_machine.specs.State.{State, image_of}
-use Rattle.ffi3_closures.specs.Slots.{HoldsMap}
-use Rattle.ffi3_io.specs.Sink.{SinkState}
-use Rattle.ffi3_io.specs.Written.{TookText}
-use Rattle.ffi3_io.specs.declared.IoError.{IoError}
+use Rattle.ffi3_machine_spec.specs.State.{State, image_of}
+use Rattle.ffi3_machine_spec.specs.Slots.{HoldsMap}
+use Rattle.ffi3_io_spec.specs.Sink.{SinkState}
+use Rattle.ffi3_io_spec.specs.Written.{TookText}
+use Rattle.ffi3_io_spec.specs.declared.IoError.{IoError}
 use Rattle.ffi3_machine_transfer.specs.Stored.{WroteWithin, with_journal_of}
 use Rattle.ffi3_callee.specs.Answered.{IsBesideResult}
 use Rattle.ffi3_callee.specs.Given.{ResultWrites}
@@ -52,7 +52,7 @@ use Rattle.ffi3_run_state.specs.Served.{KeepsFrame, KeepsCallers, HasServed, Has
 use Rattle.ffi3_run_state.specs.Stack.{caller_sp, IsOpen, OpenStand, HoldsCalls}
 use Rattle.ffi3_run_state.specs.TraceLines.{last_event, return_lines}
 use Rattle.ffi3_run_state.specs.Turned.{IsEnded, TurnIsDone, WasInterruptedAfter, is_in_line, last_return}
-use Rattle.ffi3_io.specs.Written.{LineInterrupted}
+use Rattle.ffi3_io_spec.specs.Written.{LineInterrupted}
 use Rattle.ffi3_run_state.proofs.Callers.{byte_of_part}
 use Rattle.ffi3_run_state.proofs.Configuring.{void_is}
 use Rattle.ffi3_run_state.proofs.Counting.{count_served}

@@ -7,9 +7,9 @@ use Rattle.ffi3_semantics_spec.specs.Meaning.{Program}
 use Rattle.ffi3_semantics_spec.specs.Trace.{TraceItem}
 use Rattle.ffi3_small_step_spec.specs.Remainder.{Remainder}
 use Rattle.ffi3_small_step_spec.specs.SoFar.{Base}
-use Rattle.ffi3_machine.specs.State.{State}
-use Rattle.ffi3_io.specs.Sink.{Adds, SinkState}
-use Rattle.ffi3_io.specs.Written.{TookText}
+use Rattle.ffi3_machine_spec.specs.State.{State}
+use Rattle.ffi3_io_spec.specs.Sink.{Adds, SinkState}
+use Rattle.ffi3_io_spec.specs.Written.{TookText}
 use Rattle.ffi3_io.proofs.Adding.{Adds-along, Adds-then}
 use Rattle.ffi3_io.proofs.Writing.{took_as, took_nothing, took_then}
 use Rattle.ffi3_run_state.specs.declared.activation.Activation.{Activation}

@@ -21,20 +21,20 @@ use Rattle.ffi3_small_step_spec.specs.SoFar.{Base, text_after, open_at, HasComeT
 use Rattle.ffi3_small_step_spec.specs.Path.{Position}
 use Rattle.ffi3_small_step_spec.specs.TracingOf.{IsTracingOf}
 use Rattle.ffi3_small_step_spec.proofs.TracedCalls.{enter_lines_are, leave_lines_are}
-use Rattle.ffi3_machine.specs.Recorded.{event_at}
-use Rattle.ffi3_body.specs.SeenActivation.{arguments_in}
+use Rattle.ffi3_machine_spec.specs.Recorded.{event_at}
+use Rattle.ffi3_semantics_spec.specs.SeenActivation.{arguments_in}
 use Rattle.ffi3_body.proofs.Fitting.{arguments_count}
-use Rattle.ffi3_io.specs.Sink.{Adds, AddsSome, Rose, SinkState}
-use Rattle.ffi3_io.specs.Written.{TookText, IsCause}
-use Rattle.ffi3_io.specs.declared.IoError.{IoError}
-use Rattle.ffi3_io.specs.declared.IoError.TheVariants as cut
+use Rattle.ffi3_io_spec.specs.Sink.{Adds, AddsSome, Rose, SinkState}
+use Rattle.ffi3_io_spec.specs.Written.{TookText, IsCause}
+use Rattle.ffi3_io_spec.specs.declared.IoError.{IoError}
+use Rattle.ffi3_io_spec.specs.declared.IoError.TheVariants as cut
 use Rattle.ffi3_io.proofs.Adding.{Adds-then, Adds-along, Adds-none}
 use Rattle.ffi3_text.specs.TraceLines.{enter_text_of, leave_text_of, keep_text_of}
 use Rattle.ffi3_run_state.specs.TraceLines.{last_event, entry_lines, return_lines}
 use Rattle.ffi3_run_state.specs.declared.configuration.Turn.{Turn}
 use Rattle.ffi3_run_state.specs.Going.{StoppedBy}
 use Rattle.ffi3_run_state.specs.Turned.{is_in_line, turn_of}
-use Rattle.ffi3_io.specs.Written.{LineFailed, LineInterrupted, WroteLine}
+use Rattle.ffi3_io_spec.specs.Written.{LineFailed, LineInterrupted, WroteLine}
 
 -- the event that was just recorded
 pub last_is : (events : List Event) (e : Event) → last_event (events ++ e ∷ []) ≡ e

@@ -6,15 +6,15 @@ use Rattle.ffi3_type_spec.specs.Value.{ValueTree}
 use Rattle.ffi3_place_spec.specs.Event.{Event}
 use Rattle.ffi3_place_spec.specs.Standard.{Standard, block_bytes}
 use Rattle.ffi3_semantics_spec.specs.Meaning.{Program}
-use Rattle.ffi3_machine.specs.State.{State, stack_at}
-use Rattle.ffi3_body.specs.SeenActivation.{arguments_in}
-use Rattle.ffi3_io.specs.Sink.{SinkState}
-use Rattle.ffi3_io.specs.declared.IoError.{IoError}
+use Rattle.ffi3_machine_spec.specs.State.{State, stack_at}
+use Rattle.ffi3_semantics_spec.specs.SeenActivation.{arguments_in}
+use Rattle.ffi3_io_spec.specs.Sink.{SinkState}
+use Rattle.ffi3_io_spec.specs.declared.IoError.{IoError}
 use Rattle.ffi3_callee.specs.declared.Incoming.{Incoming}
 use Rattle.ffi3_callee.specs.Received.{IsIncoming}
 use Rattle.ffi3_invoke.specs.Calls.{HasBegun, HasEnded, HasReturned}
 use Rattle.ffi3_run_state.specs.TraceLines.{last_event, entry_lines, return_lines}
-use Rattle.ffi3_io.specs.Written.{LineInterrupted}
+use Rattle.ffi3_io_spec.specs.Written.{LineInterrupted}
 
 -- a signature by its number in the program, where the lists are the same
 pub numbered : (p : Program) (ss : List Signature) (i : ℕ) (s : Signature) → p.signatures ≡ ss → s ≡ signature_at ss i → s ≡ signature_at p.signatures i

@@ -5,17 +5,17 @@ use Rattle.ffi3_type_spec.specs.Value.{ValueTree}
 use Rattle.ffi3_place_spec.specs.Standard.{Standard, frame_of, need_of}
 use Rattle.ffi3_semantics_spec.specs.declared.Closure.{Closure}
 use Rattle.ffi3_semantics_spec.specs.Meaning.{Program}
-use Rattle.ffi3_machine.specs.State.{State, stack_at}
-use Rattle.ffi3_io.specs.Sink.{SinkState}
-use Rattle.ffi3_io.specs.Written.{TookText}
-use Rattle.ffi3_io.specs.declared.IoError.{IoError}
+use Rattle.ffi3_machine_spec.specs.State.{State, stack_at}
+use Rattle.ffi3_io_spec.specs.Sink.{SinkState}
+use Rattle.ffi3_io_spec.specs.Written.{TookText}
+use Rattle.ffi3_io_spec.specs.declared.IoError.{IoError}
 use Rattle.ffi3_invoke.specs.Calls.{entry_at}
 use Rattle.ffi3_run_state.specs.declared.configuration.Configuration.{Configuration}
 use Rattle.ffi3_run_state.specs.Counted.{accepted_steps}
 use Rattle.ffi3_run_state.specs.Served.{served_base, served_beginning, served_left, served_tracing}
 use Rattle.ffi3_run_state.specs.TraceLines.{entry_lines}
 use Rattle.ffi3_run_state.specs.Turned.{StandsAt}
-use Rattle.ffi3_io.specs.Written.{LineInterrupted}
+use Rattle.ffi3_io_spec.specs.Written.{LineInterrupted}
 
 -- THE SERVED CALL WAS INTERRUPTED AT ITS ENTRY, in its lines or, for want of memory, before them: the entry is in the journal and its steps are counted, no byte was written below what the call needs, none from the entry's sp on, and nothing else happened.
 pub record WasInterruptedAtEntry (std : Standard) (s : Signature) (arguments : List ValueTree) (trace : Bool)

@@ -8,8 +8,8 @@ use Rattle.ffi3_place_spec.specs.Standard.{block_bytes}
 use Rattle.ffi3_semantics_spec.specs.Meaning as meaning
 use Rattle.ffi3_semantics_spec.specs.Meaning.{main, function, stack_size}
 use Rattle.ffi3_small_step_spec.specs.Remainder.{Suspended}
-use Rattle.ffi3_machine.specs.State.{State, stack_at}
-use Rattle.ffi3_body.specs.SeenActivation.{arguments_in}
+use Rattle.ffi3_machine_spec.specs.State.{State, stack_at}
+use Rattle.ffi3_semantics_spec.specs.SeenActivation.{arguments_in}
 use Rattle.ffi3_run_state.specs.declared.activation.Who.{Who}
 use Rattle.ffi3_run_state.specs.declared.activation.Who.TheVariants.{Main, Function}
 use Rattle.ffi3_run_state.specs.declared.activation.OpenCall.{OpenCall}

@@ -17,10 +17,10 @@ use Rattle.ffi3_small_step_spec.specs.Depth.{deepest}
 use Rattle.ffi3_small_step_spec.specs.Nested.{depth_at, depth_of}
 use Rattle.ffi3_small_step_spec.specs.SoFar.{Base, text_start, open_at, HasComeTo}
 use Rattle.ffi3_small_step_spec.specs.Path.{Position}
-use Rattle.ffi3_machine.specs.State.{State, stack_at}
-use Rattle.ffi3_closures.specs.Slots.{HoldsMap}
-use Rattle.ffi3_io.specs.Sink.{SinkState}
-use Rattle.ffi3_io.specs.Written.{TookText}
+use Rattle.ffi3_machine_spec.specs.State.{State, stack_at}
+use Rattle.ffi3_machine_spec.specs.Slots.{HoldsMap}
+use Rattle.ffi3_io_spec.specs.Sink.{SinkState}
+use Rattle.ffi3_io_spec.specs.Written.{TookText}
 use Rattle.ffi3_run_state.specs.declared.activation.OpenCall.{OpenCall}
 use Rattle.ffi3_run_state.specs.declared.activation.Activation.{Activation}
 use Rattle.ffi3_run_state.specs.declared.activation.Waiting.{Waiting}

@@ -5,7 +5,7 @@ use Rattle.ffi3_type_spec.specs.TargetIsa.{isa_of}
 use Rattle.ffi3_semantics_spec.specs.Meaning.{End, returned, stopped}
 use Rattle.ffi3_semantics_spec.specs.Trace.{TraceItem, Enter, Line, Leave, StopLine}
 use Rattle.ffi3_small_step_spec.specs.Remainder.{Bottom, as_main, served}
-use Rattle.ffi3_machine.specs.Stubs.{Entry, Return}
+use Rattle.ffi3_machine_spec.specs.Stubs.{Entry, Return}
 use Rattle.ffi3_stubs.specs.Calls.{steps_of}
 use Rattle.ffi3_machine_transfer.specs.Passing.{by_exchange, steps_if}
 use Rattle.ffi3_invoke.specs.Calls.{begun_steps, ended_steps}

@@ -5,8 +5,8 @@ use Rattle.ffi3_type_spec.specs.Value.{ValueTree}
 use Rattle.ffi3_semantics_spec.specs.declared.Closure.{Closure}
 use Rattle.ffi3_semantics_spec.specs.declared.Stop.{Stop}
 use Rattle.ffi3_semantics_spec.specs.Lines.{a_line, stop_text}
-use Rattle.ffi3_io.specs.Sink.{SinkState}
-use Rattle.ffi3_io.specs.Written.{TookText}
+use Rattle.ffi3_io_spec.specs.Sink.{SinkState}
+use Rattle.ffi3_io_spec.specs.Written.{TookText}
 use Rattle.ffi3_run_state.specs.declared.activation.OpenCall.{OpenCall}
 use Rattle.ffi3_run_state.specs.declared.activation.Activation.{Activation}
 use Rattle.ffi3_run_state.specs.declared.activation.Waiting.{Waiting}
@@ -14,7 +14,7 @@ use Rattle.ffi3_run_state.specs.declared.activation.Who.TheVariants.{Function}
 use Rattle.ffi3_run_state.specs.declared.configuration.Configuration.{Configuration}
 use Rattle.ffi3_run_state.specs.declared.configuration.Turn.{Turn}
 use Rattle.ffi3_run_state.specs.declared.configuration.Turn.TheVariants.{More, Done, Stopped, NoMemory, Failed}
-use Rattle.ffi3_io.specs.Written.{LineFailed}
+use Rattle.ffi3_io_spec.specs.Written.{LineFailed}
 
 -- the line of a stop was written, or why not
 abbrev pub StoppedBy : List Signature → Stop → SinkState → SinkState → Turn → Type 0

@@ -9,7 +9,7 @@ use Rattle.ffi3_semantics_spec.specs.declared.Stop.{Stop}
 use Rattle.ffi3_semantics_spec.specs.Closures.{Closures, closure_at}
 use Rattle.ffi3_semantics_spec.specs.Meaning.{Program, Activation, enters, stops, effect_of, callee_of, function_at}
 use Rattle.ffi3_semantics_spec.specs.Move.{call}
-use Rattle.ffi3_machine.specs.State.{IsSlot}
+use Rattle.ffi3_machine_spec.specs.State.{IsSlot}
 
 -- a closure's numbers lie in their lists, and its signature is its function's
 pub record IsKnown (p : Program) (c : Closure) : Type 0 where

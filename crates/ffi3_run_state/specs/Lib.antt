@@ -6,7 +6,6 @@ pub mod Stack
 pub mod Going
 pub mod Passed
 pub mod Outermost
-pub mod CallSteps
 pub mod Counted
 pub mod Between
 pub mod Served

@@ -4,7 +4,7 @@ use Rattle.ffi3_type_spec.specs.declared.limits.TheConstants.{STACK, STACK_BYTES
 use Rattle.ffi3_type_spec.specs.Signature.{Signature}
 use Rattle.ffi3_type_spec.specs.Value.{ValueTree}
 use Rattle.ffi3_place_spec.specs.Standard.{Standard, frame_of, need_of}
-use Rattle.ffi3_machine.specs.State.{State, with_room}
+use Rattle.ffi3_machine_spec.specs.State.{State, with_room}
 use Rattle.ffi3_invoke.specs.Calls.{HasPassed}
 
 -- THE CALL IS PASSED: the stack had room for its need, room was made in the journal for its entry and its return, and the machine is at the entry of the closure at this pointer, and shows the arguments. (System V psABI AMD64 3.2; Arm AAPCS64 6; RISC-V ELF psABI, "Integer Calling Convention")

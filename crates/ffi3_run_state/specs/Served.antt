@@ -17,8 +17,8 @@ use Rattle.ffi3_semantics_spec.specs.Meaning as meaning
 use Rattle.ffi3_semantics_spec.specs.Meaning.{Program, function, most_moves}
 use Rattle.ffi3_small_step_spec.specs.Remainder.{Remainder, Bottom, as_main, served, rest, alone}
 use Rattle.ffi3_small_step_spec.specs.SoFar.{Base}
-use Rattle.ffi3_machine.specs.State.{State, HasReturnAddress}
-use Rattle.ffi3_io.specs.Sink.{SinkState}
+use Rattle.ffi3_machine_spec.specs.State.{State, HasReturnAddress}
+use Rattle.ffi3_io_spec.specs.Sink.{SinkState}
 use Rattle.ffi3_callee.specs.Answered.{IsBesideResult}
 use Rattle.ffi3_callee.specs.Received.{OwnsAtEntry}
 use Rattle.ffi3_invoke.specs.Calls.{entry_at, return_at}

@@ -7,7 +7,7 @@ use Rattle.ffi3_place_spec.specs.Holds.{Own}
 use Rattle.ffi3_place_spec.specs.Image.{register}
 use Rattle.ffi3_place_spec.specs.Standard.{Standard, frame_of}
 use Rattle.ffi3_semantics_spec.specs.Journal.{Entered}
-use Rattle.ffi3_machine.specs.State.{State, image_of, stack_at}
+use Rattle.ffi3_machine_spec.specs.State.{State, image_of, stack_at}
 use Rattle.ffi3_callee.specs.Received.{IsIncoming}
 use Rattle.ffi3_invoke.specs.Calls.{Stands}
 use Rattle.ffi3_run_state.specs.declared.activation.OpenCall.{OpenCall}

@@ -4,7 +4,7 @@ use Rattle.ffi3_type_spec.specs.Signature.{Signature}
 use Rattle.ffi3_type_spec.specs.Value.{ValueTree}
 use Rattle.ffi3_place_spec.specs.Event.{Event}
 use Rattle.ffi3_place_spec.specs.Standard.{Standard}
-use Rattle.ffi3_machine.specs.Recorded.{event_at}
+use Rattle.ffi3_machine_spec.specs.Recorded.{event_at}
 use Rattle.ffi3_text.specs.TraceLines.{enter_text_of, leave_text_of, keep_text_of}
 
 -- the event that was recorded last

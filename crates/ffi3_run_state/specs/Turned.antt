@@ -15,12 +15,12 @@ use Rattle.ffi3_small_step_spec.specs.Remainder.{Remainder, Bottom, as_main, ser
 use Rattle.ffi3_small_step_spec.specs.Left.{IsLeft, in_a_move}
 use Rattle.ffi3_small_step_spec.specs.Depth.{deepest}
 use Rattle.ffi3_small_step_spec.specs.SoFar.{Base, left_at_position, IsOver, IsInterrupted}
-use Rattle.ffi3_machine.specs.State.{State, image_of}
-use Rattle.ffi3_closures.specs.Slots.{HoldsMap}
-use Rattle.ffi3_io.specs.Sink.{Adds, SinkState}
-use Rattle.ffi3_io.specs.Written.{TookText, IsCause}
-use Rattle.ffi3_io.specs.declared.IoError.{IoError}
-use Rattle.ffi3_io.specs.declared.IoError.TheVariants as cut
+use Rattle.ffi3_machine_spec.specs.State.{State, image_of}
+use Rattle.ffi3_machine_spec.specs.Slots.{HoldsMap}
+use Rattle.ffi3_io_spec.specs.Sink.{Adds, SinkState}
+use Rattle.ffi3_io_spec.specs.Written.{TookText, IsCause}
+use Rattle.ffi3_io_spec.specs.declared.IoError.{IoError}
+use Rattle.ffi3_io_spec.specs.declared.IoError.TheVariants as cut
 use Rattle.ffi3_run_state.specs.declared.activation.Activation.{Activation}
 use Rattle.ffi3_run_state.specs.declared.configuration.Configuration.{Configuration}
 use Rattle.ffi3_run_state.specs.declared.configuration.Turn.{Turn}

@@ -15,9 +15,9 @@ ghost use Rattle.ffi3_semantics_spec.specs.Trace.{TraceItem};
 ghost use Rattle.ffi3_small_step_spec.specs.Remainder.{Remainder};
 ghost use Rattle.ffi3_small_step_spec.specs.SoFar.{Base};
 ghost use Rattle.ffi3_small_step_spec.specs.TracingOf.{IsTracingOf};
-ghost use Rattle.ffi3_io.specs.Sink.{SinkState};
-ghost use Rattle.ffi3_machine.specs.State.{State, stack_at};
-ghost use Rattle.ffi3_closures.specs.Slots.{HoldsMap};
+ghost use Rattle.ffi3_io_spec.specs.Sink.{SinkState};
+ghost use Rattle.ffi3_machine_spec.specs.State.{State, stack_at};
+ghost use Rattle.ffi3_machine_spec.specs.Slots.{HoldsMap};
 ghost use Rattle.ffi3_callee.specs.Received.{IsIncoming};
 ghost use Rattle.ffi3_invoke.specs.Calls.{HasEnded, IsCalled};
 ghost use Rattle.ffi3_run_state.specs.Between.{Beginning, IsAsking, run_state};
@@ -119,8 +119,7 @@ impl<S: Drop> Configuration<S> {
             IsAsking p base all first own events (run_state p.signatures current self.old machine.old output) (asks.call ptr sig args.now) →
             Turned p base all first own (suc self.old.moves) self.new machine.new output Turn.NoMemory) }
     {
-        // its contract tells what is true of every machine
-        let _sp = machine.sp();
+        machine.facts();
         let cif = cifs.get(sig);
         let Ok(()) = self.suspended.reserve(1) else {
             return Err(AllocError);

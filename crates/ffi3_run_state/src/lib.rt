@@ -1,6 +1,5 @@
-//! What a run keeps between two moves, and what each kind of move does to it, to the machine and
-//! to the output: of any nesting of calls, by any calling standard. Which move is next is not
-//! known here.
+//! The state of a run between two moves, and what each kind of move does to it, to the machine and to the output: of any
+//! nesting of calls, by any calling standard. Which move is next is not known here.
 #![tactic(auto)]
 
 mod activation;

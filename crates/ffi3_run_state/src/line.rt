@@ -9,7 +9,7 @@ ghost use Rattle.ffi3_types.specs.TreeOf.{tree_of};
 ghost use Rattle.ffi3_values.specs.ValueOf.{value_of};
 ghost use Rattle.ffi3_semantics_spec.specs.Lines.{a_line, address_text, stop_text};
 ghost use Rattle.ffi3_run_state.specs.StopSigs.{IsOfSigs};
-ghost use Rattle.ffi3_io.specs.Written.{WroteLine};
+ghost use Rattle.ffi3_io_spec.specs.Written.{WroteLine};
 
 use crate::Cifs;
 use ffi3_io::{IoError, Sink, write_line};

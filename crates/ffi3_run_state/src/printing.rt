@@ -9,7 +9,7 @@ ghost use Rattle.ffi3_semantics_spec.specs.Move as asks;
 ghost use Rattle.ffi3_semantics_spec.specs.Trace.{TraceItem};
 ghost use Rattle.ffi3_small_step_spec.specs.Remainder.{Remainder};
 ghost use Rattle.ffi3_small_step_spec.specs.SoFar.{Base};
-ghost use Rattle.ffi3_machine.specs.State.{State};
+ghost use Rattle.ffi3_machine_spec.specs.State.{State};
 ghost use Rattle.ffi3_run_state.specs.Between.{Beginning, IsAsking, run_state};
 ghost use Rattle.ffi3_run_state.specs.Going.{and_result};
 ghost use Rattle.ffi3_run_state.specs.Turned.{KeepsClosures, Turned};

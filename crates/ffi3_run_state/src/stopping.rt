@@ -6,7 +6,7 @@ ghost use Rattle.ffi3_semantics_spec.specs.Move.{Move};
 ghost use Rattle.ffi3_semantics_spec.specs.Trace.{TraceItem};
 ghost use Rattle.ffi3_small_step_spec.specs.Remainder.{Remainder};
 ghost use Rattle.ffi3_small_step_spec.specs.SoFar.{Base};
-ghost use Rattle.ffi3_machine.specs.State.{State};
+ghost use Rattle.ffi3_machine_spec.specs.State.{State};
 ghost use Rattle.ffi3_run_state.specs.Between.{Beginning, IsAsking, IsBetween, run_state};
 ghost use Rattle.ffi3_run_state.specs.Going.{StoppedBy};
 ghost use Rattle.ffi3_run_state.specs.StopSigs.{IsOfSigs};

@@ -6,11 +6,11 @@ ghost use Rattle.ffi3_type_spec.specs.Value.{all_fit, fits, values_of};
 ghost use Rattle.ffi3_values.specs.ValueOf.{value_of};
 ghost use Rattle.ffi3_place_spec.specs.Standard.{block_bytes};
 ghost use Rattle.ffi3_machine.specs.Entries.{event_of};
-ghost use Rattle.ffi3_machine.specs.State.{stack_at};
-ghost use Rattle.ffi3_body.specs.SeenActivation.{arguments_in, arguments_of};
+ghost use Rattle.ffi3_machine_spec.specs.State.{stack_at};
+ghost use Rattle.ffi3_semantics_spec.specs.SeenActivation.{arguments_in, arguments_of};
 ghost use Rattle.ffi3_text.specs.TraceLines.{keep_text_of};
 ghost use Rattle.ffi3_run_state.specs.TraceLines.{entry_lines, last_event, return_lines};
-ghost use Rattle.ffi3_io.specs.Written.{WroteLine};
+ghost use Rattle.ffi3_io_spec.specs.Written.{WroteLine};
 
 use ffi3_body::Seen;
 use ffi3_cif::Cif;

@@ -5,9 +5,9 @@ use Rattle.ffi3_type_spec.specs.Signature.{Signature, signature_at}
 use Rattle.ffi3_type_spec.specs.Value.{ValueTree, fits}
 use Rattle.ffi3_semantics_spec.specs.declared.Closure.{Closure}
 use Rattle.ffi3_semantics_spec.specs.Meaning.{function}
-use Rattle.ffi3_machine.specs.State.{State}
+use Rattle.ffi3_machine_spec.specs.State.{State}
 use Rattle.ffi3_script_spec.specs.Natives.{NamedNative}
-use Rattle.ffi3_body.specs.SeenActivation.{SeenActivation}
+use Rattle.ffi3_semantics_spec.specs.SeenActivation.{SeenActivation}
 use Rattle.ffi3_script.specs.declared.script.Script.{Script}
 use Rattle.ffi3_next_move.specs.Stands as ask
 use Rattle.ffi3_next_move.specs.Stands.{StandingAgrees}

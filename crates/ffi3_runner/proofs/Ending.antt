@@ -19,22 +19,22 @@ use Rattle.ffi3_small_step_spec.specs.Remainder.{remainder_of}
 use Rattle.ffi3_small_step_spec.specs.MainTracing.{main_tracing}
 use Rattle.ffi3_small_step_spec.specs.SoFar.{main_base}
 use Rattle.ffi3_small_step_spec.proofs.Coming.{main_is_over, main_was_cut}
-use Rattle.ffi3_machine.specs.State.{State}
-use Rattle.ffi3_closures.specs.Slots.{HoldsMap}
-use Rattle.ffi3_io.specs.Sink.{Rose, SinkState}
-use Rattle.ffi3_io.specs.declared.IoError.{IoError}
-use Rattle.ffi3_io.specs.declared.IoError.TheVariants as cut
+use Rattle.ffi3_machine_spec.specs.State.{State}
+use Rattle.ffi3_machine_spec.specs.Slots.{HoldsMap}
+use Rattle.ffi3_io_spec.specs.Sink.{Rose, SinkState}
+use Rattle.ffi3_io_spec.specs.declared.IoError.{IoError}
+use Rattle.ffi3_io_spec.specs.declared.IoError.TheVariants as cut
 use Rattle.ffi3_io.proofs.Adding.{Adds-along}
 use Rattle.ffi3_io.proofs.Writing.{whole_part}
 use Rattle.ffi3_next_move.specs.declared.standing.Standing.{Standing}
 use Rattle.ffi3_run_state.specs.declared.configuration.Configuration.{Configuration}
-use Rattle.ffi3_run_state.specs.CallSteps.{call_steps, steps_in, returns_in}
+use Rattle.ffi3_run_spec.specs.CallSteps.{call_steps, steps_in, returns_in}
 use Rattle.ffi3_run_state.specs.Counted.{steps_after}
 use Rattle.ffi3_run_state.specs.Turned.{IsEnded, WasInterrupted, is_in_line}
 use Rattle.ffi3_run_state.proofs.Counting.{counts_from_none, main_counts, whole_calls}
 use Rattle.ffi3_runner.specs.Ran.{Ran}
-use Rattle.ffi3_runner.specs.RunInterrupted.{RunWasInterrupted}
-use Rattle.ffi3_runner.specs.RunMatches.{RunMatches, WrotePart}
+use Rattle.ffi3_run_spec.specs.RunInterrupted.{RunWasInterrupted}
+use Rattle.ffi3_run_spec.specs.RunMatches.{RunMatches, WrotePart}
 use Rattle.ffi3_runner.specs.declared.run.RunEnd.{RunEnd}
 use Rattle.ffi3_runner.specs.declared.run.RunEnd.TheVariants as run
 use Rattle.ffi3_runner.specs.Started.{main_beginning, MainHasReturned, MainHasStopped}

@@ -6,7 +6,7 @@ use Rattle.ffi3_type_spec.specs.Signature.{Signature, signature_at}
 use Rattle.ffi3_place_spec.specs.declared.Loc.{Loc}
 use Rattle.ffi3_place_spec.specs.Standard.{Standard, block_bytes, frame_of}
 use Rattle.ffi3_semantics_spec.specs.Journal.{Entered}
-use Rattle.ffi3_machine.specs.State.{State, stack_at}
+use Rattle.ffi3_machine_spec.specs.State.{State, stack_at}
 use Rattle.ffi3_callee.specs.declared.Incoming.{Incoming}
 use Rattle.ffi3_callee.specs.Received.{IsIncoming}
 use Rattle.ffi3_next_move.specs.declared.standing.Standing.{Standing}

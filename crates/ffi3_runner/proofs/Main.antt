@@ -14,9 +14,9 @@ use Rattle.ffi3_small_step_spec.specs.MainTracing.{main_tracing}
 use Rattle.ffi3_small_step_spec.specs.SoFar.{Base, main_base}
 use Rattle.ffi3_small_step_spec.specs.TracingOf.{IsTracingOf}
 use Rattle.ffi3_small_step_spec.proofs.TracedCalls.{main_is_traced}
-use Rattle.ffi3_machine.specs.State.{State, begun}
-use Rattle.ffi3_io.specs.Sink.{SinkState}
-use Rattle.ffi3_body.specs.SeenActivation.{SeenActivation}
+use Rattle.ffi3_machine_spec.specs.State.{State, begun}
+use Rattle.ffi3_io_spec.specs.Sink.{SinkState}
+use Rattle.ffi3_semantics_spec.specs.SeenActivation.{SeenActivation}
 use Rattle.ffi3_script_spec.specs.Natives.{NamedNative}
 use Rattle.ffi3_script.specs.declared.script.Script.{Script}
 use Rattle.ffi3_next_move.specs.Stands as ask

@@ -8,7 +8,7 @@ use Rattle.ffi3_place_spec.specs.Standard.{Standard, need_of}
 use Rattle.ffi3_semantics_spec.specs.Meaning.{Program, Who, function_at}
 use Rattle.ffi3_body.specs.declared.Move.{Move}
 use Rattle.ffi3_body.specs.MoveOf.{move_of}
-use Rattle.ffi3_body.specs.SeenActivation.{SeenActivation}
+use Rattle.ffi3_semantics_spec.specs.SeenActivation.{SeenActivation}
 use Rattle.ffi3_script_spec.specs.Natives.{NamedNative}
 use Rattle.ffi3_script.specs.ScriptOf.{script_of}
 use Rattle.ffi3_script.specs.declared.script.Script.{Script}
@@ -28,7 +28,7 @@ use Rattle.ffi3_small_step_spec.specs.Remainder.{Remainder}
 use Rattle.ffi3_small_step_spec.specs.SoFar.{Base}
 use Rattle.ffi3_run_state.specs.Between.{Beginning, RunState, IsAsking}
 use Rattle.ffi3_run_state.specs.Known.{LeadsTo}
-use Rattle.ffi3_next_move.specs.Handed.{signatures_in}
+use Rattle.ffi3_script_spec.specs.Handed.{signatures_in}
 use Rattle.ffi3_runner.specs.Running.{program, IsPrepared}
 use Rattle.ffi3_runner.proofs.Turning.{count_of_functions}
 

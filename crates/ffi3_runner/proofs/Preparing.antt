@@ -6,7 +6,7 @@ use Rattle.ffi3_place_spec.specs.Standard.{Standard}
 use Rattle.ffi3_script_spec.specs.Natives.{NamedNative}
 use Rattle.ffi3_script.specs.ScriptOf.{natives_of}
 use Rattle.ffi3_script.specs.declared.script.Script.{Script}
-use Rattle.ffi3_next_move.specs.Handed.{signatures_in}
+use Rattle.ffi3_script_spec.specs.Handed.{signatures_in}
 use Rattle.ffi3_runner.specs.Running.{IsPrepared, program}
 
 pub mapped_length : {A B : Type 0} (f : A → B) (xs : List A) → length xs ≡ length (map f xs)

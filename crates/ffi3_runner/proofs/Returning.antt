@@ -6,7 +6,7 @@ use Rattle.ffi3_type_spec.specs.Value.{ValueTree, void_value}
 use Rattle.ffi3_semantics_spec.specs.Closures.{Closures, no_closures}
 use Rattle.ffi3_semantics_spec.specs.Meaning.{Program, Activation, Acts, Effect, ends, stops, prints, goes_on, enters, End, returned, stopped, Outcome, follows, resumed, with_result, effect_of, next_move, act, act_within, main_call, most_moves, meaning_of}
 use Rattle.ffi3_semantics_spec.specs.Trace.{TraceItem, Enter, Line, Leave, StopLine, written_out, trace_of}
-use Rattle.ffi3_run_state.specs.CallSteps.{entries_in, returns_in}
+use Rattle.ffi3_run_spec.specs.CallSteps.{entries_in, returns_in}
 
 -- ---- one trace after another
 

@@ -10,8 +10,8 @@ use Rattle.ffi3_semantics_spec.specs.Move.{call}
 use Rattle.ffi3_semantics_spec.specs.Trace.{TraceItem}
 use Rattle.ffi3_small_step_spec.specs.Remainder.{Remainder}
 use Rattle.ffi3_small_step_spec.specs.SoFar.{Base}
-use Rattle.ffi3_machine.specs.State.{State}
-use Rattle.ffi3_io.specs.Sink.{SinkState}
+use Rattle.ffi3_machine_spec.specs.State.{State}
+use Rattle.ffi3_io_spec.specs.Sink.{SinkState}
 use Rattle.ffi3_next_move.specs.declared.standing.Standing.{Standing}
 use Rattle.ffi3_invoke.specs.Calls.{entered_closure}
 use Rattle.ffi3_run_state.specs.declared.activation.Activation.{Activation}

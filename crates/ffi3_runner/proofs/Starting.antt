@@ -15,9 +15,9 @@ use Rattle.ffi3_semantics_spec.specs.Meaning.{Program, meaning_of, main_call, mo
 use Rattle.ffi3_small_step_spec.specs.Remainder.{remainder_of}
 use Rattle.ffi3_small_step_spec.specs.SoFar.{main_base}
 use Rattle.ffi3_small_step_spec.proofs.Coming.{comes_from}
-use Rattle.ffi3_machine.specs.State.{State, begun, begun_code, begun_general, image_of, scribbled_general}
-use Rattle.ffi3_closures.specs.Slots.{HoldsMap}
-use Rattle.ffi3_io.specs.Sink.{SinkState}
+use Rattle.ffi3_machine_spec.specs.State.{State, begun, begun_code, begun_general, image_of, scribbled_general}
+use Rattle.ffi3_machine_spec.specs.Slots.{HoldsMap}
+use Rattle.ffi3_io_spec.specs.Sink.{SinkState}
 use Rattle.ffi3_io.proofs.Writing.{took_nothing}
 use Rattle.ffi3_next_move.specs.declared.standing.Standing.{Standing}
 use Rattle.ffi3_run_state.specs.declared.activation.Activation.{Activation}

@@ -8,14 +8,14 @@ use Rattle.ffi3_place_spec.specs.Standard.{Standard}
 use Rattle.ffi3_semantics_spec.specs.Meaning as meaning
 use Rattle.ffi3_semantics_spec.specs.Meaning.{Program, Native, behaviour_of, functions_from, most_moves, next_move, function_of}
 use Rattle.ffi3_semantics_spec.specs.Move.{Move, MoveFits, result_type_of}
-use Rattle.ffi3_body.specs.Follow.{IsOfType}
+use Rattle.ffi3_semantics_spec.specs.Follow.{IsOfType}
 use Rattle.ffi3_next_move.specs.Asked.{IsAsked}
 use Rattle.ffi3_semantics_spec.specs.Trace.{TraceItem}
 use Rattle.ffi3_small_step_spec.specs.Remainder.{Remainder}
 use Rattle.ffi3_small_step_spec.specs.SoFar.{Base}
-use Rattle.ffi3_machine.specs.State.{State}
-use Rattle.ffi3_io.specs.Sink.{SinkState}
-use Rattle.ffi3_body.specs.SeenActivation.{SeenActivation, arguments_of}
+use Rattle.ffi3_machine_spec.specs.State.{State}
+use Rattle.ffi3_io_spec.specs.Sink.{SinkState}
+use Rattle.ffi3_semantics_spec.specs.SeenActivation.{SeenActivation, arguments_of}
 use Rattle.ffi3_script_spec.specs.Meaning as rules
 use Rattle.ffi3_script_spec.specs.Natives.{NamedNative}
 use Rattle.ffi3_script.specs.ScriptOf.{script_of}

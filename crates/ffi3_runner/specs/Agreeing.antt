@@ -5,8 +5,8 @@ use Rattle.ffi3_type_spec.specs.Value.{ValueTree, fits}
 use Rattle.ffi3_place_spec.specs.Standard.{block_bytes}
 use Rattle.ffi3_semantics_spec.specs.Move.{no_signature}
 use Rattle.ffi3_script_spec.specs.Natives.{NamedNative}
-use Rattle.ffi3_machine.specs.State.{State, stack_at}
-use Rattle.ffi3_body.specs.SeenActivation.{SeenActivation}
+use Rattle.ffi3_machine_spec.specs.State.{State, stack_at}
+use Rattle.ffi3_semantics_spec.specs.SeenActivation.{SeenActivation}
 use Rattle.ffi3_script_body.specs.Agrees.{one_more}
 use Rattle.ffi3_script.specs.declared.script.Script.{Script}
 use Rattle.ffi3_next_move.specs.Stands as ask

@@ -1,7 +1,5 @@
 pub mod Agreeing
 pub mod Running
-pub mod RunMatches
-pub mod RunInterrupted
 pub mod Ran
 pub mod Ready
 pub mod Started

@@ -8,7 +8,7 @@ use Rattle.ffi3_semantics_spec.specs.Trace.{TraceItem}
 use Rattle.ffi3_small_step_spec.specs.Remainder.{Remainder}
 use Rattle.ffi3_small_step_spec.specs.SoFar.{Base}
 use Rattle.ffi3_small_step_spec.specs.TracingOf.{IsTracingOf}
-use Rattle.ffi3_machine.specs.State.{State}
+use Rattle.ffi3_machine_spec.specs.State.{State}
 use Rattle.ffi3_next_move.specs.declared.standing.Standing.{Standing}
 use Rattle.ffi3_run_state.specs.declared.configuration.Configuration.{Configuration}
 use Rattle.ffi3_run_state.specs.declared.configuration.Turn.{Turn}

@@ -3,15 +3,15 @@ use Rattle.std.specs.Prelude.{◌≡◌, ◌^◌, ◌<◌, ◌≤◌, List, [], 
 use Rattle.ffi3_type_spec.specs.declared.Target.{Target}
 use Rattle.ffi3_type_spec.specs.TargetIsa.{isa_of}
 use Rattle.ffi3_type_spec.specs.Signature.{Signature}
-use Rattle.ffi3_machine.specs.State.{begun_code}
-use Rattle.ffi3_closures.specs.Slots.{HoldsMap}
+use Rattle.ffi3_machine_spec.specs.State.{begun_code}
+use Rattle.ffi3_machine_spec.specs.Slots.{HoldsMap}
 use Rattle.ffi3_place_spec.specs.Standard.{Standard}
 use Rattle.ffi3_script_spec.specs.Natives.{NamedNative, program_beside}
 use Rattle.ffi3_script.specs.ScriptOf.{script_of, natives_of}
 use Rattle.ffi3_script.specs.declared.script.Script.{Script}
 use Rattle.ffi3_semantics_spec.specs.Closures.{no_closures}
 use Rattle.ffi3_semantics_spec.specs.Meaning.{Program, most_moves}
-use Rattle.ffi3_next_move.specs.Handed.{signatures_in}
+use Rattle.ffi3_script_spec.specs.Handed.{signatures_in}
 use Rattle.ffi3_next_move.specs.declared.standing.Standing.{Standing}
 use Rattle.ffi3_run_state.specs.declared.configuration.Configuration.{Configuration}
 

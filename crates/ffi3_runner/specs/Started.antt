@@ -4,8 +4,8 @@ use Rattle.ffi3_type_spec.specs.declared.limits.TheConstants.{STACK_TOP}
 use Rattle.ffi3_place_spec.specs.Standard.{Standard}
 use Rattle.ffi3_semantics_spec.specs.Meaning.{Program, meaning_of}
 use Rattle.ffi3_small_step_spec.specs.MainTracing.{main_tracing}
-use Rattle.ffi3_machine.specs.State.{State, begun_stack}
-use Rattle.ffi3_io.specs.Sink.{SinkState}
+use Rattle.ffi3_machine_spec.specs.State.{State, begun_stack}
+use Rattle.ffi3_io_spec.specs.Sink.{SinkState}
 use Rattle.ffi3_next_move.specs.declared.standing.Standing.{Standing}
 use Rattle.ffi3_run_state.specs.declared.configuration.Configuration.{Configuration}
 use Rattle.ffi3_run_state.specs.Between.{Beginning}

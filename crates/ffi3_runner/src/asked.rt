@@ -6,7 +6,7 @@ ghost use Rattle.ffi3_place_spec.specs.Standard.{Standard, block_bytes};
 ghost use Rattle.ffi3_script.specs.ScriptOf.{natives_of};
 ghost use Rattle.ffi3_body.specs.MoveOf.{move_of};
 ghost use Rattle.ffi3_next_move.specs.Asked.{IsAsked};
-ghost use Rattle.ffi3_next_move.specs.Handed.{handed, signatures_in};
+ghost use Rattle.ffi3_script_spec.specs.Handed.{handed, signatures_in};
 ghost use Rattle.ffi3_next_move.specs.Stands.{StandingAgrees};
 ghost use Rattle.ffi3_script_body.specs.Agrees.{one_more};
 ghost use Rattle.ffi3_next_move.specs.Stands as ask;

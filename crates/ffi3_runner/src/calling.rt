@@ -13,7 +13,7 @@ ghost use Rattle.ffi3_small_step_spec.specs.SoFar.{Base};
 ghost use Rattle.ffi3_small_step_spec.specs.TracingOf.{IsTracingOf};
 ghost use Rattle.ffi3_body.specs.MoveOf.{move_of};
 ghost use Rattle.ffi3_next_move.specs.Asked.{IsAsked};
-ghost use Rattle.ffi3_next_move.specs.Handed.{handed};
+ghost use Rattle.ffi3_script_spec.specs.Handed.{handed};
 ghost use Rattle.ffi3_next_move.specs.Stands.{StandingAgrees};
 ghost use Rattle.ffi3_script_body.specs.Agrees.{one_more};
 ghost use Rattle.ffi3_next_move.specs.Stands as ask;
@@ -21,7 +21,7 @@ ghost use Rattle.ffi3_run_state.specs.Between.{Beginning, IsAsking, run_state};
 ghost use Rattle.ffi3_run_state.specs.Activations.{call_inside, calls_of};
 ghost use Rattle.ffi3_run_state.specs.Stack.{HoldsCalls};
 ghost use Rattle.ffi3_run_state.specs.Turned.{KeepsClosures, Turned};
-ghost use Rattle.ffi3_machine.specs.State.{stack_at};
+ghost use Rattle.ffi3_machine_spec.specs.State.{stack_at};
 ghost use Rattle.ffi3_runner.specs.Agreeing.{PositionsAgree, AllWillStand, IsStanding, WillStand, seen_by};
 ghost use Rattle.ffi3_runner.specs.Running.{IsPrepared, program};
 

@@ -2,8 +2,8 @@
 ghost use Rattle.std.specs.Prelude.{List};
 ghost use Rattle.ffi3_type_spec.specs.Value.{ValueTree};
 ghost use Rattle.ffi3_semantics_spec.specs.declared.Closure.{Closure};
-ghost use Rattle.ffi3_closures.specs.Slots.{HoldsMap};
-ghost use Rattle.ffi3_next_move.specs.Handed.{handed};
+ghost use Rattle.ffi3_machine_spec.specs.Slots.{HoldsMap};
+ghost use Rattle.ffi3_script_spec.specs.Handed.{handed};
 ghost use Rattle.ffi3_run_state.specs.Served.{IsIdle};
 ghost use Rattle.ffi3_runner.specs.Running.{IsPrepared, program};
 ghost use Rattle.ffi3_runner.specs.Serving.{IsAtEntry, Served};

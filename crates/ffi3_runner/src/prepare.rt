@@ -3,7 +3,7 @@ ghost use Rattle.std.specs.Prelude.{◌≡◌, IfOk};
 ghost use Rattle.ffi3_place_spec.specs.Standard.{Standard};
 ghost use Rattle.ffi3_script_spec.specs.Natives.{program_beside};
 ghost use Rattle.ffi3_script.specs.ScriptOf.{script_of};
-ghost use Rattle.ffi3_next_move.specs.Handed.{AreFew, handed};
+ghost use Rattle.ffi3_script_spec.specs.Handed.{AreFew, handed};
 
 use ffi3_cif::Cif;
 use ffi3_next_move::{Native, signature, signatures};

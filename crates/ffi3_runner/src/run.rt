@@ -5,7 +5,7 @@ ghost use Rattle.ffi3_semantics_spec.specs.Trace.{TraceItem};
 ghost use Rattle.ffi3_small_step_spec.specs.Remainder.{Remainder};
 ghost use Rattle.ffi3_small_step_spec.specs.SoFar.{Base};
 ghost use Rattle.ffi3_small_step_spec.specs.TracingOf.{IsTracingOf};
-ghost use Rattle.ffi3_next_move.specs.Handed.{handed};
+ghost use Rattle.ffi3_script_spec.specs.Handed.{handed};
 ghost use Rattle.ffi3_run_state.specs.Between.{Beginning};
 ghost use Rattle.ffi3_run_state.specs.Turned.{StandsAt};
 ghost use Rattle.ffi3_runner.specs.Agreeing.{PositionsAgree};

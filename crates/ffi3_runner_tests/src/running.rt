@@ -1,7 +1,7 @@
 //! A script that is run from a machine as it begins.
 ghost use Rattle.std.specs.Prelude.{◌<◌, ◌≤◌, ◌^◌, IfOk, IfSome, length};
 ghost use Rattle.ffi3_script.specs.ScriptOf.{natives_of};
-ghost use Rattle.ffi3_next_move.specs.Handed.{handed, signatures_in};
+ghost use Rattle.ffi3_script_spec.specs.Handed.{handed, signatures_in};
 
 use ffi3_body::Native;
 use ffi3_io::MemSink;

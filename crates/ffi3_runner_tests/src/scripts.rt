@@ -1,6 +1,6 @@
 //! Scripts of functions that call one another, with no native among them.
 ghost use Rattle.std.specs.Prelude.{◌<◌, ◌^◌, length};
-ghost use Rattle.ffi3_next_move.specs.Handed.{handed, signatures_in};
+ghost use Rattle.ffi3_script_spec.specs.Handed.{handed, signatures_in};
 
 use crate::{Native, Ran, RunEnd, Stop, run_script};
 use ffi3_aapcs64::Aapcs64;

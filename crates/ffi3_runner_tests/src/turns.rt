@@ -2,7 +2,7 @@
 //! writes to a sink between two moves does not matter.
 ghost use Rattle.std.specs.Prelude.{◌<◌, ◌≤◌, ◌^◌, length};
 ghost use Rattle.ffi3_script.specs.ScriptOf.{natives_of};
-ghost use Rattle.ffi3_next_move.specs.Handed.{handed, signatures_in};
+ghost use Rattle.ffi3_script_spec.specs.Handed.{handed, signatures_in};
 
 use crate::{Native, Stop, read_beside};
 use ffi3_amd64::Amd64;

@@ -8,8 +8,8 @@ use Rattle.ffi3_type_spec.specs.Tree.{Tree, trees_of}
 use Rattle.ffi3_type_spec.specs.Signature.{Signature}
 use Rattle.ffi3_type_spec.specs.Value.{ValueTree, void_value, all_fit, values_of}
 use Rattle.ffi3_semantics_spec.specs.Move.{Move}
-use Rattle.ffi3_body.specs.SeenActivation.{SeenActivation, arguments_of}
-use Rattle.ffi3_body.specs.Follow.{ResultsFollow}
+use Rattle.ffi3_semantics_spec.specs.SeenActivation.{SeenActivation, arguments_of}
+use Rattle.ffi3_semantics_spec.specs.Follow.{ResultsFollow}
 use Rattle.ffi3_script_spec.specs.Script as script
 use Rattle.ffi3_script_spec.specs.Meaning as meaning
 use Rattle.ffi3_script_spec.specs.Meaning.{is_done, next_of}

@@ -8,7 +8,7 @@ use Rattle.ffi3_type_spec.specs.Tree.{trees_of}
 use Rattle.ffi3_type_spec.specs.Signature.{Signature}
 use Rattle.ffi3_type_spec.specs.Value.{ValueTree, void_value, fits, all_fit, values_of, zero_value}
 use Rattle.ffi3_semantics_spec.specs.Move.{Move, result_type_of}
-use Rattle.ffi3_body.specs.SeenActivation.{SeenActivation, arguments_of}
+use Rattle.ffi3_semantics_spec.specs.SeenActivation.{SeenActivation, arguments_of}
 use Rattle.ffi3_script_spec.specs.Script as script
 use Rattle.ffi3_script_spec.specs.Script.{Act, call, make, free, print, return, return_void}
 use Rattle.ffi3_script_spec.specs.Bodies.{type_of_act, ends}

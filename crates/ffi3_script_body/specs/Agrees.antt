@@ -1,7 +1,7 @@
 -- That a cursor of a body agrees with what an activation has seen.
 use Rattle.std.specs.Prelude.{◌≡◌, Bool, true, ℕ, ◌+◌, ◌<◌, List, [], ◌∷◌, ◌++◌, length, take, drop}
 use Rattle.ffi3_type_spec.specs.Value.{ValueTree}
-use Rattle.ffi3_body.specs.SeenActivation.{SeenActivation, arguments_of}
+use Rattle.ffi3_semantics_spec.specs.SeenActivation.{SeenActivation, arguments_of}
 use Rattle.ffi3_script_spec.specs.Script.{ScriptMove}
 use Rattle.ffi3_script_spec.specs.Meaning.{Known, is_done}
 use Rattle.ffi3_script_spec.specs.Typed.{Kinds}

@@ -4,7 +4,7 @@ use Rattle.std.specs.Prelude.{slice_index_or}
 use Rattle.ffi3_type_spec.specs.Tree.{Tree}
 use Rattle.ffi3_type_spec.specs.Signature.{Signature}
 use Rattle.ffi3_type_spec.specs.Value.{ValueTree, void_value, zero_value}
-use Rattle.ffi3_body.specs.SeenActivation.{SeenActivation, arguments_of}
+use Rattle.ffi3_semantics_spec.specs.SeenActivation.{SeenActivation, arguments_of}
 use Rattle.ffi3_script_spec.specs.Script.{Act, call, ScriptMove}
 use Rattle.ffi3_script_spec.specs.Bodies.{type_of_act}
 use Rattle.ffi3_script_spec.specs.Meaning as meaning

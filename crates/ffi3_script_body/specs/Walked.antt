@@ -4,7 +4,7 @@ use Rattle.std.specs.List.{list_all}
 use Rattle.ffi3_type_spec.specs.Tree.{trees_of}
 use Rattle.ffi3_type_spec.specs.Value.{ValueTree, all_fit, values_of}
 use Rattle.ffi3_semantics_spec.specs.Move.{Move}
-use Rattle.ffi3_body.specs.SeenActivation.{SeenActivation}
+use Rattle.ffi3_semantics_spec.specs.SeenActivation.{SeenActivation}
 use Rattle.ffi3_script_spec.specs.Script.{ScriptMove}
 use Rattle.ffi3_script_spec.specs.Bodies.{ends}
 use Rattle.ffi3_script_spec.specs.Meaning.{next_of}

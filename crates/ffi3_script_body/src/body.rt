@@ -76,8 +76,8 @@ impl ScriptBody {
     ghost use Rattle.std.specs.Prelude.{◌+◌, IfOk, IfSome, None};
     ghost use Rattle.ffi3_type_spec.specs.Value.{ValueTree};
     ghost use Rattle.ffi3_semantics_spec.specs.Move.{MoveFits};
-    ghost use Rattle.ffi3_body.specs.SeenActivation.{SeenActivation, arguments_of};
-    ghost use Rattle.ffi3_body.specs.Follow.{ResultsFollow};
+    ghost use Rattle.ffi3_semantics_spec.specs.SeenActivation.{SeenActivation, arguments_of};
+    ghost use Rattle.ffi3_semantics_spec.specs.Follow.{ResultsFollow};
     ghost use Rattle.ffi3_body.specs.MoveOf as code;
     ghost use Rattle.ffi3_script_spec.specs.Meaning as meaning;
     ghost use Rattle.ffi3_script_spec.specs.Typed.{act_is_typed};

@@ -3,7 +3,7 @@ ghost use Rattle.std.specs.Prelude.{◌≡◌, length, true, map};
 ghost use Rattle.std.specs.List.{list_all};
 ghost use Rattle.ffi3_type_spec.specs.Tree.{trees_of};
 ghost use Rattle.ffi3_type_spec.specs.Value.{all_fit, values_of};
-ghost use Rattle.ffi3_body.specs.SeenActivation.{arguments_of};
+ghost use Rattle.ffi3_semantics_spec.specs.SeenActivation.{arguments_of};
 ghost use Rattle.ffi3_script_spec.specs.Typed.{signature_is_right};
 ghost use Rattle.ffi3_script_body.specs.KnownOf.{is_there, past_type, past_value, pasts_of};
 

@@ -10,3 +10,4 @@ pub mod Natives
 pub mod Typed
 pub mod Made
 pub mod Reading
+pub mod Handed

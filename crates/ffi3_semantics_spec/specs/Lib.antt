@@ -7,3 +7,5 @@ pub mod MoreStack
 pub mod Trace
 pub mod Lines
 pub mod Journal
+pub mod SeenActivation
+pub mod Follow

@@ -12,10 +12,10 @@ use Rattle.ffi3_place_spec.specs.MachineRegisters.{closure_register, to_list}
 use Rattle.ffi3_place_spec.specs.Standard.{Standard, block_bytes, frame_of, need_of}
 use Rattle.ffi3_place_spec.specs.Agrees.{AgreesWithMachine}
 use Rattle.ffi3_place_spec.specs.Sound.{closed_to_arguments, closed_to_results}
-use Rattle.ffi3_machine.specs.State.{State, HasReturnAddress}
+use Rattle.ffi3_machine_spec.specs.State.{State, HasReturnAddress}
 use Rattle.ffi3_machine_transfer.specs.Stored.{IsPlace, byte_of, stack_byte, word_in}
 use Rattle.ffi3_marshal.proofs.Lawful.{each_first, each_rest}
-use Rattle.ffi3_callee.specs.Poison.{IsPoisoned, is_free}
+use Rattle.ffi3_poison.specs.Poison.{IsPoisoned, is_free}
 use Rattle.ffi3_callee.specs.Received.{OwnsAtEntry}
 use Rattle.ffi3_invoke.specs.Calls.{HasPassed, entered_closure}
 use Rattle.ffi3_run_state.specs.Served.{ShowsCall}

@@ -4,10 +4,10 @@ use Rattle.ffi3_type_spec.specs.Value.{ValueTree}
 use Rattle.ffi3_place_spec.specs.Standard.{Standard}
 use Rattle.ffi3_semantics_spec.specs.declared.Closure.{Closure}
 use Rattle.ffi3_semantics_spec.specs.Meaning.{Program}
-use Rattle.ffi3_machine.specs.State.{State}
-use Rattle.ffi3_io.specs.Sink.{SinkState}
-use Rattle.ffi3_io.specs.declared.IoError.{IoError}
-use Rattle.ffi3_io.specs.declared.IoError.TheVariants as cut
+use Rattle.ffi3_machine_spec.specs.State.{State}
+use Rattle.ffi3_io_spec.specs.Sink.{SinkState}
+use Rattle.ffi3_io_spec.specs.declared.IoError.{IoError}
+use Rattle.ffi3_io_spec.specs.declared.IoError.TheVariants as cut
 use Rattle.ffi3_next_move.specs.declared.standing.Standing.{Standing}
 use Rattle.ffi3_run_state.specs.declared.configuration.Configuration.{Configuration}
 use Rattle.ffi3_runner.specs.Serving.{HasNotRun, HasRun, IsAtEntry, Served, end_of}

@@ -8,8 +8,8 @@ use Rattle.ffi3_place_spec.specs.Standard.{Standard, frame_of}
 use Rattle.ffi3_semantics_spec.specs.declared.Closure.{Closure}
 use Rattle.ffi3_semantics_spec.specs.Closures.{Closures, closure_at}
 use Rattle.ffi3_semantics_spec.specs.Meaning.{Program}
-use Rattle.ffi3_machine.specs.State.{State}
-use Rattle.ffi3_io.specs.Sink.{SinkState}
+use Rattle.ffi3_machine_spec.specs.State.{State}
+use Rattle.ffi3_io_spec.specs.Sink.{SinkState}
 use Rattle.ffi3_invoke.specs.Calls.{entered_closure}
 use Rattle.ffi3_next_move.specs.declared.standing.Standing.{Standing}
 use Rattle.ffi3_run_state.specs.declared.configuration.Configuration.{Configuration}

@@ -7,9 +7,9 @@ use Rattle.ffi3_place_spec.specs.declared.Loc.TheVariants.{S}
 use Rattle.ffi3_place_spec.specs.Standard.{Standard}
 use Rattle.ffi3_semantics_spec.specs.declared.Closure.{Closure}
 use Rattle.ffi3_semantics_spec.specs.Closures.{Closures, closure_at}
-use Rattle.ffi3_machine.specs.State.{State}
+use Rattle.ffi3_machine_spec.specs.State.{State}
 use Rattle.ffi3_machine_transfer.specs.Stored.{IsPlace, byte_of, stack_byte}
-use Rattle.ffi3_callee.specs.Poison.{is_free}
+use Rattle.ffi3_poison.specs.Poison.{is_free}
 use Rattle.ffi3_invoke.specs.Calls.{entered_closure}
 use Rattle.ffi3_run_state.specs.Served.{ShowsCall}
 

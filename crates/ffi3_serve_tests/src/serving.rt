@@ -5,9 +5,9 @@ ghost use Rattle.ffi3_type_spec.specs.Value.{ValueTree};
 ghost use Rattle.ffi3_type_spec.specs.ValueText.{value_text_of};
 ghost use Rattle.ffi3_place_spec.specs.Holds.{OwnResult};
 ghost use Rattle.ffi3_place_spec.specs.Standard.{frame_of};
-ghost use Rattle.ffi3_machine.specs.State.{image_of};
+ghost use Rattle.ffi3_machine_spec.specs.State.{image_of};
 ghost use Rattle.ffi3_script.specs.ScriptOf.{natives_of};
-ghost use Rattle.ffi3_next_move.specs.Handed.{handed, signatures_in};
+ghost use Rattle.ffi3_script_spec.specs.Handed.{handed, signatures_in};
 
 use crate::showing::show_at;
 use ffi3_body::Native;

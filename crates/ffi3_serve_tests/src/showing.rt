@@ -7,18 +7,18 @@ ghost use Rattle.ffi3_type_spec.specs.Value.{all_fit, values_of};
 ghost use Rattle.ffi3_values.specs.ValueOf.{value_of};
 ghost use Rattle.ffi3_place_spec.specs.Standard.{frame_of, need_of};
 ghost use Rattle.ffi3_semantics_spec.specs.Closures.{closure_at};
-ghost use Rattle.ffi3_machine.specs.State.{IsSlot};
-ghost use Rattle.ffi3_closures.specs.Slots.{HoldsMap};
+ghost use Rattle.ffi3_machine_spec.specs.State.{IsSlot};
+ghost use Rattle.ffi3_machine_spec.specs.Slots.{HoldsMap};
 ghost use Rattle.ffi3_invoke.specs.Calls.{entered_closure};
 ghost use Rattle.ffi3_run_state.specs.Served.{ShowsCall};
 ghost use Rattle.ffi3_serve_tests.specs.Shown.{IsOverwritten, IsShown};
 
-use ffi3_callee::poison;
 use ffi3_caller::room_for;
 use ffi3_cif::Cif;
 use ffi3_invoke::pass_arguments;
 use ffi3_machine::Machine;
 use ffi3_place::Abi;
+use ffi3_poison::poison;
 use ffi3_runner::{Cifs, Table};
 use ffi3_types::{NoMemory, Sig};
 use ffi3_values::{Value, Values, fits};
@@ -49,8 +49,7 @@ pub fn show_call<A: Abi>(
     ensures target { machine.new.target ≡ machine.old.target }
     ensures code { machine.new.code ≡ machine.old.code }
 {
-    // its contract tells what is true of every machine
-    let _sp = machine.sp();
+    machine.facts();
     pass_arguments(machine, table, cif, values, ptr);
     poison(machine, cif, byte);
 }

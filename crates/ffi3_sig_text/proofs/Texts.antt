@@ -3,7 +3,7 @@ use Rattle.std.proofs.Common.{◌≡◌, ℕ, zero, suc, ◌+◌, ◌-◌, ◌<�
 use Rattle.std.specs.List.{join_with_byte}
 use Rattle.std.proofs.lemmas.List.{take_more, get_or-drop}
 use Rattle.ffi3_type_spec.specs.Tree.{Tree, void, tree_at, trees_of}
-use Rattle.ffi3_sig_text.specs.SigText.{told_text, told_texts, told_list}
+use Rattle.ffi3_format_spec.specs.SigText.{told_text, told_texts, told_list}
 
 join-more : (c : ℕ) (x : List ℕ) (xs : List (List ℕ)) (y : List ℕ) → join_with_byte c ((x ∷ xs) ++ (y ∷ [])) ≡ join_with_byte c (x ∷ xs) ++ (c ∷ y)
 join-more c x [] y = refl

@@ -1,6 +1,6 @@
 -- Faults that have a line and a status of their own, whatever was asked for.
 use Rattle.std.specs.Prelude.{ℕ, List}
-use Rattle.ffi3_status.specs.FaultLines.{read_fault_line, write_fault_line, no_memory_line}
+use Rattle.ffi3_app_spec.specs.FaultLines.{read_fault_line, write_fault_line, no_memory_line}
 use Rattle.ffi3_status.specs.declared.known.Fault.{Fault}
 use Rattle.ffi3_status.specs.declared.known.Fault.TheVariants.{Read, Write, NoMemory}
 

@@ -2,8 +2,8 @@
 ghost use Rattle.std.specs.Prelude.{◌≡◌, ◌≢◌, ◌<◌, []};
 ghost use Rattle.std.specs.Io.Buffered.{writer_buffer, writer_contents};
 ghost use Rattle.std.specs.Io.KnownBytes.{Keeps};
-ghost use Rattle.ffi3_io.specs.Sink.{Rose};
-ghost use Rattle.ffi3_status.specs.FaultLines.{ReportsFault, write_fault_line};
+ghost use Rattle.ffi3_io_spec.specs.Sink.{Rose};
+ghost use Rattle.ffi3_app_spec.specs.FaultLines.{ReportsFault, write_fault_line};
 
 use crate::known::{Fault, WRITE_FAULT, tell_fault};
 use ffi3_io::{Sink, WriteSink};

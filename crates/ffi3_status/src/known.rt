@@ -1,6 +1,6 @@
 //! Faults that have a line and a status of their own.
 ghost use Rattle.std.specs.Prelude.{◌≡◌};
-ghost use Rattle.ffi3_status.specs.FaultLines.{ReportsFault};
+ghost use Rattle.ffi3_app_spec.specs.FaultLines.{ReportsFault};
 ghost use Rattle.ffi3_status.specs.KnownFaults.{line_of, status_of};
 
 use crate::telling::tell;

@@ -1,5 +1,5 @@
 //! Lines to the sink of faults.
-ghost use Rattle.ffi3_status.specs.FaultLines.{ReportsFault};
+ghost use Rattle.ffi3_app_spec.specs.FaultLines.{ReportsFault};
 
 use crate::known::WRITE_FAULT;
 use ffi3_io::{Sink, write_all};

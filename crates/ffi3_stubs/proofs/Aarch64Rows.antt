@@ -9,9 +9,9 @@ use Rattle.ffi3_isa.specs.Aarch64.{IsAarch64Word, immediate, based, blr, ret, ad
 use Rattle.ffi3_type_spec.specs.declared.Isa.TheVariants.{Aarch64}
 use Rattle.ffi3_type_spec.specs.declared.limits.TheConstants.{STACK, STACK_TOP}
 use Rattle.ffi3_place_spec.specs.declared.Loc.TheVariants.{G, F}
-use Rattle.ffi3_machine.specs.declared.stub.TheConstants.{EXCHANGE}
-use Rattle.ffi3_machine.specs.State.{State}
-use Rattle.ffi3_machine.specs.Stubs.{address, load, store, sum, jump, calls, returns, aarch64_row, aarch64_immediate, word}
+use Rattle.ffi3_machine_spec.specs.declared.stub.TheConstants.{EXCHANGE}
+use Rattle.ffi3_machine_spec.specs.State.{State}
+use Rattle.ffi3_machine_spec.specs.Stubs.{address, load, store, sum, jump, calls, returns, aarch64_row, aarch64_immediate, word}
 use Rattle.ffi3_machine.specs.MachineStep.{StepsBy, IsInstructionAt, loaded, moved, next, base, sets, sums, floats, stores, goes_to}
 use Rattle.ffi3_stubs.specs.Effects.{counted, addressed, received, with_sp_by, exchanged, saved, linked, jumped}
 use Rattle.ffi3_stubs.proofs.Standing.{Stands, plain, unmoved, wraps}

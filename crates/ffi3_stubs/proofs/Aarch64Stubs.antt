@@ -6,11 +6,11 @@ use Rattle.ffi3_type_spec.specs.declared.Isa.TheVariants.{Aarch64}
 use Rattle.ffi3_type_spec.specs.declared.limits.TheConstants.{STACK, STACK_TOP}
 use Rattle.ffi3_place_spec.specs.declared.Loc.{Loc}
 use Rattle.ffi3_place_spec.specs.declared.Loc.TheVariants.{G}
-use Rattle.ffi3_machine.specs.declared.stub.TheConstants.{EXCHANGE}
-use Rattle.ffi3_machine.specs.State.{State, x_of}
+use Rattle.ffi3_machine_spec.specs.declared.stub.TheConstants.{EXCHANGE}
+use Rattle.ffi3_machine_spec.specs.State.{State, x_of}
 use Rattle.ffi3_machine.specs.MachineStep.{StepsBy}
 use Rattle.ffi3_place_spec.specs.StubRegisters.{call_loads, stub_area, callee_saved_words, entry_stores, result_loads}
-use Rattle.ffi3_machine.specs.Stubs.{Entry, Exit, Call, Return, rows, bytes_of, stub_bytes, aarch64_row, address, load, sum, jump, calls, returns, exchange_loads, exchange_stores, area_loads, area_stores}
+use Rattle.ffi3_machine_spec.specs.Stubs.{Entry, Exit, Call, Return, rows, bytes_of, stub_bytes, aarch64_row, address, load, sum, jump, calls, returns, exchange_loads, exchange_stores, area_loads, area_stores}
 use Rattle.ffi3_machine.proofs.Stubs.{lengths}
 use Rattle.ffi3_stubs.specs.Effects.{held, addressed, received, saved, to_area, with_sp_by, linked, aarch64_placed, aarch64_loaded, aarch64_called, aarch64_saved, aarch64_passed, aarch64_entered, aarch64_restored, aarch64_given, aarch64_left, aarch64_taken, aarch64_returned}
 use Rattle.ffi3_stubs.proofs.Standing.{Stands, onward, TakesBy, one_step, and_then, small as low_word}

@@ -1,12 +1,12 @@
 -- What the four stubs of AMD64 leave, in readable words.
 use Rattle.std.proofs.Common.{◌≡◌, ◌+◌, ◌-◌, ◌≤◌, ◌++◌, false, length, refl, ap, ◌∙◌, arith, length-set, ◌⊎◌, inl, inr, ⊎_elim, ℕ, ◌*◌, ◌<◌, min}
-use Rattle.ffi3_memory.specs.Memory.{number_of}
+use Rattle.ffi3_machine_spec.specs.Memory.{number_of}
 use Rattle.ffi3_type_spec.specs.declared.Isa.TheVariants.{Amd64}
 use Rattle.ffi3_type_spec.specs.declared.limits.TheConstants.{STACK, STACK_TOP}
 use Rattle.ffi3_place_spec.specs.declared.Loc.{Loc}
 use Rattle.ffi3_place_spec.specs.declared.Loc.TheVariants.{G}
-use Rattle.ffi3_machine.specs.declared.stub.TheConstants.{EXCHANGE}
-use Rattle.ffi3_machine.specs.State.{State, IsMachine, x_of, with_pc}
+use Rattle.ffi3_machine_spec.specs.declared.stub.TheConstants.{EXCHANGE, AREA_AT, ENTRY_SP_AT, RETURN_SP_AT}
+use Rattle.ffi3_machine_spec.specs.State.{State, IsMachine, x_of, with_pc}
 use Rattle.ffi3_place_spec.specs.StubRegisters.{call_loads, entry_stores, callee_saved_words, stub_area, result_loads}
 use Rattle.ffi3_stubs.specs.Effects.{held, addressed, with_sp_by, amd64_placed, amd64_called, amd64_saved, amd64_entered, amd64_restored, amd64_left, amd64_returned}
 use Rattle.ffi3_stubs.specs.Calls.{same_loc, is_in, HasCalled, HasEntered, HasLeft, HasReturned}
@@ -37,7 +37,7 @@ has_returned s is =
       stored = went_from 11 (result_loads Amd64) s t (amd64_returned s) refl same (went_to_exchange Amd64 11 (result_loads Amd64) t refl is.exchange);
       beyond = λ at far. exchange_beyond Amd64 11 (result_loads Amd64) t at far refl is.exchange;
       others = λ l out. same l (neither (same_loc l (G 11)) false out).0;
-      sp = ap (number_of 8) (exchange_beyond Amd64 11 (result_loads Amd64) t 544 (omega arith) refl is.exchange);
+      sp = ap (number_of 8) (exchange_beyond Amd64 11 (result_loads Amd64) t RETURN_SP_AT (omega arith) refl is.exchange);
       rest = refl;
     }
 
@@ -57,7 +57,7 @@ has_entered s is low high =
       stored = went_from 11 (entry_stores Amd64) s t (amd64_entered s) refl same (went_to_exchange Amd64 11 (entry_stores Amd64) t refl is.exchange);
       beyond = λ at far. exchange_beyond Amd64 11 (entry_stores Amd64) t at far refl is.exchange;
       others = λ l out. same l (neither (same_loc l (G 11)) false out).0;
-      sp = ap (number_of 8) (exchange_beyond Amd64 11 (entry_stores Amd64) t 528 (omega arith) refl is.exchange);
+      sp = ap (number_of 8) (exchange_beyond Amd64 11 (entry_stores Amd64) t ENTRY_SP_AT (omega arith) refl is.exchange);
       rest = refl;
     }
 
@@ -65,12 +65,12 @@ pub has_left : (s : State) → IsMachine s → HasLeft Amd64 s (amd64_left (with
 unfolding are_apart are_disjoint
 has_left s is =
     let w : State = with_pc 6144 s in
-    let t : State = with_sp_by 7 (x_of 536 s) (addressed 7 11 w) in
+    let t : State = with_sp_by 7 (x_of AREA_AT s) (addressed 7 11 w) in
     let count : length t.general ≡ 32 = length-set s.general 11 EXCHANGE ∙ is.general in
     let sizes = area_lengths Amd64 0 (callee_saved_words Amd64) t in
     let after : (l : Loc) → is_in l (result_loads Amd64) ≡ false → held l (amd64_left w) ≡ held l (amd64_restored w) = λ l out. exchange_others Amd64 11 (result_loads Amd64) (amd64_restored w) l out in
     record {
-      restored = came_still (callee_saved_words Amd64) (result_loads Amd64) (x_of 536 s) s.stack (amd64_restored w) (amd64_left w) refl after (came_from_area Amd64 0 (x_of 536 s) (callee_saved_words Amd64) t (omega arith) refl count is.floating);
+      restored = came_still (callee_saved_words Amd64) (result_loads Amd64) (x_of AREA_AT s) s.stack (amd64_restored w) (amd64_left w) refl after (came_from_area Amd64 0 (x_of AREA_AT s) (callee_saved_words Amd64) t (omega arith) refl count is.floating);
       loaded = came_from_exchange Amd64 11 (result_loads Amd64) (amd64_restored w) refl (sizes.0 ∙ count) (sizes.1 ∙ is.floating);
       others = λ l out.
           let parts = neither (same_loc l (G 11)) (is_in l (callee_saved_words Amd64 ++ result_loads Amd64)) out in

@@ -7,15 +7,16 @@ use Rattle.std.specs.List.{replace_range}
 use Rattle.std.specs.Int.{w32, byte_at, from_le_bytes, to_le_bytes}
 use Rattle.ffi3_isa.specs.declared.Instr.TheVariants.{Lea, Ld, Sd, Fld, Fsd, Addi, CallMem, Ret}
 use Rattle.ffi3_isa.specs.Fields.{sign_extend}
-use Rattle.ffi3_isa.specs.Amd64.{trampoline, fixed, mov_at_r11, mov_at_sp, movsd_at_r11, lea, lea_sp, call, ret, disp32, rex, mod_rm}
-use Rattle.ffi3_memory.specs.Memory.{number_of, low_bytes}
+use Rattle.ffi3_isa.specs.Amd64.{trampoline, fixed, mov_at_r11, mov_at_sp, movsd_at_r11, lea, lea_sp, call, ret, disp32}
+use Rattle.ffi3_machine_spec.specs.Encoding.{rex, mod_rm}
+use Rattle.ffi3_machine_spec.specs.Memory.{number_of, low_bytes}
 use Rattle.ffi3_type_spec.specs.declared.Isa.TheVariants.{Amd64}
 use Rattle.ffi3_type_spec.specs.declared.limits.TheConstants.{STACK, STACK_TOP, CODE, CODE_END}
 use Rattle.ffi3_place_spec.specs.declared.Loc.TheVariants.{G, F}
-use Rattle.ffi3_machine.specs.declared.stub.TheConstants.{EXCHANGE, EXCHANGE_END}
+use Rattle.ffi3_machine_spec.specs.declared.stub.TheConstants.{EXCHANGE, EXCHANGE_END}
 use Rattle.ffi3_machine.specs.declared.step.Change.{Change}
-use Rattle.ffi3_machine.specs.State.{State, x_of, stack_at}
-use Rattle.ffi3_machine.specs.Stubs.{address, load, store, sum, jump, calls_at, returns, amd64_row}
+use Rattle.ffi3_machine_spec.specs.State.{State, x_of, stack_at}
+use Rattle.ffi3_machine_spec.specs.Stubs.{address, load, store, sum, jump, calls_at, returns, amd64_row}
 use Rattle.ffi3_machine.specs.MachineStep.{StepsBy, has_eight, loaded, moved, next, sets, sums, floats, stores, pops, pushes, changed}
 use Rattle.ffi3_stubs.specs.Effects.{counted, addressed, received, with_sp_by, exchanged, saved, pushed, popped}
 use Rattle.ffi3_stubs.proofs.Standing.{Stands, plain, wraps}

@@ -3,14 +3,14 @@ use Rattle.std.proofs.Common.{◌≡◌, ◌≢◌, ℕ, suc, ◌+◌, ◌*◌, 
 use Rattle.std.proofs.lemmas.Bool.Decides.{nat_tests}
 use Rattle.std.proofs.lemmas.List.{get_or-set_other}
 use Rattle.std.specs.Prelude.{◌&&◌, ◌==◌, not, nat_lt, slice_index}
-use Rattle.ffi3_memory.specs.Memory.{number_of}
+use Rattle.ffi3_machine_spec.specs.Memory.{number_of}
 use Rattle.ffi3_type_spec.specs.declared.Isa.TheVariants.{Amd64}
 use Rattle.ffi3_type_spec.specs.declared.limits.TheConstants.{STACK, STACK_TOP}
 use Rattle.ffi3_place_spec.specs.declared.Loc.{Loc}
 use Rattle.ffi3_place_spec.specs.declared.Loc.TheVariants.{G, F, S}
-use Rattle.ffi3_machine.specs.declared.stub.TheConstants.{EXCHANGE}
-use Rattle.ffi3_machine.specs.State.{State, x_of, stack_at}
-use Rattle.ffi3_machine.specs.Stubs.{load, store, amd64_row, bytes_of, exchange_loads, exchange_stores, area_loads, area_stores}
+use Rattle.ffi3_machine_spec.specs.declared.stub.TheConstants.{EXCHANGE}
+use Rattle.ffi3_machine_spec.specs.State.{State, x_of, stack_at}
+use Rattle.ffi3_machine_spec.specs.Stubs.{load, store, amd64_row, bytes_of, exchange_loads, exchange_stores, area_loads, area_stores}
 use Rattle.ffi3_machine.specs.MachineStep.{StepsBy}
 use Rattle.ffi3_stubs.specs.Effects.{received, exchanged, saved, from_exchange, to_exchange, from_area, to_area}
 use Rattle.ffi3_stubs.proofs.Standing.{Stands, onward, TakesBy, one_step, none_taken, and_then}

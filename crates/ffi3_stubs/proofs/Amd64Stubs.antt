@@ -5,10 +5,10 @@ use Rattle.std.specs.Prelude.{slice_index, slice_set, pos, negsuc}
 use Rattle.ffi3_type_spec.specs.declared.Isa.TheVariants.{Amd64}
 use Rattle.ffi3_type_spec.specs.declared.limits.TheConstants.{STACK, STACK_TOP}
 use Rattle.ffi3_place_spec.specs.declared.Loc.TheVariants.{G}
-use Rattle.ffi3_machine.specs.declared.stub.TheConstants.{EXCHANGE}
-use Rattle.ffi3_machine.specs.State.{State, x_of}
+use Rattle.ffi3_machine_spec.specs.declared.stub.TheConstants.{EXCHANGE}
+use Rattle.ffi3_machine_spec.specs.State.{State, x_of}
 use Rattle.ffi3_place_spec.specs.StubRegisters.{call_loads, stub_area, callee_saved_words, entry_stores, result_loads}
-use Rattle.ffi3_machine.specs.Stubs.{Entry, Exit, Call, Return, rows, bytes_of, stub_bytes, amd64_row, address, load, sum, jump, calls_at, returns, exchange_loads, exchange_stores, area_loads, area_stores}
+use Rattle.ffi3_machine_spec.specs.Stubs.{Entry, Exit, Call, Return, rows, bytes_of, stub_bytes, amd64_row, address, load, sum, jump, calls_at, returns, exchange_loads, exchange_stores, area_loads, area_stores}
 use Rattle.ffi3_machine.proofs.Stubs.{lengths}
 use Rattle.ffi3_stubs.specs.Effects.{addressed, with_sp_by, amd64_placed, amd64_loaded, amd64_called, amd64_saved, amd64_passed, amd64_entered, amd64_restored, amd64_given, amd64_left, amd64_taken, amd64_returned}
 use Rattle.ffi3_stubs.proofs.Standing.{Stands, onward, TakesBy, one_step, and_then}

@@ -6,12 +6,12 @@ use Rattle.std.specs.Prelude.{◌==◌, ◌||◌}
 use Rattle.std.specs.List.{replace_range}
 use Rattle.std.specs.Int.{w32, to_le_bytes}
 use Rattle.ffi3_isa.specs.Fields.{first_word}
-use Rattle.ffi3_memory.specs.Memory.{number_of, low_bytes}
+use Rattle.ffi3_machine_spec.specs.Memory.{number_of, low_bytes}
 use Rattle.ffi3_type_spec.specs.declared.Isa.{Isa}
 use Rattle.ffi3_type_spec.specs.declared.limits.TheConstants.{STACK, STACK_TOP, CODE, CODE_END}
-use Rattle.ffi3_machine.specs.declared.stub.TheConstants.{EXCHANGE, EXCHANGE_END}
+use Rattle.ffi3_machine_spec.specs.declared.stub.TheConstants.{EXCHANGE, EXCHANGE_END}
 use Rattle.ffi3_machine.specs.declared.step.Change.{Change}
-use Rattle.ffi3_machine.specs.State.{State, x_of, stack_at}
+use Rattle.ffi3_machine_spec.specs.State.{State, x_of, stack_at}
 use Rattle.ffi3_machine.specs.MachineStep.{has_eight, loaded, next, stores, changed}
 use Rattle.ffi3_stubs.specs.Effects.{counted}
 use Rattle.ffi3_stubs.proofs.Standing.{plain}

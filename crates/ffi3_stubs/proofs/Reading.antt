@@ -5,14 +5,15 @@ use Rattle.std.proofs.lemmas.List.{get_or-set_same, get_or-set_other, length-tak
 use Rattle.std.proofs.lemmas.Slice.{drop-append-drop}
 use Rattle.std.specs.Prelude.{◌&&◌, ◌||◌, ◌==◌, not, nat_lt, slice_index, slice_set}
 use Rattle.std.specs.List.{replace_range}
-use Rattle.ffi3_memory.specs.Memory.{number_of, low_bytes}
+use Rattle.ffi3_machine_spec.specs.Memory.{number_of, low_bytes}
 use Rattle.ffi3_type_spec.specs.declared.Isa.{Isa}
 use Rattle.ffi3_type_spec.specs.declared.limits.TheConstants.{STACK, STACK_TOP, STACK_BYTES}
 use Rattle.ffi3_place_spec.specs.declared.Loc.{Loc}
 use Rattle.ffi3_place_spec.specs.declared.Loc.TheVariants.{G, F, S}
 use Rattle.ffi3_place_spec.specs.MachineRegisters.{stack_pointer}
-use Rattle.ffi3_machine.specs.State.{State, x_of, stack_at}
-use Rattle.ffi3_machine.specs.Stubs.{load, size_of, exchanged_at}
+use Rattle.ffi3_machine_spec.specs.declared.stub.TheConstants.{REGISTERS_END}
+use Rattle.ffi3_machine_spec.specs.State.{State, x_of, stack_at}
+use Rattle.ffi3_machine_spec.specs.Stubs.{load, size_of, exchanged_at}
 use Rattle.ffi3_stubs.specs.Effects.{received, held, exchanged, saved, from_exchange, to_exchange, from_area, to_area}
 use Rattle.ffi3_stubs.specs.Calls.{same_loc, is_in, CameFromExchange, WentToExchange, CameFromArea, CameFromWords, WentToArea}
 use Rattle.ffi3_stubs.proofs.Region.{written, below}
@@ -161,7 +162,7 @@ unfoldable pub misses : ℕ → List Loc → Bool
 misses n [] = true
 misses n (l ∷ ls) = not (n == place l) && misses n ls
 
--- each stands below 512, and no two at one place
+-- each stands below REGISTERS_END, and no two at one place
 unfoldable pub are_spread : List Loc → Bool
 are_spread [] = true
 are_spread (G k ∷ ls) = nat_lt k 32 && (misses k ls && are_spread ls)
@@ -193,7 +194,7 @@ exchange_kept isa base (F k ∷ ls) s n out ok len =
     exchange_kept isa base ls m n away.1 more.1 (word_length s.exchange (256 + 8 * k) v (omega arith) ∙ len) ∙ ap (λ i. take 8 (drop (8 * n) (replace_range s.exchange i (i + length (low_bytes 8 v)) (low_bytes 8 v)))) (sym at) ∙ other_place s.exchange n (32 + k) v (unlike n (32 + k) away.0) (omega arith)
 exchange_kept isa base (S k w ∷ ls) s n out ok len = absurd cc
 
-pub exchange_beyond : (isa : Isa) (base : ℕ) (ls : List Loc) (s : State) (at : ℕ) → 512 ≤ at → are_spread ls ≡ true → length s.exchange ≡ 552 → take 8 (drop at (to_exchange isa base ls s).exchange) ≡ take 8 (drop at s.exchange)
+pub exchange_beyond : (isa : Isa) (base : ℕ) (ls : List Loc) (s : State) (at : ℕ) → REGISTERS_END ≤ at → are_spread ls ≡ true → length s.exchange ≡ 552 → take 8 (drop at (to_exchange isa base ls s).exchange) ≡ take 8 (drop at s.exchange)
 unfolding are_spread
 exchange_beyond isa base [] s at far ok len = refl
 exchange_beyond isa base (G k ∷ ls) s at far ok len =

@@ -1,14 +1,14 @@
 -- RISC-V's rows as laws of its segments.
 use Rattle.std.proofs.Common.{◌≡◌, ◌≢◌, ℕ, ◌+◌, ◌*◌, ◌%◌, ◌<◌, ◌≤◌, Bool, true, if◌then◌else◌, List, ◌++◌, length, refl, ap, ◌∙◌, arith}
 use Rattle.std.specs.Prelude.{◌&&◌, ◌==◌, not, nat_lt, slice_index}
-use Rattle.ffi3_memory.specs.Memory.{number_of}
+use Rattle.ffi3_machine_spec.specs.Memory.{number_of}
 use Rattle.ffi3_type_spec.specs.declared.Isa.TheVariants.{Riscv}
 use Rattle.ffi3_type_spec.specs.declared.limits.TheConstants.{STACK, STACK_TOP}
 use Rattle.ffi3_place_spec.specs.declared.Loc.{Loc}
 use Rattle.ffi3_place_spec.specs.declared.Loc.TheVariants.{G, F, S}
-use Rattle.ffi3_machine.specs.declared.stub.TheConstants.{EXCHANGE}
-use Rattle.ffi3_machine.specs.State.{State, x_of, stack_at}
-use Rattle.ffi3_machine.specs.Stubs.{load, store, exchanged_at, row_bytes}
+use Rattle.ffi3_machine_spec.specs.declared.stub.TheConstants.{EXCHANGE}
+use Rattle.ffi3_machine_spec.specs.State.{State, x_of, stack_at}
+use Rattle.ffi3_machine_spec.specs.Stubs.{load, store, exchanged_at, row_bytes}
 use Rattle.ffi3_machine.specs.MachineStep.{StepsBy, base}
 use Rattle.ffi3_stubs.specs.Effects.{held, received, exchanged, saved}
 use Rattle.ffi3_stubs.proofs.Standing.{Stands}

@@ -10,9 +10,9 @@ use Rattle.ffi3_isa.specs.Riscv.{IsRiscvWord, auipc, ld, jalr, addi, sd, fld, fs
 use Rattle.ffi3_type_spec.specs.declared.Isa.TheVariants.{Riscv}
 use Rattle.ffi3_type_spec.specs.declared.limits.TheConstants.{STACK, STACK_TOP, CODE}
 use Rattle.ffi3_place_spec.specs.declared.Loc.TheVariants.{G, F}
-use Rattle.ffi3_machine.specs.declared.stub.TheConstants.{EXCHANGE}
-use Rattle.ffi3_machine.specs.State.{State}
-use Rattle.ffi3_machine.specs.Stubs.{load, store, sum, jump, calls, returns, riscv_row, riscv_i, riscv_s, word}
+use Rattle.ffi3_machine_spec.specs.declared.stub.TheConstants.{EXCHANGE}
+use Rattle.ffi3_machine_spec.specs.State.{State}
+use Rattle.ffi3_machine_spec.specs.Stubs.{load, store, sum, jump, calls, returns, riscv_row, riscv_i, riscv_s, word}
 use Rattle.ffi3_machine.specs.MachineStep.{StepsBy, IsInstructionAt, loaded, moved, next, even, base, sets, sums, floats, stores, changed}
 use Rattle.ffi3_stubs.specs.Effects.{counted, received, with_sp_by, exchanged, saved, linked, jumped, addressed_twice}
 use Rattle.ffi3_stubs.proofs.Standing.{Stands, plain, unmoved, wraps, TakesBy, one_step, and_then, onward}

@@ -7,11 +7,11 @@ use Rattle.ffi3_type_spec.specs.declared.Isa.TheVariants.{Riscv}
 use Rattle.ffi3_type_spec.specs.declared.limits.TheConstants.{STACK, STACK_TOP}
 use Rattle.ffi3_place_spec.specs.declared.Loc.{Loc}
 use Rattle.ffi3_place_spec.specs.declared.Loc.TheVariants.{G}
-use Rattle.ffi3_machine.specs.declared.stub.TheConstants.{EXCHANGE}
-use Rattle.ffi3_machine.specs.State.{State, x_of}
+use Rattle.ffi3_machine_spec.specs.declared.stub.TheConstants.{EXCHANGE}
+use Rattle.ffi3_machine_spec.specs.State.{State, x_of}
 use Rattle.ffi3_machine.specs.MachineStep.{StepsBy, even, moved}
 use Rattle.ffi3_place_spec.specs.StubRegisters.{call_loads, stub_area, callee_saved_words, entry_stores, result_loads}
-use Rattle.ffi3_machine.specs.Stubs.{Entry, Exit, Call, Return, rows, bytes_of, stub_bytes, riscv_row, address, load, sum, jump, calls, returns, exchange_loads, exchange_stores, area_loads, area_stores}
+use Rattle.ffi3_machine_spec.specs.Stubs.{Entry, Exit, Call, Return, rows, bytes_of, stub_bytes, riscv_row, address, load, sum, jump, calls, returns, exchange_loads, exchange_stores, area_loads, area_stores}
 use Rattle.ffi3_machine.proofs.Stubs.{lengths}
 use Rattle.ffi3_stubs.specs.Effects.{held, addressed_twice, received, saved, to_area, with_sp_by, linked, riscv_placed, riscv_loaded, riscv_called, riscv_saved, riscv_passed, riscv_entered, riscv_restored, riscv_given, riscv_left, riscv_taken, riscv_returned}
 use Rattle.ffi3_stubs.proofs.Standing.{Stands, onward, plain, wraps, TakesBy, one_step, and_then}

@@ -3,9 +3,9 @@ use Rattle.std.proofs.Common.{◌+◌, ◌≤◌}
 use Rattle.ffi3_type_spec.specs.declared.Isa.{Isa}
 use Rattle.ffi3_type_spec.specs.declared.Isa.TheVariants.{Amd64, Aarch64, Riscv}
 use Rattle.ffi3_type_spec.specs.declared.limits.TheConstants.{STACK, STACK_TOP}
-use Rattle.ffi3_machine.specs.State.{State, IsMachine, with_pc}
+use Rattle.ffi3_machine_spec.specs.State.{State, IsMachine, with_pc}
 use Rattle.ffi3_place_spec.specs.StubRegisters.{area_bytes}
-use Rattle.ffi3_machine.specs.Stubs.{Call, Exit, stub_at}
+use Rattle.ffi3_machine_spec.specs.Stubs.{Call, Exit, stub_at}
 use Rattle.ffi3_stubs.specs.Calls.{after_call, after_entry, after_exit, after_return, HasCalled, HasEntered, HasLeft, HasReturned}
 use Rattle.ffi3_stubs.proofs.Amd64Calls as amd64
 use Rattle.ffi3_stubs.proofs.Aarch64Calls as aarch64

@@ -4,8 +4,8 @@ use Rattle.std.proofs.Math.Nat.{mod-eq_of_lt, add-mod_right}
 use Rattle.std.proofs.lemmas.List.{drop-drop, drop_at}
 use Rattle.ffi3_type_spec.specs.declared.Isa.{Isa}
 use Rattle.ffi3_type_spec.specs.TargetIsa.{isa_of}
-use Rattle.ffi3_machine.specs.State.{State}
-use Rattle.ffi3_machine.specs.Stubs.{begun_stubs}
+use Rattle.ffi3_machine_spec.specs.State.{State}
+use Rattle.ffi3_machine_spec.specs.Stubs.{begun_stubs}
 use Rattle.ffi3_machine.specs.MachineStep.{StepsBy, TakesSteps, bytes_from}
 use Rattle.ffi3_machine.proofs.Stubs.{from_stubs}
 

@@ -2,7 +2,7 @@
 use Rattle.std.specs.Prelude.{◌≡◌, ℕ, ◌+◌, ◌-◌, ◌<◌, ◌≤◌, ◌⊎◌, min, Bool, false, ◌==◌, ◌||◌, ⊤, List, [], ◌∷◌, ◌++◌}
 use Rattle.std.specs.Prelude.{length, take, drop, get_or, slice_index}
 use Rattle.std.specs.List.{AllByRecursion, replace_range}
-use Rattle.ffi3_memory.specs.Memory.{number_of, low_bytes}
+use Rattle.ffi3_machine_spec.specs.Memory.{number_of, low_bytes}
 use Rattle.ffi3_type_spec.specs.declared.Isa.{Isa}
 use Rattle.ffi3_type_spec.specs.declared.Isa.TheVariants.{Amd64, Aarch64, Riscv}
 use Rattle.ffi3_type_spec.specs.declared.limits.TheConstants.{STACK, RETURN}
@@ -11,9 +11,11 @@ use Rattle.ffi3_place_spec.specs.declared.Loc.TheVariants.{G, F}
 use Rattle.ffi3_place_spec.specs.MachineRegisters.{pushed_bytes}
 use Rattle.ffi3_place_spec.specs.StubRegisters.{call_scratch, entry_scratch, exit_scratch, call_loads}
 use Rattle.ffi3_place_spec.specs.StubRegisters.{entry_stores, callee_saved_words, stub_area, area_bytes, result_loads}
-use Rattle.ffi3_machine.specs.State.{State, x_of, stack_at, lowered}
+use Rattle.ffi3_machine_spec.specs.declared.stub.TheConstants.{AREA_AT, CALLEE_AT, CALL_SP_AT}
+use Rattle.ffi3_machine_spec.specs.declared.stub.TheConstants.{ENTRY_SP_AT, REGISTERS_END, RETURN_SP_AT}
+use Rattle.ffi3_machine_spec.specs.State.{State, x_of, stack_at, lowered}
 use Rattle.ffi3_machine.specs.MachineStep.{even}
-use Rattle.ffi3_machine.specs.Stubs.{StubName, Call, Entry, Exit, Return, exchanged_at}
+use Rattle.ffi3_machine_spec.specs.Stubs.{StubName, Call, Entry, Exit, Return, exchanged_at}
 use Rattle.ffi3_stubs.specs.Effects.{held, held_in, amd64_called, amd64_entered, amd64_left, amd64_returned}
 use Rattle.ffi3_stubs.specs.Effects.{aarch64_called, aarch64_entered, aarch64_left, aarch64_returned, riscv_called}
 use Rattle.ffi3_stubs.specs.Effects.{riscv_entered, riscv_left, riscv_returned}
@@ -121,7 +123,7 @@ IsLinked Riscv s = slice_index s.general 1 ≡ RETURN
 
 -- where Exit goes
 abbrev pub left_to : Isa → State → State → ℕ
-left_to Amd64 before after = number_of 8 (stack_at (x_of 536 before + area_bytes Amd64) 8 before)
+left_to Amd64 before after = number_of 8 (stack_at (x_of AREA_AT before + area_bytes Amd64) 8 before)
 left_to Aarch64 before after = slice_index after.general 30
 left_to Riscv before after = even (slice_index after.general 1)
 
@@ -129,11 +131,11 @@ left_to Riscv before after = even (slice_index after.general 1)
 pub record HasCalled (isa : Isa) (before after : State) : Type 0 where
   pub loaded : CameFromExchange (call_loads isa) before after
   pub others : OthersStay (call_scratch isa ++ call_loads isa) before after
-  pub sp : after.sp ≡ x_of 520 before - pushed_bytes isa
-  pub pc : after.pc ≡ target_of isa (x_of 512 before)
+  pub sp : after.sp ≡ x_of CALL_SP_AT before - pushed_bytes isa
+  pub pc : after.pc ≡ target_of isa (x_of CALLEE_AT before)
   pub link : IsLinked isa after
-  pub stack : after.stack ≡ called_stack isa (x_of 520 before) before.stack
-  pub mark : after.mark ≡ lowered before.mark (x_of 520 before - pushed_bytes isa) (pushed_bytes isa)
+  pub stack : after.stack ≡ called_stack isa (x_of CALL_SP_AT before) before.stack
+  pub mark : after.mark ≡ lowered before.mark (x_of CALL_SP_AT before - pushed_bytes isa) (pushed_bytes isa)
   pub rest : after
       ≡ record before {
         general = after.general;
@@ -154,9 +156,9 @@ pub record HasEntered (isa : Isa) (before after : State) : Type 0 where
       → get_or after.stack i 0 ≡ get_or before.stack i 0
   pub mark : after.mark ≡ min before.mark (before.sp - area_bytes isa)
   pub stored : WentToExchange (entry_stores isa) before after
-  pub beyond : (at : ℕ) → 512 ≤ at → exchange_bytes at after ≡ exchange_bytes at before
+  pub beyond : (at : ℕ) → REGISTERS_END ≤ at → exchange_bytes at after ≡ exchange_bytes at before
   pub others : OthersStay (entry_scratch isa) before after
-  pub sp : after.sp ≡ x_of 528 before
+  pub sp : after.sp ≡ x_of ENTRY_SP_AT before
   pub rest : after
       ≡ record before {
         general = after.general;
@@ -170,10 +172,10 @@ pub record HasEntered (isa : Isa) (before after : State) : Type 0 where
 
 -- after run_exit
 pub record HasLeft (isa : Isa) (before after : State) : Type 0 where
-  pub restored : CameFromArea (x_of 536 before) (callee_saved_words isa) before after
+  pub restored : CameFromArea (x_of AREA_AT before) (callee_saved_words isa) before after
   pub loaded : CameFromExchange (result_loads isa) before after
   pub others : OthersStay (exit_scratch isa ++ (callee_saved_words isa ++ result_loads isa)) before after
-  pub sp : after.sp ≡ x_of 536 before + area_bytes isa + pushed_bytes isa
+  pub sp : after.sp ≡ x_of AREA_AT before + area_bytes isa + pushed_bytes isa
   pub pc : after.pc ≡ left_to isa before after
   pub rest : after
       ≡ record before {
@@ -187,9 +189,9 @@ pub record HasLeft (isa : Isa) (before after : State) : Type 0 where
 -- after run_return
 pub record HasReturned (isa : Isa) (before after : State) : Type 0 where
   pub stored : WentToExchange (result_loads isa) before after
-  pub beyond : (at : ℕ) → 512 ≤ at → exchange_bytes at after ≡ exchange_bytes at before
+  pub beyond : (at : ℕ) → REGISTERS_END ≤ at → exchange_bytes at after ≡ exchange_bytes at before
   pub others : OthersStay (exit_scratch isa) before after
-  pub sp : after.sp ≡ x_of 544 before
+  pub sp : after.sp ≡ x_of RETURN_SP_AT before
   pub rest : after
       ≡ record before {
         general = after.general;

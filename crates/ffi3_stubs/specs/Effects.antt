@@ -1,7 +1,7 @@
 -- What stubs do to the machine, segment by segment.
 use Rattle.std.specs.Prelude.{ℕ, ◌+◌, ◌-◌, ◌%◌, ◌^◌, min, List, [], ◌∷◌, length, slice_index, slice_set}
 use Rattle.std.specs.List.{replace_range}
-use Rattle.ffi3_memory.specs.Memory.{number_of, low_bytes}
+use Rattle.ffi3_machine_spec.specs.Memory.{number_of, low_bytes}
 use Rattle.ffi3_type_spec.specs.declared.Isa.{Isa}
 use Rattle.ffi3_type_spec.specs.declared.Isa.TheVariants.{Amd64, Aarch64, Riscv}
 use Rattle.ffi3_type_spec.specs.declared.limits.TheConstants.{STACK}
@@ -10,10 +10,11 @@ use Rattle.ffi3_place_spec.specs.declared.Loc.TheVariants.{G, F, S}
 use Rattle.ffi3_place_spec.specs.MachineRegisters.{stack_pointer}
 use Rattle.ffi3_place_spec.specs.StubRegisters.{call_loads, callee_saved_words, stub_area, entry_stores}
 use Rattle.ffi3_place_spec.specs.StubRegisters.{area_bytes, result_loads}
-use Rattle.ffi3_machine.specs.declared.stub.TheConstants.{EXCHANGE}
-use Rattle.ffi3_machine.specs.State.{State, x_of, stack_at}
+use Rattle.ffi3_machine_spec.specs.declared.stub.TheConstants.{EXCHANGE, AREA_AT, CALLEE_AT, CALL_SP_AT}
+use Rattle.ffi3_machine_spec.specs.declared.stub.TheConstants.{ENTRY_SP_AT, RETURN_SP_AT}
+use Rattle.ffi3_machine_spec.specs.State.{State, x_of, stack_at}
 use Rattle.ffi3_machine.specs.MachineStep.{even}
-use Rattle.ffi3_machine.specs.Stubs.{load, size_of, exchanged_at}
+use Rattle.ffi3_machine_spec.specs.Stubs.{load, size_of, exchanged_at}
 
 -- the count after one instruction more
 abbrev pub counted : State → ℕ
@@ -128,13 +129,13 @@ popped s = record s {
 
 -- from the first address of Call
 abbrev pub amd64_placed : State → State
-amd64_placed s = with_sp_by 7 (x_of 520 s) (addressed 7 11 s)
+amd64_placed s = with_sp_by 7 (x_of CALL_SP_AT s) (addressed 7 11 s)
 
 abbrev pub amd64_loaded : State → State
 amd64_loaded s = from_exchange Amd64 11 (call_loads Amd64) (amd64_placed s)
 
 abbrev pub amd64_called : State → State
-amd64_called s = pushed 7 (x_of 512 (amd64_loaded s)) (amd64_loaded s)
+amd64_called s = pushed 7 (x_of CALLEE_AT (amd64_loaded s)) (amd64_loaded s)
 
 -- from the first address of Entry
 abbrev pub amd64_saved : State → State
@@ -144,11 +145,11 @@ abbrev pub amd64_passed : State → State
 amd64_passed s = to_exchange Amd64 11 (entry_stores Amd64) (addressed 7 11 (amd64_saved s))
 
 abbrev pub amd64_entered : State → State
-amd64_entered s = with_sp_by 7 (x_of 528 (amd64_passed s)) (amd64_passed s)
+amd64_entered s = with_sp_by 7 (x_of ENTRY_SP_AT (amd64_passed s)) (amd64_passed s)
 
 -- from the first address of Exit
 abbrev pub amd64_restored : State → State
-amd64_restored s = from_area Amd64 0 (callee_saved_words Amd64) (with_sp_by 7 (x_of 536 s) (addressed 7 11 s))
+amd64_restored s = from_area Amd64 0 (callee_saved_words Amd64) (with_sp_by 7 (x_of AREA_AT s) (addressed 7 11 s))
 
 abbrev pub amd64_given : State → State
 amd64_given s = from_exchange Amd64 11 (result_loads Amd64) (amd64_restored s)
@@ -161,7 +162,7 @@ abbrev pub amd64_taken : State → State
 amd64_taken s = to_exchange Amd64 11 (result_loads Amd64) (addressed 7 11 s)
 
 abbrev pub amd64_returned : State → State
-amd64_returned s = with_sp_by 7 (x_of 544 (amd64_taken s)) (amd64_taken s)
+amd64_returned s = with_sp_by 7 (x_of RETURN_SP_AT (amd64_taken s)) (amd64_taken s)
 
 -- ---- AArch64
 
@@ -171,14 +172,14 @@ aarch64_sp k at s = with_sp_by 4 (x_of at s) (received 4 (G k) (x_of at s) s)
 
 -- from the first address of Call
 abbrev pub aarch64_placed : State → State
-aarch64_placed s = aarch64_sp 16 520 (addressed 4 17 s)
+aarch64_placed s = aarch64_sp 16 CALL_SP_AT (addressed 4 17 s)
 
 abbrev pub aarch64_loaded : State → State
 aarch64_loaded s = from_exchange Aarch64 17 (call_loads Aarch64) (aarch64_placed s)
 
 abbrev pub aarch64_called : State → State
 aarch64_called s =
-    linked 4 30 (x_of 512 (aarch64_loaded s)) (received 4 (G 16) (x_of 512 (aarch64_loaded s)) (aarch64_loaded s))
+    linked 4 30 (x_of CALLEE_AT (aarch64_loaded s)) (received 4 (G 16) (x_of CALLEE_AT (aarch64_loaded s)) (aarch64_loaded s))
 
 -- from the first address of Entry
 abbrev pub aarch64_saved : State → State
@@ -188,11 +189,11 @@ abbrev pub aarch64_passed : State → State
 aarch64_passed s = to_exchange Aarch64 16 (entry_stores Aarch64) (addressed 4 16 (aarch64_saved s))
 
 abbrev pub aarch64_entered : State → State
-aarch64_entered s = aarch64_sp 16 528 (aarch64_passed s)
+aarch64_entered s = aarch64_sp 16 ENTRY_SP_AT (aarch64_passed s)
 
 -- from the first address of Exit
 abbrev pub aarch64_restored : State → State
-aarch64_restored s = from_area Aarch64 0 (callee_saved_words Aarch64) (aarch64_sp 17 536 (addressed 4 16 s))
+aarch64_restored s = from_area Aarch64 0 (callee_saved_words Aarch64) (aarch64_sp 17 AREA_AT (addressed 4 16 s))
 
 abbrev pub aarch64_given : State → State
 aarch64_given s = from_exchange Aarch64 16 (result_loads Aarch64) (aarch64_restored s)
@@ -206,20 +207,20 @@ abbrev pub aarch64_taken : State → State
 aarch64_taken s = to_exchange Aarch64 16 (result_loads Aarch64) (addressed 4 16 s)
 
 abbrev pub aarch64_returned : State → State
-aarch64_returned s = aarch64_sp 17 544 (aarch64_taken s)
+aarch64_returned s = aarch64_sp 17 RETURN_SP_AT (aarch64_taken s)
 
 -- ---- RISC-V
 
 -- from the first address of Call
 abbrev pub riscv_placed : State → State
-riscv_placed s = with_sp_by 4 (x_of 520 s) (addressed_twice 6 s)
+riscv_placed s = with_sp_by 4 (x_of CALL_SP_AT s) (addressed_twice 6 s)
 
 abbrev pub riscv_loaded : State → State
 riscv_loaded s = from_exchange Riscv 6 (call_loads Riscv) (riscv_placed s)
 
 abbrev pub riscv_called : State → State
 riscv_called s =
-    linked 4 1 (even (x_of 512 (riscv_loaded s))) (received 4 (G 7) (x_of 512 (riscv_loaded s)) (riscv_loaded s))
+    linked 4 1 (even (x_of CALLEE_AT (riscv_loaded s))) (received 4 (G 7) (x_of CALLEE_AT (riscv_loaded s)) (riscv_loaded s))
 
 -- from the first address of Entry
 abbrev pub riscv_saved : State → State
@@ -229,11 +230,11 @@ abbrev pub riscv_passed : State → State
 riscv_passed s = to_exchange Riscv 7 (entry_stores Riscv) (addressed_twice 7 (riscv_saved s))
 
 abbrev pub riscv_entered : State → State
-riscv_entered s = with_sp_by 4 (x_of 528 (riscv_passed s)) (riscv_passed s)
+riscv_entered s = with_sp_by 4 (x_of ENTRY_SP_AT (riscv_passed s)) (riscv_passed s)
 
 -- from the first address of Exit
 abbrev pub riscv_restored : State → State
-riscv_restored s = from_area Riscv 0 (callee_saved_words Riscv) (with_sp_by 4 (x_of 536 s) (addressed_twice 6 s))
+riscv_restored s = from_area Riscv 0 (callee_saved_words Riscv) (with_sp_by 4 (x_of AREA_AT s) (addressed_twice 6 s))
 
 abbrev pub riscv_given : State → State
 riscv_given s = from_exchange Riscv 6 (result_loads Riscv) (riscv_restored s)
@@ -247,4 +248,4 @@ abbrev pub riscv_taken : State → State
 riscv_taken s = to_exchange Riscv 6 (result_loads Riscv) (addressed_twice 6 s)
 
 abbrev pub riscv_returned : State → State
-riscv_returned s = with_sp_by 4 (x_of 544 (riscv_taken s)) (riscv_taken s)
+riscv_returned s = with_sp_by 4 (x_of RETURN_SP_AT (riscv_taken s)) (riscv_taken s)

@@ -5,8 +5,8 @@ use Rattle.std.specs.List.{flat_map}
 use Rattle.std.proofs.lemmas.List.{drop_more, drop_all}
 use Rattle.ffi3_type_spec.specs.declared.Isa.{Isa}
 use Rattle.ffi3_place_spec.specs.declared.Piece.{Piece}
-use Rattle.ffi3_text.specs.declared.place.Part.{Part}
-use Rattle.ffi3_text.specs.PlaceLines.{joined_to, longer, part_of, register_part_text, register_texts, stands_above}
+use Rattle.ffi3_text_spec.specs.declared.Part.{Part}
+use Rattle.ffi3_text_spec.specs.PlaceLines.{joined_to, longer, part_of, register_part_text, register_texts, stands_above}
 
 module _ (isa : Isa) where
   -- the texts of parts

@@ -13,8 +13,8 @@ use Rattle.ffi3_place_spec.specs.declared.Ext.TheVariants.{Free}
 use Rattle.ffi3_place_spec.specs.declared.Piece.{Piece}
 use Rattle.ffi3_place_spec.specs.declared.Place.TheVariants.{Direct, ByRef}
 use Rattle.ffi3_place_spec.specs.declared.Res.TheVariants.{Direct as DirectRes, Hidden}
-use Rattle.ffi3_text.specs.LayoutLines.{layout_text_of}
-use Rattle.ffi3_text.specs.PlaceLines.{argument_text, result_text, vectors_text}
+use Rattle.ffi3_text_spec.specs.LayoutLines.{layout_text_of}
+use Rattle.ffi3_text_spec.specs.PlaceLines.{argument_text, result_text, vectors_text}
 use Rattle.ffi3_text.specs.TraceLines.{enter_text_of, leave_text_of, register_text}
 
 abbrev sig_of : Tree → List Tree → Signature

@@ -1,4 +1,1 @@
-pub mod Registers
-pub mod LayoutLines
-pub mod PlaceLines
 pub mod TraceLines

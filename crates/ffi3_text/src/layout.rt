@@ -4,7 +4,7 @@ ghost use Rattle.ffi3_type_spec.specs.Fault.{IsLaidOut};
 ghost use Rattle.ffi3_type_spec.specs.Signature.{SignatureHasNoFault, at_result, at_argument};
 ghost use Rattle.ffi3_types.specs.TreeOf.{tree_of};
 ghost use Rattle.ffi3_types.specs.SignatureFaultOf.{position_of};
-ghost use Rattle.ffi3_text.specs.LayoutLines.{IsIn, at_text, sized_text, type_layout_text, layout_text_of};
+ghost use Rattle.ffi3_text_spec.specs.LayoutLines.{IsIn, at_text, sized_text, type_layout_text, layout_text_of};
 
 use ffi3_types::{At, Bytes, CheckedSig, CheckedType, FfiType, Leaf, NoMemory, Sig, type_text};
 use std::alloc::Global;

@@ -4,14 +4,15 @@ ghost use Rattle.std.specs.Fmt.{decimal};
 ghost use Rattle.ffi3_type_spec.specs.Signature.{at_result, at_argument};
 ghost use Rattle.ffi3_type_spec.specs.TargetIsa.{isa_of};
 ghost use Rattle.ffi3_types.specs.SignatureFaultOf.{position_of};
-ghost use Rattle.ffi3_text.specs.LayoutLines.{IsIn};
+ghost use Rattle.ffi3_text_spec.specs.LayoutLines.{IsIn};
 ghost use Rattle.ffi3_place_spec.specs.MachineRegisters.{word_below};
-ghost use Rattle.ffi3_text.specs.PlaceLines.{is_on_stack, is_numbered, longer, part_of, piece_text, stands_above, register_part_text, register_texts, first_on_stack, stack_length, bytes_on_stack, stack_text, pieces_text, argument_text, result_text, place_text_of, vectors_text, sig_text_of};
+ghost use Rattle.ffi3_text_spec.specs.PlaceLines.{is_on_stack, is_numbered, longer, part_of, piece_text, stands_above, register_part_text, register_texts, first_on_stack, stack_length, bytes_on_stack, stack_text, pieces_text, argument_text, result_text, place_text_of, vectors_text, sig_text_of};
 
 use crate::names::write_loc;
 use crate::numbers::write_labelled;
 use ffi3_cif::Placed;
 use ffi3_place::{Abi, Loc, Piece, Pieces, Place, Res};
+use ffi3_text_spec::Part;
 use ffi3_type_spec::Isa;
 use ffi3_types::{At, Bytes, NoMemory};
 use itoa::Buffer;
@@ -151,14 +152,6 @@ fn write_registers(isa: Isa, pieces: &Pieces, text: &mut Bytes) -> Result<(), No
         }
     }
     write_register(isa, part, text)
-}
-
-/// A piece, or more than one in words of one register.
-#[derive(Clone, Copy)]
-pub struct Part {
-    loc: Loc,
-    off: u32,
-    len: u128,
 }
 
 /// A piece's length.

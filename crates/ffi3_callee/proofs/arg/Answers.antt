@@ -5,8 +5,8 @@ use Rattle.ffi3_type_spec.specs.Tree.{tree_at}
 use Rattle.ffi3_type_spec.specs.Value.{value_in, void_value}
 use Rattle.ffi3_type_spec.proofs.Layouts.{least_multiple-above}
 use Rattle.ffi3_place_spec.specs.Standard.{block_bytes}
-use Rattle.ffi3_machine.specs.State.{stack_at}
-use Rattle.ffi3_body.specs.SeenActivation.{block_offset}
+use Rattle.ffi3_machine_spec.specs.State.{stack_at}
+use Rattle.ffi3_semantics_spec.specs.SeenActivation.{block_offset}
 use Rattle.ffi3_body.proofs.Blocks.{argument_here, whole_within}
 use Rattle.ffi3_callee.proofs.Placing.{stack_inside}
 use Rattle.ffi3_callee.proofs.arg.Goals as goal

@@ -8,7 +8,7 @@ use Rattle.ffi3_place_spec.specs.Standard.{block_bytes, frame_of, plan_of, round
 use Rattle.ffi3_type_spec.specs.declared.limits.TheConstants.{STACK_TOP}
 use Rattle.ffi3_machine_transfer.specs.Passing.{passing}
 use Rattle.ffi3_marshal.proofs.Arguments.{lies_more}
-use Rattle.ffi3_body.specs.SeenActivation.{block_offset}
+use Rattle.ffi3_semantics_spec.specs.SeenActivation.{block_offset}
 use Rattle.ffi3_body.proofs.Blocks.{whole_within}
 use Rattle.ffi3_callee.proofs.Copying.{all_copied, found_at, found_stays, one_more_copied, ready_at}
 use Rattle.ffi3_callee.proofs.copy_arguments.Goals as goal
@@ -84,7 +84,7 @@ loop-i-preserved g c =
     let below : c.loop-i.i < length s.arguments = omega (arith, c.loop-i-test.true, c.count-i-end.ensures.value, ap (λ r. length r.arguments) c.checked_sig-sig.ensures.value) in
     let type_is = c.arg-ty.ensures ∙ ap (λ r. tree_at r.arguments c.loop-i.i) c.checked_sig-sig.ensures.value in
     let next_is : c.loop-i.to + c.round_up-to.result ≡ c.loop-i.to + round8 (size_of t) = ap (λ n. c.loop-i.to + n) (c.round_up-to.ensures.value ∙ ap round8 c.size.ensures.value) in
-    one_more_copied std s c.args.base c.args.block (passing c.args.machine.now) c.loop-i.i c.loop-i.to (c.loop-i.to + c.round_up-to.result) t c.place.result.now (passing c.loop-i.machine) (passing c.copy_argument.new.machine) c.requires.low c.requires.below c.requires.high c.sp-m.ensures.machine.stack sound c.checked_sig-sig.ensures.faultless below type_is c.place.ensures next_is c.copy_argument.ensures.read c.copy_argument.ensures.only c.loop-i.invariant
+    one_more_copied std s c.args.base c.args.block (passing c.args.machine.now) c.loop-i.i c.loop-i.to (c.loop-i.to + c.round_up-to.result) t c.place.result.now (passing c.loop-i.machine) (passing c.copy_argument.new.machine) c.requires.low c.requires.below c.requires.high c.facts.ensures.stack sound c.checked_sig-sig.ensures.faultless below type_is c.place.ensures next_is c.copy_argument.ensures.read c.copy_argument.ensures.only c.loop-i.invariant
 
 pub returns-clause-values : goal.returns-clause-values
 returns-clause-values g c =

@@ -2,7 +2,7 @@ use Rattle.std.proofs.Common.{◌≡◌, ◌+◌, ◌<◌, ◌≤◌, length, ap
 use Rattle.ffi3_type_spec.specs.Layout.{size_of}
 use Rattle.ffi3_type_spec.specs.Signature.{SignatureHasNoFault}
 use Rattle.ffi3_place_spec.specs.Standard.{block_bytes, round8}
-use Rattle.ffi3_body.specs.SeenActivation.{block_offset}
+use Rattle.ffi3_semantics_spec.specs.SeenActivation.{block_offset}
 use Rattle.ffi3_body.proofs.Blocks.{block_small, offset-turn, whole_within}
 use Rattle.ffi3_callee.proofs.offset_of.Goals as goal
 

@@ -3,7 +3,7 @@ use Rattle.ffi3_type_spec.specs.TargetIsa.{isa_of}
 use Rattle.ffi3_type_spec.proofs.Placed.{faultless_is_plain}
 use Rattle.ffi3_place_spec.specs.Holds.{OwnsArguments}
 use Rattle.ffi3_place_spec.specs.Standard.{block_bytes, frame_of, plan_of}
-use Rattle.ffi3_machine.specs.State.{scribbled, scribbled_floating, scribbled_general}
+use Rattle.ffi3_machine_spec.specs.State.{scribbled, scribbled_floating, scribbled_general}
 use Rattle.ffi3_machine_transfer.specs.Passing.{by_exchange, passing}
 use Rattle.ffi3_callee.specs.Entered.{IsEntered, entered_if}
 use Rattle.ffi3_callee.specs.Loaded.{AreFound, image_from}
@@ -104,7 +104,7 @@ returns-clause-general g c =
     let target_is = copies.within.target ∙ entered.within.target in
     let same = c.requires.target ∙ sym g.met.A.Abi.target_is in
     let number : c.len-number.result ≡ length m.events = c.len-number.ensures ∙ ap (λ j. length j.events) c.events.ensures ∙ ap length (copies.within.events ∙ entered.events) in
-    let own = own_list b d c.sp-entered.ensures.machine c.sp-copied.ensures.machine (c.sp-entry.result - c.SAVE.result - c.block.result) (c.sp-entry.result - c.SAVE.result - c.block.result + block_bytes c.args.cif.now) copies in
+    let own = own_list b d c.facts.ensures c.facts-2.ensures (c.sp-entry.result - c.SAVE.result - c.block.result) (c.sp-entry.result - c.SAVE.result - c.block.result + block_bytes c.args.cif.now) copies in
     ap (λ q. q.general) c.scribble.ensures ∙ ap (λ t. scribbled_general (isa_of t) c.len-number.result d.general) target_is ∙ ap (λ n. scribbled_general (isa_of m.target) n d.general) number ∙ ap (scribbled_general (isa_of m.target) (length m.events)) own ∙ scribbled_alike std g.met.A.Abi.agrees (length m.events) m b same entered.reserved
 
 pub returns-clause-floating : goal.returns-clause-floating
@@ -123,7 +123,7 @@ returns-clause-reserved g c =
     let copies = c.copy_arguments.ensures.only in
     let entered = c.enter.ensures.entered in
     let target_is = copies.within.target ∙ entered.within.target ∙ c.requires.target ∙ sym g.met.A.Abi.target_is in
-    let still = own_reserved_of b d c.sp-entered.ensures.machine c.sp-copied.ensures.machine std g.met.A.Abi.agrees (c.sp-entry.result - c.SAVE.result - c.block.result) (c.sp-entry.result - c.SAVE.result - c.block.result + block_bytes c.args.cif.now) copies in
+    let still = own_reserved_of b d c.facts.ensures c.facts-2.ensures std g.met.A.Abi.agrees (c.sp-entry.result - c.SAVE.result - c.block.result) (c.sp-entry.result - c.SAVE.result - c.block.result + block_bytes c.args.cif.now) copies in
     reserved_then std m d c.scribble.new.self (reserved_then std m b d entered.reserved still) (reserved_scribbled std g.met.A.Abi.agrees c.len-number.result d c.scribble.new.self target_is c.scribble.ensures)
 
 pub returns-clause-block : goal.returns-clause-block
@@ -143,6 +143,6 @@ returns-clause-whole g c =
     let there = stands std s m c.sp-entry.result c.LINK.result c.SAVE.result c.block.result c.hidden_place-hidden.result c.result_place.result.now c.sp-entry.ensures.value (c.LINK.ensures ∙ sym g.met.A.Abi.link_is) (c.SAVE.ensures ∙ sym g.met.A.Abi.save_is) c.block.ensures c.hidden_place-hidden.ensures c.result_place.ensures c.requires.room in
     let at : c.sp-entry.result - c.SAVE.result - c.block.result ≡ m.sp - std.save - block_bytes s = omega (arith, there.block_is, there.area_is, c.requires.room) in
     let number : c.len-number.result ≡ length m.events = c.len-number.ensures ∙ ap (λ j. length j.events) c.events.ensures ∙ ap length (copies.within.events ∙ c.enter.ensures.entered.events) in
-    let beside = only_written b d c.sp-entered.ensures.machine c.sp-copied.ensures.machine (c.sp-entry.result - c.SAVE.result - c.block.result) (c.sp-entry.result - c.SAVE.result - c.block.result + block_bytes s) copies in
+    let beside = only_written b d c.facts.ensures c.facts-2.ensures (c.sp-entry.result - c.SAVE.result - c.block.result) (c.sp-entry.result - c.SAVE.result - c.block.result + block_bytes s) copies in
     let callee = c.enter.ensures.whole ∙ ap (λ h. entered_if (by_exchange m.target) std h block m) there.hidden_is ∙ ap (λ k. entered_if (by_exchange m.target) std (hidden_of (plan_of std s).res) k m) at in
     scribbled_beside (length m.events) b d r _ (c.scribble.ensures ∙ ap (λ n. scribbled n d) number) beside callee

@@ -4,7 +4,7 @@ use Rattle.ffi3_type_spec.specs.Value.{value_in}
 use Rattle.ffi3_type_spec.proofs.Placed.{faultless_is_plain}
 use Rattle.ffi3_place_spec.specs.Standard.{plan_of, frame_of}
 use Rattle.ffi3_place_spec.proofs.OnMachine.{as_before}
-use Rattle.ffi3_machine.specs.State.{stack_at}
+use Rattle.ffi3_machine_spec.specs.State.{stack_at}
 use Rattle.ffi3_caller.specs.Called.{at_frame, frame_start}
 use Rattle.ffi3_caller.proofs.Framing.{loaded_moved}
 use Rattle.ffi3_machine_transfer.specs.Passing.{passing}

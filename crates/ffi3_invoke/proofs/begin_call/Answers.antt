@@ -42,4 +42,4 @@ returns-clause-begun g c =
     let e = c.accept.ensures in
     let passed = c.pass_arguments.ensures in
     let in_callee = e.in_callee passed.return_address (omega (arith, c.requires.events, passed.spare_events)) (omega (arith, c.requires.bytes, passed.spare_bytes)) in
-    begun std s g.met.A.Abi.agrees c.args.values.now c.args.ptr c.args.machine.now c.pass_arguments.new.machine c.accept.new.machine c.sp-sp.ensures.machine.stack c.requires.room c.requires.top passed e.events e.received e.sp e.within e.reserved e.spare_events e.spare_bytes e.steps in_callee
+    begun std s g.met.A.Abi.agrees c.args.values.now c.args.ptr c.args.machine.now c.pass_arguments.new.machine c.accept.new.machine c.facts.ensures.stack c.requires.room c.requires.top passed e.events e.received e.sp e.within e.reserved e.spare_events e.spare_bytes e.steps in_callee

@@ -3,7 +3,7 @@ use Rattle.ffi3_type_spec.specs.declared.limits.TheConstants.{STACK, STACK_TOP}
 use Rattle.ffi3_machine_transfer.specs.Passing.{passing}
 use Rattle.ffi3_type_spec.specs.Layout.{size_of}
 use Rattle.ffi3_values.specs.ValueOf.{value_of}
-use Rattle.ffi3_machine.specs.State.{stack_at}
+use Rattle.ffi3_machine_spec.specs.State.{stack_at}
 use Rattle.ffi3_machine_transfer.specs.Stored.{IsPlace}
 use Rattle.ffi3_machine_transfer.specs.Standing.{IsCopied}
 use Rattle.ffi3_machine_transfer.proofs.Imaged.{copied_there, taken, within_there}
@@ -11,7 +11,7 @@ use Rattle.ffi3_machine_transfer.proofs.store_copy.Goals as goal
 
 pub store_copy-requires-clause-lies : goal.store_copy-requires-clause-lies
 store_copy-requires-clause-lies c =
-    let room : length (passing c.args.machine.now).stack - (c.address-first.result - STACK) ≡ STACK_TOP - c.args.base = omega (arith, c.address-first.ensures.value, c.address-first.ensures.low, c.address-first.ensures.high, c.sp-m.ensures.machine.stack) in
+    let room : length (passing c.args.machine.now).stack - (c.address-first.result - STACK) ≡ STACK_TOP - c.args.base = omega (arith, c.address-first.ensures.value, c.address-first.ensures.low, c.address-first.ensures.high, c.facts.ensures.stack) in
     subst (λ n. IsPlace n c.args.at) (sym room) c.requires.lies
 
 pub store_copy-requires-clause-takes : goal.store_copy-requires-clause-takes
@@ -24,9 +24,9 @@ returns c =
     let at_base : c.args.base ≡ STACK + (c.address-first.result - STACK) = omega (arith, c.address-first.ensures.value, c.address-first.ensures.low) in
     let old = passing c.args.machine.now in
     let new = passing c.store_copy.new.state.machine.now in
-    let room : length (passing c.args.machine.now).stack - (c.address-first.result - STACK) ≡ STACK_TOP - c.args.base = omega (arith, c.address-first.ensures.value, c.address-first.ensures.low, c.address-first.ensures.high, c.sp-m.ensures.machine.stack) in
+    let room : length (passing c.args.machine.now).stack - (c.address-first.result - STACK) ≡ STACK_TOP - c.args.base = omega (arith, c.address-first.ensures.value, c.address-first.ensures.low, c.address-first.ensures.high, c.facts.ensures.stack) in
     let sized : length c.write_bytes.new.out ≡ size_of c.args.ty.now = search rules in
-    let fits : c.args.base + c.args.copy - STACK + size_of c.args.ty.now ≤ length c.args.machine.now.stack = omega (arith, c.address-first.ensures.low, c.requires.high, c.sp-m.ensures.machine.stack) in
+    let fits : c.args.base + c.args.copy - STACK + size_of c.args.ty.now ≤ length c.args.machine.now.stack = omega (arith, c.address-first.ensures.low, c.requires.high, c.facts.ensures.stack) in
     let loaded = c.copy_from_slice.ensures.after ∙ (rw c.address-first.ensures.value at c.lend_stack.ensures.value) ∙ ap (λ n. stack_at (c.args.base + c.args.copy) n (passing c.args.machine.now)) c.size-size.ensures.value in
     let ends : c.args.copy + size_of c.args.ty.now ≤ length (passing c.args.machine.now).stack - (c.address-first.result - STACK) = omega (arith, room, c.requires.high) in
     let same = c.store_copy.ensures.within (length old.stack - start) (subst (λ n. IsPlace n c.args.at) (sym room) c.requires.lies) ends in

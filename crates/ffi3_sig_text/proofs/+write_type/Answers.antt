@@ -1,6 +1,6 @@
 use Rattle.std.proofs.Common.{◌≡◌, ◌-◌, ◌++◌, ap, ◌∙◌, arith, [], ◌∷◌, drop}
 use Rattle.ffi3_type_spec.specs.Tree.{tree_at}
-use Rattle.ffi3_sig_text.specs.SigText.{told_text}
+use Rattle.ffi3_format_spec.specs.SigText.{told_text}
 use Rattle.ffi3_sig_text.proofs.Texts.{texts_before, texts_before-text, range-none, range-first, range-next}
 use Rattle.ffi3_types.specs.TreeOf.{tree_of}
 use Rattle.ffi3_sig_text.proofs.+write_type.Goals as goal

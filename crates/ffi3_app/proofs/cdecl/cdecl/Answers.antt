@@ -3,7 +3,7 @@ use Rattle.std.specs.Prelude.{Err}
 use Rattle.ffi3_type_spec.specs.Text.{signature_text}
 use Rattle.ffi3_semantics_spec.specs.Lines.{a_line}
 use Rattle.ffi3_cdecl_spec.specs.Canonical.{declaration_text}
-use Rattle.ffi3_app.specs.Declarations.{cdecl_text}
+use Rattle.ffi3_app_spec.specs.Declarations.{cdecl_text}
 use Rattle.ffi3_app.proofs.Pieces.{continues_from, continues_on, continues_ended, continues_last}
 use Rattle.ffi3_app.proofs.cdecl.cdecl.Goals as goal
 

@@ -7,7 +7,7 @@ use Rattle.ffi3_format_spec.specs.Format.{resolved_signature}
 use Rattle.ffi3_cdecl_spec.specs.Tokens.{signed}
 use Rattle.ffi3_names_spec.specs.Scan.{names_in}
 use Rattle.ffi3_names.specs.NamesOf.{names_of}
-use Rattle.ffi3_app.specs.Declarations.{prototype_lines, cplace_text, every_target, placed_on}
+use Rattle.ffi3_app_spec.specs.Declarations.{prototype_lines, cplace_text, every_target, placed_on}
 use Rattle.ffi3_app.proofs.Pieces.{Wrote, continues_from, continues_on, continues_ended, continues_last, wrote_for}
 use Rattle.ffi3_app.proofs.cplace.cplace.Goals as goal
 

@@ -4,7 +4,7 @@ use Rattle.std.proofs.lemmas.List.{append-nil}
 use Rattle.std.specs.List.{flat_map}
 use Rattle.ffi3_type_spec.specs.declared.Target.TheVariants.{Amd64, Aapcs64, Riscv, Win64, Apple}
 use Rattle.ffi3_names.specs.NamesOf.{names_of}
-use Rattle.ffi3_app.specs.Declarations.{every_target, placed_on}
+use Rattle.ffi3_app_spec.specs.Declarations.{every_target, placed_on}
 use Rattle.ffi3_app.proofs.Pieces.{continues_from, continues_on, continues_ended, continues_last}
 use Rattle.ffi3_app.proofs.cplace.place_everywhere.Goals as goal
 

@@ -5,7 +5,7 @@ use Rattle.ffi3_type_spec.specs.Signature.{SignatureIsPlaced}
 use Rattle.ffi3_format_spec.specs.Format.{format_of, resolved_signature}
 use Rattle.ffi3_explain_spec.specs.Standards.{standard_of}
 use Rattle.ffi3_names.specs.NamesOf.{names_of}
-use Rattle.ffi3_app.specs.Declarations.{named_lines, placed_on, target_line}
+use Rattle.ffi3_app_spec.specs.Declarations.{named_lines, placed_on, target_line}
 use Rattle.ffi3_app.proofs.Pieces.{continues_from, continues_on, continues_ended, continues_last, wrote_for}
 use Rattle.ffi3_app.proofs.cplace.place_on.Goals as goal
 

@@ -1,9 +1,9 @@
 use Rattle.std.proofs.Common.{rules, ◌≡◌, refl}
 use Rattle.std.specs.Prelude.{Err}
-use Rattle.ffi3_sig_text.specs.SigText.{told_signature}
+use Rattle.ffi3_format_spec.specs.SigText.{told_signature}
 use Rattle.ffi3_semantics_spec.specs.Lines.{a_line}
 use Rattle.ffi3_cdecl_spec.specs.Prototype.{prototype_text}
-use Rattle.ffi3_app.specs.Declarations.{prototype_lines}
+use Rattle.ffi3_app_spec.specs.Declarations.{prototype_lines}
 use Rattle.ffi3_app.proofs.Pieces.{continues_from, continues_on, continues_ended, continues_last}
 use Rattle.ffi3_app.proofs.cplace.prototype.Goals as goal
 

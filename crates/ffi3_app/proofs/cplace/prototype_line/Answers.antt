@@ -1,5 +1,5 @@
 use Rattle.std.proofs.Common.{subst, sym}
-use Rattle.ffi3_sig_text.specs.SigText.{FixesSome}
+use Rattle.ffi3_format_spec.specs.SigText.{FixesSome}
 use Rattle.ffi3_app.proofs.Working.{some_are_fixed}
 use Rattle.ffi3_app.proofs.cplace.prototype_line.Goals as goal
 

@@ -2,8 +2,8 @@ use Rattle.std.proofs.Common.{rules, ◌≤◌, ◌<◌, length, refl}
 use Rattle.std.specs.Prelude.{codes}
 use Rattle.ffi3_semantics_spec.specs.Lines.{a_line}
 use Rattle.ffi3_script_spec.specs.Reading.{max_length}
-use Rattle.ffi3_app.specs.Declarations.{too_many_bytes, not_utf8, IsReadPlainly}
-use Rattle.ffi3_app.specs.Outcome.{outcome_of_input}
+use Rattle.ffi3_app_spec.specs.Declarations.{too_many_bytes, not_utf8, IsReadPlainly}
+use Rattle.ffi3_app_spec.specs.Outcome.{outcome_of_input}
 use Rattle.ffi3_app.proofs.Working.{refused_input, refused_fault, read_is_writable, tells_lent}
 use Rattle.ffi3_app.proofs.declaration.declaration_in.Goals as goal
 

@@ -2,7 +2,7 @@ use Rattle.std.specs.Prelude.{codes}
 use Rattle.ffi3_cdecl.specs.declared.fault.DeclFault.TheVariants.{BadToken, Unexpected, BadNumber}
 use Rattle.ffi3_json.specs.ReasonOf.{reason_of}
 use Rattle.ffi3_script_spec.specs.ReasonText.{text_of_reason}
-use Rattle.ffi3_app.specs.Declarations.{offset_line, reason_line}
+use Rattle.ffi3_app_spec.specs.Declarations.{offset_line, reason_line}
 use Rattle.ffi3_app.proofs.Working.{fault_told_as, reason_told}
 use Rattle.ffi3_app.proofs.declaration.refusal.Goals as goal
 

@@ -2,7 +2,7 @@ use Rattle.std.proofs.Common.{rules, ◌≡◌, ◌∙◌}
 use Rattle.std.specs.Prelude.{Err}
 use Rattle.ffi3_script.specs.ScriptOf.{script_of}
 use Rattle.std.specs.List.{concat}
-use Rattle.ffi3_app.specs.Commands.{layout_lines, layout_text}
+use Rattle.ffi3_app_spec.specs.Commands.{layout_lines, layout_text}
 use Rattle.ffi3_app.proofs.Pieces.{continues_on, continues_ended, continues_done, lines_of, lines_end}
 use Rattle.ffi3_app.proofs.Right.{right_at}
 use Rattle.ffi3_app.proofs.layout.layout.Goals as goal

@@ -1,7 +1,7 @@
 use Rattle.std.proofs.Common.{drop}
 use Rattle.ffi3_script.specs.ScriptOf.{script_of}
 use Rattle.std.specs.List.{concat}
-use Rattle.ffi3_app.specs.Commands.{lines_from, layout_lines, layout_text}
+use Rattle.ffi3_app_spec.specs.Commands.{lines_from, layout_lines, layout_text}
 use Rattle.ffi3_app.proofs.Pieces.{Continues}
 use Rattle.ffi3_app.proofs.layout.layout.Given as goal
 

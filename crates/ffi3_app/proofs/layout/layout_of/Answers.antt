@@ -3,9 +3,9 @@ use Rattle.std.specs.Prelude.{Err}
 use Rattle.std.proofs.lemmas.List.{append-nil}
 use Rattle.ffi3_type_spec.specs.Signature.{at_result, at_argument}
 use Rattle.ffi3_type_spec.specs.Tree.{void}
-use Rattle.ffi3_text.specs.LayoutLines.{layout_text_of}
+use Rattle.ffi3_text_spec.specs.LayoutLines.{layout_text_of}
 use Rattle.std.specs.List.{concat}
-use Rattle.ffi3_app.specs.Commands.{layout_lines, arguments_from}
+use Rattle.ffi3_app_spec.specs.Commands.{layout_lines, arguments_from}
 use Rattle.ffi3_app.proofs.Pieces.{continues_from, continues_on, continues_ended, continues_done, argument_at, arguments_end, line_for}
 use Rattle.ffi3_app.proofs.layout.layout_of.Goals as goal
 

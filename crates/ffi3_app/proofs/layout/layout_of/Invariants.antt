@@ -1,7 +1,7 @@
 use Rattle.std.proofs.Common.{drop, [], map, ◌++◌}
-use Rattle.ffi3_text.specs.LayoutLines.{layout_text_of}
+use Rattle.ffi3_text_spec.specs.LayoutLines.{layout_text_of}
 use Rattle.std.specs.List.{concat}
-use Rattle.ffi3_app.specs.Commands.{layout_lines, arguments_from}
+use Rattle.ffi3_app_spec.specs.Commands.{layout_lines, arguments_from}
 use Rattle.ffi3_app.proofs.Pieces.{Continues}
 use Rattle.ffi3_app.proofs.layout.layout_of.Given as goal
 

@@ -1,5 +1,5 @@
 use Rattle.ffi3_types.specs.SignatureFaultOf.{signature_fault_of}
-use Rattle.ffi3_app.specs.Declarations.{fault_words}
+use Rattle.ffi3_app_spec.specs.Declarations.{fault_words}
 use Rattle.ffi3_app.proofs.marking.fault_line.Goals as goal
 
 pub returns : goal.returns

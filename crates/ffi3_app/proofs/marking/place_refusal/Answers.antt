@@ -1,7 +1,7 @@
 use Rattle.std.specs.Prelude.{codes}
 use Rattle.ffi3_cdecl.specs.declared.fault.DeclFault.TheVariants.{BadToken, Unexpected, BadNumber, Sig}
 use Rattle.ffi3_types.specs.SignatureFaultOf.{signature_fault_of}
-use Rattle.ffi3_app.specs.Declarations.{marked_line, unexpected_line, fault_line}
+use Rattle.ffi3_app_spec.specs.Declarations.{marked_line, unexpected_line, fault_line}
 use Rattle.ffi3_app.proofs.Working.{marked_as, place_told_as}
 use Rattle.ffi3_app.proofs.marking.place_refusal.Goals as goal
 

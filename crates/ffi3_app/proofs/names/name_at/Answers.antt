@@ -1,4 +1,4 @@
-use Rattle.ffi3_next_move.specs.Handed.{handed}
+use Rattle.ffi3_script_spec.specs.Handed.{handed}
 use Rattle.ffi3_app.proofs.Naming.{name_here}
 use Rattle.ffi3_app.proofs.names.name_at.Goals as goal
 

@@ -1,5 +1,5 @@
 use Rattle.std.proofs.Common.{rules}
-use Rattle.ffi3_next_move.specs.Handed.{handed}
+use Rattle.ffi3_script_spec.specs.Handed.{handed}
 use Rattle.ffi3_app.proofs.Naming.{all_names, mapped_below, one_name_more}
 use Rattle.ffi3_app.proofs.names.names_of_natives.Goals as goal
 

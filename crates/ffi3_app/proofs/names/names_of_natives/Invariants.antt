@@ -1,6 +1,6 @@
 use Rattle.std.proofs.Common.{◌≡◌, take}
 use Rattle.ffi3_script_spec.specs.Natives.{names_of}
-use Rattle.ffi3_next_move.specs.Handed.{handed}
+use Rattle.ffi3_script_spec.specs.Handed.{handed}
 use Rattle.ffi3_app.proofs.names.names_of_natives.Given as goal
 
 abbrev pub invariant-loop-i : goal.invariant-loop-i

@@ -3,11 +3,11 @@ use Rattle.std.specs.Prelude.{Err, get_or}
 use Rattle.std.proofs.lemmas.List.{append-nil}
 use Rattle.ffi3_type_spec.specs.Signature.{at_result, at_argument}
 use Rattle.ffi3_type_spec.specs.Tree.{void}
-use Rattle.ffi3_text.specs.PlaceLines.{sig_text_of, place_text_of}
+use Rattle.ffi3_text_spec.specs.PlaceLines.{sig_text_of, place_text_of}
 use Rattle.std.specs.List.{concat}
 use Rattle.ffi3_names.specs.NamesOf.{names_of}
-use Rattle.ffi3_app.specs.Commands.{arguments_from}
-use Rattle.ffi3_app.specs.Declarations.{named_lines, named_text_of}
+use Rattle.ffi3_app_spec.specs.Commands.{arguments_from}
+use Rattle.ffi3_app_spec.specs.Declarations.{named_lines, named_text_of}
 use Rattle.ffi3_app.proofs.Named.{line_named}
 use Rattle.ffi3_app.proofs.Pieces.{continues_from, continues_on, continues_ended, continues_last, argument_at, arguments_end}
 use Rattle.ffi3_app.proofs.place.place_of.Goals as goal

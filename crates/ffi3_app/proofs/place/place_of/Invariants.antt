@@ -1,10 +1,10 @@
 use Rattle.std.proofs.Common.{drop, [], ◌∷◌, ◌++◌, map}
 use Rattle.ffi3_type_spec.specs.Signature.{at_result}
-use Rattle.ffi3_text.specs.PlaceLines.{place_text_of}
+use Rattle.ffi3_text_spec.specs.PlaceLines.{place_text_of}
 use Rattle.std.specs.List.{concat}
 use Rattle.ffi3_names.specs.NamesOf.{names_of}
-use Rattle.ffi3_app.specs.Commands.{arguments_from}
-use Rattle.ffi3_app.specs.Declarations.{named_lines, named_text_of}
+use Rattle.ffi3_app_spec.specs.Commands.{arguments_from}
+use Rattle.ffi3_app_spec.specs.Declarations.{named_lines, named_text_of}
 use Rattle.ffi3_app.proofs.Pieces.{Continues}
 use Rattle.ffi3_app.proofs.place.place_of.Given as goal
 

@@ -1,7 +1,7 @@
 use Rattle.ffi3_type_spec.specs.declared.Target.TheVariants.{Amd64, Aapcs64, Riscv, Win64, Apple}
 use Rattle.std.specs.List.{concat}
 use Rattle.ffi3_names.specs.NamesOf.{names_of}
-use Rattle.ffi3_app.specs.Declarations.{named_lines}
+use Rattle.ffi3_app_spec.specs.Declarations.{named_lines}
 use Rattle.ffi3_app.proofs.Pieces.{placed_by}
 use Rattle.ffi3_app.proofs.place.place_signature.Goals as goal
 

@@ -2,7 +2,7 @@ use Rattle.std.proofs.Common.{◌∙◌}
 use Rattle.std.proofs.lemmas.Bool.{false≢true}
 use Rattle.ffi3_types.specs.SignatureFaultOf.{position_of}
 use Rattle.ffi3_cdecl_spec.specs.Prototype.{first_other}
-use Rattle.ffi3_app.specs.Declarations.{sign_line}
+use Rattle.ffi3_app_spec.specs.Declarations.{sign_line}
 use Rattle.ffi3_app.proofs.Working.{sign_unsaid_by}
 use Rattle.ffi3_app.proofs.prototype.if_alike.Goals as goal
 

@@ -5,8 +5,8 @@ use Rattle.ffi3_semantics_spec.specs.Lines.{a_line}
 use Rattle.ffi3_script_spec.specs.Reading.{max_length}
 use Rattle.ffi3_cdecl_spec.specs.Prototype.{read_as}
 use Rattle.ffi3_cdecl_spec.specs.Reading.{reads}
-use Rattle.ffi3_app.specs.Declarations.{too_many_bytes, not_utf8, IsPrototypeEverywhere}
-use Rattle.ffi3_app.specs.Outcome.{outcome_of_prototype}
+use Rattle.ffi3_app_spec.specs.Declarations.{too_many_bytes, not_utf8, IsPrototypeEverywhere}
+use Rattle.ffi3_app_spec.specs.Outcome.{outcome_of_prototype}
 use Rattle.ffi3_app.proofs.Working.{refused_input, no_prototype, a_prototype, prototype_is_right}
 use Rattle.ffi3_app.proofs.prototype.prototype_in.Goals as goal
 

@@ -3,7 +3,7 @@ use Rattle.ffi3_semantics_spec.specs.Lines.{a_line}
 use Rattle.ffi3_script_spec.specs.ReasonText.{text_of_reason}
 use Rattle.ffi3_json.specs.ReasonOf.{reason_of}
 use Rattle.ffi3_json.specs.declared.fault.ScriptFault.TheVariants.{TooLong, BadJson, BadScript}
-use Rattle.ffi3_app.specs.Outcome.{located_line}
+use Rattle.ffi3_app_spec.specs.Outcome.{located_line}
 use Rattle.ffi3_app.proofs.Working.{told_as}
 use Rattle.ffi3_app.proofs.script.refusal.Goals as goal
 

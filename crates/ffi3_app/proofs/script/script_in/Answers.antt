@@ -1,5 +1,5 @@
 use Rattle.ffi3_script_spec.specs.Natives.{names_of}
-use Rattle.ffi3_next_move.specs.Handed.{handed}
+use Rattle.ffi3_script_spec.specs.Handed.{handed}
 use Rattle.ffi3_app.proofs.Working.{refused_beside, refused_no_script}
 use Rattle.ffi3_app.proofs.script.script_in.Goals as goal
 

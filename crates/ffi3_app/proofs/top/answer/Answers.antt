@@ -1,8 +1,8 @@
 use Rattle.std.proofs.Common.{refl, []}
 use Rattle.std.specs.Prelude.{List, ℕ, map, string_bytes}
-use Rattle.ffi3_cli.specs.declared.words.Request.TheVariants.{OnInput, Bench}
-use Rattle.ffi3_app.specs.Top.{bad_words, no_memory_for_words, failed}
-use Rattle.ffi3_next_move.specs.Handed.{handed}
+use Rattle.ffi3_cli_spec.specs.declared.words.Request.TheVariants.{OnInput, Bench}
+use Rattle.ffi3_app_spec.specs.Top.{bad_words, no_memory_for_words, failed}
+use Rattle.ffi3_script_spec.specs.Handed.{handed}
 use Rattle.ffi3_app.proofs.Coming.{ready_for_bench}
 use Rattle.ffi3_app.proofs.Saying.{is_refused, takes_as, says_end}
 use Rattle.ffi3_app.proofs.top.answer.Goals as goal

@@ -1,5 +1,5 @@
-use Rattle.ffi3_cli.specs.declared.words.Request.TheVariants.{OnInput}
-use Rattle.ffi3_next_move.specs.Handed.{handed}
+use Rattle.ffi3_cli_spec.specs.declared.words.Request.TheVariants.{OnInput}
+use Rattle.ffi3_script_spec.specs.Handed.{handed}
 use Rattle.ffi3_app.proofs.Coming.{ready_on_input}
 use Rattle.ffi3_app.proofs.Saying.{says_end, says_not_begun, says_not_read}
 use Rattle.ffi3_app.proofs.top.answer_on_input.Goals as goal

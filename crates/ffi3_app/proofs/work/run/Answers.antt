@@ -2,9 +2,9 @@ use Rattle.std.proofs.Common.{◌≡◌}
 use Rattle.ffi3_script.specs.ScriptOf.{script_of}
 use Rattle.ffi3_script_spec.specs.Script.{Script}
 use Rattle.ffi3_script_spec.specs.Natives.{names_of, program_beside}
-use Rattle.ffi3_next_move.specs.Handed.{handed}
+use Rattle.ffi3_script_spec.specs.Handed.{handed}
 use Rattle.ffi3_explain_spec.specs.Standards.{standard_of}
-use Rattle.ffi3_app.specs.Outcome.{Outcome, runs, IsOfScript}
+use Rattle.ffi3_app_spec.specs.Outcome.{Outcome, runs, IsOfScript}
 use Rattle.ffi3_app.proofs.Working.{script_works, works_for}
 use Rattle.ffi3_app.proofs.work.run.Goals as goal
 

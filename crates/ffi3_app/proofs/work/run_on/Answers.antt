@@ -1,6 +1,6 @@
 use Rattle.ffi3_type_spec.specs.declared.Target.TheVariants.{Amd64, Aapcs64, Riscv, Win64, Apple}
 use Rattle.ffi3_script.specs.ScriptOf.{script_of}
-use Rattle.ffi3_next_move.specs.Handed.{handed}
+use Rattle.ffi3_script_spec.specs.Handed.{handed}
 use Rattle.ffi3_app.proofs.Working.{works_by}
 use Rattle.ffi3_app.proofs.work.run_on.Goals as goal
 

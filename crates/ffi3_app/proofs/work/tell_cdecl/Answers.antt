@@ -1,8 +1,8 @@
 use Rattle.std.proofs.Common.{refl}
 use Rattle.ffi3_cdecl_spec.specs.Prototype.{read_as}
 use Rattle.ffi3_cdecl_spec.specs.Reading.{reads}
-use Rattle.ffi3_app.specs.Declarations.{a_text, cdecl_text}
-use Rattle.ffi3_app.specs.Outcome.{tells, IsOfDeclaration}
+use Rattle.ffi3_app_spec.specs.Declarations.{a_text, cdecl_text}
+use Rattle.ffi3_app_spec.specs.Outcome.{tells, IsOfDeclaration}
 use Rattle.ffi3_app.proofs.Working.{no_declaration_works, text_works}
 use Rattle.ffi3_app.proofs.work.tell_cdecl.Goals as goal
 

@@ -3,8 +3,8 @@ use Rattle.ffi3_cdecl_spec.specs.Prototype.{read_as}
 use Rattle.ffi3_cdecl_spec.specs.Reading.{reads}
 use Rattle.ffi3_cdecl_spec.specs.Tokens.{signed}
 use Rattle.ffi3_names_spec.specs.Scan.{names_in}
-use Rattle.ffi3_app.specs.Declarations.{a_text, cplace_text}
-use Rattle.ffi3_app.specs.Outcome.{tells, IsOfPrototype}
+use Rattle.ffi3_app_spec.specs.Declarations.{a_text, cplace_text}
+use Rattle.ffi3_app_spec.specs.Outcome.{tells, IsOfPrototype}
 use Rattle.ffi3_app.proofs.Called.{are_called}
 use Rattle.ffi3_app.proofs.Working.{no_prototype_works, text_works}
 use Rattle.ffi3_app.proofs.work.tell_cplace.Goals as goal

@@ -3,10 +3,10 @@ use Rattle.ffi3_script.specs.ScriptOf.{script_of}
 use Rattle.ffi3_script_spec.specs.Script.{Script}
 use Rattle.ffi3_script_spec.specs.Reading.{script}
 use Rattle.ffi3_script_spec.specs.Natives.{names_of}
-use Rattle.ffi3_next_move.specs.Handed.{handed}
+use Rattle.ffi3_script_spec.specs.Handed.{handed}
 use Rattle.ffi3_explain_spec.specs.Standards.{standard_of}
-use Rattle.ffi3_app.specs.Commands.{place_text}
-use Rattle.ffi3_app.specs.Outcome.{tells, IsOfScript}
+use Rattle.ffi3_app_spec.specs.Commands.{place_text}
+use Rattle.ffi3_app_spec.specs.Outcome.{tells, IsOfScript}
 use Rattle.ffi3_app.proofs.Working.{text_works}
 use Rattle.ffi3_app.proofs.work.tell_place.Goals as goal
 

@@ -1,5 +1,5 @@
-use Rattle.ffi3_cli.specs.declared.words.InputCommand.TheVariants.{Layout, Place, Cdecl, Cplace, Explain, Arguments}
-use Rattle.ffi3_next_move.specs.Handed.{handed}
+use Rattle.ffi3_cli_spec.specs.declared.words.InputCommand.TheVariants.{Layout, Place, Cdecl, Cplace, Explain, Arguments}
+use Rattle.ffi3_script_spec.specs.Handed.{handed}
 use Rattle.ffi3_app.proofs.Working.{works_as}
 use Rattle.ffi3_app.proofs.work.work.Goals as goal
 

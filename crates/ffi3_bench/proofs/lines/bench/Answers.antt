@@ -3,9 +3,9 @@ use Rattle.std.specs.Prelude.{Err}
 use Rattle.ffi3_amd64_spec.specs.Amd64.{amd64}
 use Rattle.ffi3_aapcs64_spec.specs.Aapcs64.{aapcs64}
 use Rattle.ffi3_riscv_spec.specs.Riscv.{riscv}
-use Rattle.ffi3_io.specs.declared.IoError.TheVariants.{NoMemory}
+use Rattle.ffi3_io_spec.specs.declared.IoError.TheVariants.{NoMemory}
 use Rattle.ffi3_script.specs.ScriptOf.{script_of}
-use Rattle.ffi3_bench.specs.BenchText.{bench_text}
+use Rattle.ffi3_app_spec.specs.BenchText.{bench_text}
 use Rattle.ffi3_bench.proofs.Needs.{amd64_needs_little, aapcs64_needs_little, riscv_needs_little}
 use Rattle.ffi3_bench.proofs.ThreeLines.{it_returns, it_is_short, first_ended, second_ended, third_ended, none_written}
 use Rattle.ffi3_bench.proofs.lines.bench.Goals as goal

@@ -1,7 +1,7 @@
 use Rattle.std.proofs.Common.{rules, ◌≡◌, ◌++◌}
 use Rattle.ffi3_script_spec.specs.Meaning.{program_of}
 use Rattle.ffi3_script.specs.ScriptOf.{script_of}
-use Rattle.ffi3_bench.specs.BenchText.{counts_text}
+use Rattle.ffi3_app_spec.specs.BenchText.{counts_text}
 use Rattle.ffi3_bench.proofs.ThreeLines.{measured_line}
 use Rattle.ffi3_bench.proofs.lines.bench_by.Goals as goal
 

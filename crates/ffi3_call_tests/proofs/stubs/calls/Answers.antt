@@ -3,7 +3,7 @@ use Rattle.ffi3_type_spec.specs.declared.Isa.{Isa}
 use Rattle.ffi3_type_spec.specs.declared.Isa.TheVariants.{Amd64, Aarch64, Riscv}
 use Rattle.ffi3_type_spec.specs.declared.limits.TheConstants.{CODE, STACK}
 use Rattle.ffi3_place_spec.specs.MachineRegisters.{pushed_bytes}
-use Rattle.ffi3_machine.specs.State.{IsSlot}
+use Rattle.ffi3_machine_spec.specs.State.{IsSlot}
 use Rattle.ffi3_call_tests.proofs.stubs.calls.Goals as goal
 
 few_pushed : (isa : Isa) → pushed_bytes isa ≤ 8

@@ -2,7 +2,7 @@ use Rattle.std.proofs.Common.{◌+◌, ◌-◌, ap, subst, sym, ◌∙◌}
 use Rattle.ffi3_values.specs.ValueOf.{value_of}
 use Rattle.ffi3_place_spec.specs.Holds.{HoldsResult}
 use Rattle.ffi3_place_spec.specs.Standard.{frame_of, plan_of}
-use Rattle.ffi3_machine.specs.State.{image_of}
+use Rattle.ffi3_machine_spec.specs.State.{image_of}
 use Rattle.ffi3_machine_transfer.specs.Passing.{passing}
 use Rattle.ffi3_callee.specs.Loaded.{image_from}
 use Rattle.ffi3_callee.specs.Received.{hidden_of}
@@ -57,4 +57,4 @@ returns-clause-answered g c =
     let given = c.give_result.new.machine in
     let saved = subst (λ n. AreSaved (n - std.save) (m.sp + std.link) (hidden_of (plan_of std c.args.cif.now).res) std.save_area m taken) (sym c.receive-incoming.ensures.entry) c.receive-incoming.ensures.received.saved in
     let hold = held_registers std g.met.A.Abi.agrees (c.receive-incoming.result.entry - std.save) base 0 hidden m given (c.give_result.ensures.saved base hidden m saved) in
-    answered std c.args.cif.now g.met.A.Abi.agrees m taken given c.go_back.new.machine c.receive-incoming.result.entry (c.requires.target ∙ sym g.met.A.Abi.target_is) c.receive-incoming.ensures.entry c.requires.room c.requires.frame c.sp-entry.ensures.machine.stack c.receive-incoming.ensures.received c.give_result.ensures.writes c.go_back.ensures.back hold
+    answered std c.args.cif.now g.met.A.Abi.agrees m taken given c.go_back.new.machine c.receive-incoming.result.entry (c.requires.target ∙ sym g.met.A.Abi.target_is) c.receive-incoming.ensures.entry c.requires.room c.requires.frame c.facts.ensures.stack c.receive-incoming.ensures.received c.give_result.ensures.writes c.go_back.ensures.back hold

@@ -3,7 +3,7 @@ use Rattle.ffi3_type_spec.specs.Layout.{size_of}
 use Rattle.ffi3_place_spec.specs.Sound.{PlaceHasAll}
 use Rattle.ffi3_cif.specs.Runs.{AreRunsOf, pieces_of}
 use Rattle.ffi3_type_spec.specs.declared.limits.TheConstants.{STACK, STACK_TOP}
-use Rattle.ffi3_machine.specs.State.{stack_at, stored}
+use Rattle.ffi3_machine_spec.specs.State.{stack_at, stored}
 use Rattle.ffi3_machine_transfer.specs.Passing.{passing}
 use Rattle.ffi3_machine_transfer.specs.Stored.{IsPlace}
 use Rattle.ffi3_machine_transfer.specs.Standing.{PlaceLies}
@@ -68,7 +68,7 @@ returns-in-Direct-clause-read c =
     let are = subst (λ p. AreRunsOf (pieces_of p) c.args.runs.now) c.in-Direct.is c.requires.runs in
     let first = c.copy_runs.ensures.only room (size_of t) (runs_lie t room c.in-Direct.pieces c.args.runs.now all.each lie are) in
     let second = c.copy_registers.ensures.only (size_of t) (parts_within t c.in-Direct.pieces (size_of t) refl all) in
-    let fits : c.args.to - STACK + size_of t ≤ length c.copy_registers.new.machine.stack = omega (arith, first.within.size, second.within.size, c.requires.low, c.requires.below, c.address-at.ensures.high, c.sp-m.ensures.machine.stack) in
+    let fits : c.args.to - STACK + size_of t ≤ length c.copy_registers.new.machine.stack = omega (arith, first.within.size, second.within.size, c.requires.low, c.requires.below, c.address-at.ensures.high, c.facts.ensures.stack) in
     subst (λ p. IsRead c.args.base (passing c.args.machine.now) t p (stack_at c.args.to (size_of t) (passing c.copy_registers.new.machine))) (sym c.in-Direct.is)
     (direct_read c.args.base c.args.to t c.in-Direct.pieces c.args.runs.now c.requires.low c.requires.below all.each are (passing c.args.machine.now) (passing c.copy_runs.new.machine) (passing c.copy_registers.new.machine) first c.copy_runs.ensures c.copy_registers.ensures fits all)
 
@@ -80,7 +80,7 @@ returns-in-ByRef-clause-only c =
     let found = subst (IsFound c.args.base m) c.in-ByRef.is c.requires.found in
     let lies = subst (PlaceLies (STACK_TOP - c.args.base) t) c.in-ByRef.is c.requires.lies in
     let is = (ap passing c.copy_stack.ensures) ∙ ap (λ n. stored c.args.to (stack_at start n m) m) c.size.ensures.value in
-    copied_only c.args.to start (size_of t) m (passing c.copy_stack.new.self) c.requires.low (omega (arith, c.place_word-start.ensures, found, lies.1, c.requires.low, c.requires.below, c.address-at.ensures.high, c.sp-m.ensures.machine.stack)) (omega (arith, c.requires.low, c.requires.below, c.address-at.ensures.high, c.sp-m.ensures.machine.stack)) is
+    copied_only c.args.to start (size_of t) m (passing c.copy_stack.new.self) c.requires.low (omega (arith, c.place_word-start.ensures, found, lies.1, c.requires.low, c.requires.below, c.address-at.ensures.high, c.facts.ensures.stack)) (omega (arith, c.requires.low, c.requires.below, c.address-at.ensures.high, c.facts.ensures.stack)) is
 
 pub returns-in-ByRef-clause-read : goal.returns-in-ByRef-clause-read
 returns-in-ByRef-clause-read c =
@@ -90,7 +90,7 @@ returns-in-ByRef-clause-read c =
     let found = subst (IsFound c.args.base m) c.in-ByRef.is c.requires.found in
     let lies = subst (PlaceLies (STACK_TOP - c.args.base) t) c.in-ByRef.is c.requires.lies in
     let is = (ap passing c.copy_stack.ensures) ∙ ap (λ n. stored c.args.to (stack_at start n m) m) c.size.ensures.value in
-    let there = copied_there c.args.to start (size_of t) m (passing c.copy_stack.new.self) c.requires.low (omega (arith, c.place_word-start.ensures, found, lies.1, c.requires.low, c.requires.below, c.address-at.ensures.high, c.sp-m.ensures.machine.stack)) (omega (arith, c.requires.low, c.requires.below, c.address-at.ensures.high, c.sp-m.ensures.machine.stack)) is in
+    let there = copied_there c.args.to start (size_of t) m (passing c.copy_stack.new.self) c.requires.low (omega (arith, c.place_word-start.ensures, found, lies.1, c.requires.low, c.requires.below, c.address-at.ensures.high, c.facts.ensures.stack)) (omega (arith, c.requires.low, c.requires.below, c.address-at.ensures.high, c.facts.ensures.stack)) is in
     let low : STACK ≤ c.args.base = omega (arith, c.requires.low, c.requires.below) in
     subst (λ p. IsRead c.args.base m t p (stack_at c.args.to (size_of t) (passing c.copy_stack.new.self))) (sym c.in-ByRef.is)
     (copy_read c.args.base m t c.in-ByRef.at c.in-ByRef.copy start (stack_at c.args.to (size_of t) (passing c.copy_stack.new.self)) low c.place_word-start.ensures found there)

@@ -11,6 +11,6 @@ returns-then-not-is_on_stack c =
     let p = c.args.piece.now in
     let register : is_on_stack p.loc ≡ false = sym c.is_on_stack.ensures ∙ c.if-not-is_on_stack.true in
     let eight : length c.place_bytes-bytes.result ≡ 8 = search rules in
-    let fits : c.args.to + p.off - STACK + p.len ≤ length m.stack = omega (arith, c.requires.low, c.requires.below, c.requires.within.1, c.address-at.ensures.low, c.address-at.ensures.high, c.sp-m.ensures.machine.stack) in
+    let fits : c.args.to + p.off - STACK + p.len ≤ length m.stack = omega (arith, c.requires.low, c.requires.below, c.requires.within.1, c.address-at.ensures.low, c.address-at.ensures.high, c.facts.ensures.stack) in
     subst (IsPieceMoved c.args.base c.args.to p m) (sym (ap passing c.store_stack.ensures))
     (piece_moved c.args.base c.args.to c.requires.low c.requires.below p c.place_bytes-bytes.result m register c.place_bytes-bytes.ensures eight c.requires.within.0 fits)

@@ -26,7 +26,7 @@ loop-i-preserved c =
     let back : c.loop-i.i ≡ c.loop-i.i - 1 + 1 = omega arith in
     let before = subst (λ i. AreRunsMoved c.args.base c.args.to (drop i c.args.runs.now) (passing c.args.machine.now) (passing c.loop-i.machine)) back c.loop-i.invariant in
     let same = (c.loop-i.invariant.only room (c.args.base - c.args.to) (each_drop (RunLies room (c.args.base - c.args.to)) c.loop-i.i c.args.runs.now c.requires.lie)).within.size in
-    let fits : c.args.base - STACK + (STACK_TOP - c.args.base) ≤ length c.loop-i.machine.stack = omega (arith, same, c.requires.low, c.requires.below, c.address-from.ensures.high, c.sp-m.ensures.machine.stack) in
+    let fits : c.args.base - STACK + (STACK_TOP - c.args.base) ≤ length c.loop-i.machine.stack = omega (arith, same, c.requires.low, c.requires.below, c.address-from.ensures.high, c.facts.ensures.stack) in
     move_run c.args.base c.args.to c.requires.low c.requires.below c.args.runs.now (c.loop-i.i - 1) c.get-run.result room (passing c.args.machine.now) (passing c.loop-i.machine) (passing c.copy_stack.new.self) (omega arith) c.get-run.ensures c.requires.rising (each_drop (RunLies room (c.args.base - c.args.to)) (c.loop-i.i - 1) c.args.runs.now c.requires.lie) fits (ap passing (rw c.address-from.ensures.value at c.copy_stack.ensures)) before
 
 pub returns : goal.returns

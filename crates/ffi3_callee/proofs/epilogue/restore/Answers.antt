@@ -5,7 +5,7 @@ use Rattle.ffi3_place_spec.specs.declared.SaveWord.TheVariants.{Register}
 use Rattle.ffi3_place_spec.specs.Agrees.{saved_registers}
 use Rattle.ffi3_place_spec.proofs.OnMachine.{as_before}
 use Rattle.ffi3_machine_transfer.specs.Stored.{word_in}
-use Rattle.ffi3_machine.specs.State.{with_sp}
+use Rattle.ffi3_machine_spec.specs.State.{with_sp}
 use Rattle.ffi3_callee.specs.Saved.{AreGivenBack, AreSaved, with_given_back}
 use Rattle.ffi3_callee.proofs.Keeping.{kept_return, reserved_not_saved, reserved_stay, reserved_then}
 use Rattle.ffi3_callee.proofs.Laws.{result_apart, returned_apart, returned_settable, words_restorable_at}

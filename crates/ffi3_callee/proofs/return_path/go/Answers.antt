@@ -2,8 +2,9 @@ use Rattle.std.proofs.Common.{◌≡◌, ◌-◌, Bool, true, false, ap, sym, �
 use Rattle.ffi3_type_spec.specs.TargetIsa.{isa_of}
 use Rattle.ffi3_place_spec.specs.MachineRegisters.{pushed_bytes}
 use Rattle.ffi3_place_spec.specs.StubRegisters.{area_bytes}
-use Rattle.ffi3_machine.specs.State.{with_pc, with_x}
-use Rattle.ffi3_machine.specs.Stubs.{Exit, stub_at}
+use Rattle.ffi3_machine_spec.specs.declared.stub.TheConstants.{AREA_AT}
+use Rattle.ffi3_machine_spec.specs.State.{with_pc, with_x}
+use Rattle.ffi3_machine_spec.specs.Stubs.{Exit, stub_at}
 use Rattle.ffi3_stubs.specs.Calls.{after_exit}
 use Rattle.ffi3_machine_transfer.specs.Passing.{by_exchange}
 use Rattle.ffi3_callee.specs.GoneBack.{gone_back_if}
@@ -38,7 +39,7 @@ returns-then-exchanged-clause-back g c =
     let same : std.target ≡ m.target = g.met.A.Abi.target_is ∙ sym c.requires.target in
     let laws = laws_of std m.target g.met.A.Abi.by_stubs same e in
     let area : c.entry.result - c.SAVE.result ≡ entry - std.save = omega (arith, c.entry.ensures, c.SAVE.ensures, g.met.A.Abi.save_is) in
-    gone_by_stub std g.met.A.Abi.agrees laws (c.entry.result - c.SAVE.result) entry m c.leave_by_stub.new.machine c.sp-m.ensures.machine same area (omega (arith, c.requires.incoming.low, c.requires.incoming.entry)) (omega (arith, c.requires.incoming.high)) e c.leave_by_stub.ensures.says c.leave_by_stub.ensures.counted
+    gone_by_stub std g.met.A.Abi.agrees laws (c.entry.result - c.SAVE.result) entry m c.leave_by_stub.new.machine c.facts.ensures same area (omega (arith, c.requires.incoming.low, c.requires.incoming.entry)) (omega (arith, c.requires.incoming.high)) e c.leave_by_stub.ensures.says c.leave_by_stub.ensures.counted
 
 pub returns-else-exchanged-clause-back : goal.returns-else-exchanged-clause-back
 returns-else-exchanged-clause-back g c =
@@ -54,7 +55,7 @@ returns-then-exchanged-clause-whole g c =
     let m = c.args.machine.now in
     let e : by_exchange c.args.machine.now.target ≡ true = cc in
     let area : c.entry.result - c.SAVE.result ≡ c.args.incoming.entry - std.save = omega (arith, c.entry.ensures, c.SAVE.ensures, g.met.A.Abi.save_is) in
-    c.leave_by_stub.ensures.whole ∙ ap (λ a. after_exit (isa_of m.target) (with_pc (stub_at (isa_of m.target) Exit) (with_x 536 a m))) area ∙ ap (λ (b : Bool). gone_back_if b std c.args.incoming.entry m) (sym e)
+    c.leave_by_stub.ensures.whole ∙ ap (λ a. after_exit (isa_of m.target) (with_pc (stub_at (isa_of m.target) Exit) (with_x AREA_AT a m))) area ∙ ap (λ (b : Bool). gone_back_if b std c.args.incoming.entry m) (sym e)
 
 pub returns-else-exchanged-clause-whole : goal.returns-else-exchanged-clause-whole
 returns-else-exchanged-clause-whole g c =

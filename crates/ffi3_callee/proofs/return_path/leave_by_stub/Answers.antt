@@ -3,8 +3,9 @@ use Rattle.ffi3_type_spec.specs.declared.limits.TheConstants.{STACK, STACK_TOP}
 use Rattle.ffi3_type_spec.specs.TargetIsa.{isa_of}
 use Rattle.ffi3_place_spec.specs.MachineRegisters.{pushed_bytes}
 use Rattle.ffi3_place_spec.specs.StubRegisters.{area_bytes}
-use Rattle.ffi3_machine.specs.State.{State, with_pc, with_x, x_of}
-use Rattle.ffi3_machine.specs.Stubs.{Exit, stub_at}
+use Rattle.ffi3_machine_spec.specs.declared.stub.TheConstants.{AREA_AT}
+use Rattle.ffi3_machine_spec.specs.State.{State, with_pc, with_x, x_of}
+use Rattle.ffi3_machine_spec.specs.Stubs.{Exit, stub_at}
 use Rattle.ffi3_stubs.specs.Calls.{HasLeft, after_exit, steps_of}
 use Rattle.ffi3_machine_transfer.proofs.Passing.{told_there}
 use Rattle.ffi3_callee.proofs.return_path.leave_by_stub.Goals as goal
@@ -12,14 +13,14 @@ use Rattle.ffi3_callee.proofs.return_path.leave_by_stub.Goals as goal
 pub run_exit-requires-clause-low : goal.run_exit-requires-clause-low
 run_exit-requires-clause-low c =
     let m = c.args.machine.now in
-    let there : x_of 536 (with_x 536 c.args.area m) ≡ c.args.area = told_there 536 c.args.area m (omega (arith, c.sp-m.ensures.machine.exchange)) (omega (arith, c.requires.high)) in
-    subst (λ (x : State). STACK ≤ x_of 536 x) (sym c.set_x.ensures) (omega (arith, there, c.requires.low))
+    let there : x_of AREA_AT (with_x AREA_AT c.args.area m) ≡ c.args.area = told_there AREA_AT c.args.area m (omega (arith, c.facts.ensures.exchange)) (omega (arith, c.requires.high)) in
+    subst (λ (x : State). STACK ≤ x_of AREA_AT x) (sym c.set_x.ensures) (omega (arith, there, c.requires.low))
 
 pub run_exit-requires-clause-high : goal.run_exit-requires-clause-high
 run_exit-requires-clause-high c =
     let m = c.args.machine.now in
-    let there : x_of 536 (with_x 536 c.args.area m) ≡ c.args.area = told_there 536 c.args.area m (omega (arith, c.sp-m.ensures.machine.exchange)) (omega (arith, c.requires.high)) in
-    subst (λ (x : State). x_of 536 x + area_bytes (isa_of x.target) + pushed_bytes (isa_of x.target) ≤ STACK_TOP) (sym c.set_x.ensures) (omega (arith, there, c.requires.high))
+    let there : x_of AREA_AT (with_x AREA_AT c.args.area m) ≡ c.args.area = told_there AREA_AT c.args.area m (omega (arith, c.facts.ensures.exchange)) (omega (arith, c.requires.high)) in
+    subst (λ (x : State). x_of AREA_AT x + area_bytes (isa_of x.target) + pushed_bytes (isa_of x.target) ≤ STACK_TOP) (sym c.set_x.ensures) (omega (arith, there, c.requires.high))
 
 pub returns-clause-says : goal.returns-clause-says
 returns-clause-says c =

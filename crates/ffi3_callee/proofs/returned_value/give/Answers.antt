@@ -6,7 +6,7 @@ use Rattle.ffi3_type_spec.proofs.Placed.{faultless_is_plain}
 use Rattle.ffi3_values.specs.ValueOf.{value_of}
 use Rattle.ffi3_place_spec.specs.Standard.{plan_of}
 use Rattle.ffi3_place_spec.proofs.OnMachine.{as_before}
-use Rattle.ffi3_machine.specs.State.{stack_at}
+use Rattle.ffi3_machine_spec.specs.State.{stack_at}
 use Rattle.ffi3_type_spec.specs.declared.limits.TheConstants.{STACK_TOP}
 use Rattle.ffi3_machine_transfer.specs.Passing.{passing}
 use Rattle.ffi3_machine_transfer.specs.Standing.{PiecesStand}
@@ -31,7 +31,7 @@ store_pieces-requires-clause-registers g c =
 
 pub returns-in-Nothing-clause-holds : goal.returns-in-Nothing-clause-holds
 returns-in-Nothing-clause-holds g c =
-    nothing_held g.A.Abi.standard c.args.cif.now c.args.base (passing c.args.machine.now) (value_of c.args.value.now) c.address-at.ensures.low c.requires.high c.sp-m.ensures.machine.stack (sym c.result_place.ensures ∙ c.in-Nothing.is) c.requires.fits
+    nothing_held g.A.Abi.standard c.args.cif.now c.args.base (passing c.args.machine.now) (value_of c.args.value.now) c.address-at.ensures.low c.requires.high c.facts.ensures.stack (sym c.result_place.ensures ∙ c.in-Nothing.is) c.requires.fits
 
 pub returns-in-Direct-clause-holds : goal.returns-in-Direct-clause-holds
 returns-in-Direct-clause-holds g c =
@@ -40,7 +40,7 @@ returns-in-Direct-clause-holds g c =
     let type_is = c.ret-ty.ensures ∙ ap (λ r. r.result_type) c.checked_sig-sig.ensures.value in
     let is = sym c.result_place.ensures ∙ c.in-Direct.is in
     let within = direct_within std s c.args.base c.in-Direct.pieces (passing c.args.machine.now) (passing c.store_pieces.new.machine) (as_before g.A.Abi.standard s (g.met.A.Abi.sound s) (faultless_is_plain s c.checked_sig-sig.ensures.faultless)) is c.store_pieces.ensures.within in
-    direct_held std s c.args.base (passing c.store_pieces.new.machine) (value_of c.args.value.now) c.in-Direct.pieces (as_before g.A.Abi.standard s (g.met.A.Abi.sound s) (faultless_is_plain s c.checked_sig-sig.ensures.faultless)) c.address-at.ensures.low c.requires.high (within.size ∙ c.sp-m.ensures.machine.stack) (sym c.result_place.ensures ∙ c.in-Direct.is) c.requires.fits
+    direct_held std s c.args.base (passing c.store_pieces.new.machine) (value_of c.args.value.now) c.in-Direct.pieces (as_before g.A.Abi.standard s (g.met.A.Abi.sound s) (faultless_is_plain s c.checked_sig-sig.ensures.faultless)) c.address-at.ensures.low c.requires.high (within.size ∙ c.facts.ensures.stack) (sym c.result_place.ensures ∙ c.in-Direct.is) c.requires.fits
     (subst (λ t. PiecesStand c.args.base (passing c.store_pieces.new.machine) t (value_of c.args.value.now) c.in-Direct.pieces) type_is c.store_pieces.ensures.stand)
 
 pub returns-in-Nothing-clause-unused : goal.returns-in-Nothing-clause-unused
@@ -75,7 +75,7 @@ returns-in-Hidden-clause-holds g c =
     let address_is = subst (IsAddressOf c.args.base c.args.address) is c.requires.address in
     let between = passing c.give_buffer.new.machine in
     let value = subst (λ t. value_in t (stack_at c.args.address (size_of t) between) ≡ value_of c.args.value.now) type_is c.give_buffer.ensures.reads in
-    hidden_held std s c.args.base c.args.address c.args.machine.now.target between (passing c.tell_address.new.machine) (value_of c.args.value.now) c.in-Hidden.at c.in-Hidden.buffer c.args.returned c.address-at.ensures.low c.requires.high (c.give_buffer.ensures.only.within.size ∙ c.sp-m.ensures.machine.stack) is address_is c.requires.fits c.requires.returned c.requires.returned_settable value c.tell_address.ensures.within c.tell_address.ensures.told
+    hidden_held std s c.args.base c.args.address c.args.machine.now.target between (passing c.tell_address.new.machine) (value_of c.args.value.now) c.in-Hidden.at c.in-Hidden.buffer c.args.returned c.address-at.ensures.low c.requires.high (c.give_buffer.ensures.only.within.size ∙ c.facts.ensures.stack) is address_is c.requires.fits c.requires.returned c.requires.returned_settable value c.tell_address.ensures.within c.tell_address.ensures.told
 
 pub returns-in-Direct-clause-writes : goal.returns-in-Direct-clause-writes
 returns-in-Direct-clause-writes g c =

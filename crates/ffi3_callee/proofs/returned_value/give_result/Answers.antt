@@ -59,7 +59,7 @@ returns-clause-reserved g c =
     let base = c.at-base.result in
     let res = (plan_of std s).res in
     let sound = g.met.A.Abi.sound s in
-    own_reserved m n c.sp-m.ensures.machine c.sp-given.ensures.machine std g.met.A.Abi.agrees (written_target base s.result_type res (passing m) (passing n) c.give.ensures.writes) (written_exchange base s.result_type res (passing m) (passing n) c.give.ensures.writes) (reserved_stay std g.met.A.Abi.agrees (result_uses std res) (passing m) (passing n) (uses_clear std g.met.A.Abi.agrees res sound.result_allowed) c.give.ensures.registers)
+    own_reserved m n c.facts.ensures c.facts-2.ensures std g.met.A.Abi.agrees (written_target base s.result_type res (passing m) (passing n) c.give.ensures.writes) (written_exchange base s.result_type res (passing m) (passing n) c.give.ensures.writes) (reserved_stay std g.met.A.Abi.agrees (result_uses std res) (passing m) (passing n) (uses_clear std g.met.A.Abi.agrees res sound.result_allowed) c.give.ensures.registers)
 
 pub returns-clause-unused : goal.returns-clause-unused
 returns-clause-unused g c =

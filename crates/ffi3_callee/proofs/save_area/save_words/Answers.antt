@@ -8,7 +8,7 @@ loop-i-preserved g c =
     let small : c.word_to_save-word.result < 2 ^ 64 = search rules in
     let eight : length c.to_le_bytes.result ≡ 8 = ap length c.to_le_bytes.ensures in
     one_more_saved c.args.from c.args.base c.args.hidden words c.args.machine.now c.loop-i.i (c.args.from + 8 * c.loop-i.i) c.word_at.result c.word_to_save-word.result c.to_le_bytes.result c.loop-i.machine c.store_stack.new.self
-    c.requires.low c.requires.below c.address-at.ensures.high c.sp-m.ensures.machine.stack (omega (arith, c.loop-i-test.true, c.count_of_words-i-end.ensures)) c.word_at.ensures small c.word_to_save-word.ensures c.to_le_bytes.ensures eight (search rules) c.store_stack.ensures c.loop-i.invariant
+    c.requires.low c.requires.below c.address-at.ensures.high c.facts.ensures.stack (omega (arith, c.loop-i-test.true, c.count_of_words-i-end.ensures)) c.word_at.ensures small c.word_to_save-word.ensures c.to_le_bytes.ensures eight (search rules) c.store_stack.ensures c.loop-i.invariant
 
 pub returns-clause-saved : goal.returns-clause-saved
 returns-clause-saved g c =

@@ -1,7 +1,7 @@
 use Rattle.std.proofs.Common.{◌≡◌, ℕ, ◌+◌, ◌-◌, ◌<◌, ◌≤◌, length, ap, sym, subst, ◌∙◌, arith}
 use Rattle.ffi3_type_spec.specs.declared.limits.TheConstants.{STACK}
 use Rattle.ffi3_place_spec.specs.declared.Loc.{Loc}
-use Rattle.ffi3_machine.specs.State.{filled, scribbled, with_sp}
+use Rattle.ffi3_machine_spec.specs.State.{filled, scribbled, with_sp}
 use Rattle.ffi3_machine_transfer.specs.Passing.{passing}
 use Rattle.ffi3_machine_transfer.specs.Stored.{stack_byte, IsPlace, SameAt, WroteWithin}
 use Rattle.ffi3_caller.proofs.Calling.{filled_bytes, frame_begun, frame_registers, frame_within}

@@ -4,7 +4,7 @@ use Rattle.ffi3_type_spec.specs.declared.limits.TheConstants.{STACK, STACK_TOP}
 use Rattle.ffi3_place_spec.specs.Standard.{plan_of, frame_of}
 use Rattle.ffi3_place_spec.specs.Sound.{IsWhole, IsNoneOf, argument_locs, hidden_locs, place_locs}
 use Rattle.ffi3_place_spec.specs.MachineRegisters.{to_list}
-use Rattle.ffi3_machine.specs.State.{scribbled}
+use Rattle.ffi3_machine_spec.specs.State.{scribbled}
 use Rattle.ffi3_machine_transfer.specs.Passing.{passing}
 use Rattle.ffi3_machine_transfer.specs.Stored.{stack_byte, IsPlace, IsWritable, SameAt, WroteWithin}
 use Rattle.ffi3_machine_transfer.specs.Standing.{AllKeepUnused}
@@ -71,83 +71,8 @@ put_count-requires-clause-writable g c =
     let same = (c.store_hidden.ensures.within (frame_of std s) lie).target ∙ c.store_places.ensures.within.target ∙ c.begin_frame.ensures.within.target ∙ c.requires.target in
     subst (λ k. AllByRecursion (IsWritable c.store_hidden.new.machine.target) (to_list k)) (sym c.vector_count-count.ensures) (count_is_written std g.met.A.Abi.agrees c.store_hidden.new.machine.target _ g.met.A.Abi.target_is same)
 
-pub returns-clause-own : goal.returns-clause-own
-returns-clause-own g c =
-    let std = g.A.Abi.standard in
-    let s = c.args.cif.now in
-    let sound = g.met.A.Abi.sound s in
-    let m = c.args.machine.now in
-    let write = written_by_law std s sound g.met.A.Abi.agrees m.target _ g.met.A.Abi.target_is c.requires.target in
-    let registers = subst (λ k. AllByRecursion (IsPlace 0) (to_list k)) (sym c.vector_count-count.ensures) (count_is_register std g.met.A.Abi.agrees) in
-    let low : STACK ≤ c.at-base.result = omega (arith, c.begin_frame.ensures.sp, c.frame.ensures, c.at-base.ensures, c.sp.ensures.value, c.requires.room) in
-    let all = call_stored std s sound c.sig-sig.ensures.faultless c.args.values.now m.target c.at-base.result c.result_place.result.now c.vector_count-count.result c.vectors.result (passing (scribbled (length m.events) m)) (passing c.begin_frame.new.machine) (passing c.store_places.new.machine) (passing c.store_hidden.new.machine) (passing c.put_count.new.machine) (c.at-base.ensures ∙ c.sp.ensures.value) low c.result_place.ensures c.vector_count-count.ensures c.vectors.ensures write registers c.requires.fit c.begin_frame.ensures.registers c.store_places.ensures.stand c.store_places.ensures.stays c.store_places.ensures.within c.store_places.ensures.unused c.store_hidden.ensures.stands c.store_hidden.ensures.stays c.store_hidden.ensures.within c.put_count.ensures.told c.put_count.ensures.stays c.put_count.ensures.within in
-    all.own
-
-pub returns-clause-filled : goal.returns-clause-filled
-returns-clause-filled g c =
-    let std = g.A.Abi.standard in
-    let s = c.args.cif.now in
-    let sound = g.met.A.Abi.sound s in
-    let m = c.args.machine.now in
-    let write = written_by_law std s sound g.met.A.Abi.agrees m.target _ g.met.A.Abi.target_is c.requires.target in
-    let registers = subst (λ k. AllByRecursion (IsPlace 0) (to_list k)) (sym c.vector_count-count.ensures) (count_is_register std g.met.A.Abi.agrees) in
-    let low : STACK ≤ c.at-base.result = omega (arith, c.begin_frame.ensures.sp, c.frame.ensures, c.at-base.ensures, c.sp.ensures.value, c.requires.room) in
-    let all = call_stored std s sound c.sig-sig.ensures.faultless c.args.values.now m.target c.at-base.result c.result_place.result.now c.vector_count-count.result c.vectors.result (passing (scribbled (length m.events) m)) (passing c.begin_frame.new.machine) (passing c.store_places.new.machine) (passing c.store_hidden.new.machine) (passing c.put_count.new.machine) (c.at-base.ensures ∙ c.sp.ensures.value) low c.result_place.ensures c.vector_count-count.ensures c.vectors.ensures write registers c.requires.fit c.begin_frame.ensures.registers c.store_places.ensures.stand c.store_places.ensures.stays c.store_places.ensures.within c.store_places.ensures.unused c.store_hidden.ensures.stands c.store_hidden.ensures.stays c.store_hidden.ensures.within c.put_count.ensures.told c.put_count.ensures.stays c.put_count.ensures.within in
-    all.filled
-
-pub returns-clause-hidden : goal.returns-clause-hidden
-returns-clause-hidden g c =
-    let std = g.A.Abi.standard in
-    let s = c.args.cif.now in
-    let sound = g.met.A.Abi.sound s in
-    let m = c.args.machine.now in
-    let write = written_by_law std s sound g.met.A.Abi.agrees m.target _ g.met.A.Abi.target_is c.requires.target in
-    let registers = subst (λ k. AllByRecursion (IsPlace 0) (to_list k)) (sym c.vector_count-count.ensures) (count_is_register std g.met.A.Abi.agrees) in
-    let low : STACK ≤ c.at-base.result = omega (arith, c.begin_frame.ensures.sp, c.frame.ensures, c.at-base.ensures, c.sp.ensures.value, c.requires.room) in
-    let all = call_stored std s sound c.sig-sig.ensures.faultless c.args.values.now m.target c.at-base.result c.result_place.result.now c.vector_count-count.result c.vectors.result (passing (scribbled (length m.events) m)) (passing c.begin_frame.new.machine) (passing c.store_places.new.machine) (passing c.store_hidden.new.machine) (passing c.put_count.new.machine) (c.at-base.ensures ∙ c.sp.ensures.value) low c.result_place.ensures c.vector_count-count.ensures c.vectors.ensures write registers c.requires.fit c.begin_frame.ensures.registers c.store_places.ensures.stand c.store_places.ensures.stays c.store_places.ensures.within c.store_places.ensures.unused c.store_hidden.ensures.stands c.store_hidden.ensures.stays c.store_hidden.ensures.within c.put_count.ensures.told c.put_count.ensures.stays c.put_count.ensures.within in
-    all.hidden
-
-pub returns-clause-vectors : goal.returns-clause-vectors
-returns-clause-vectors g c =
-    let std = g.A.Abi.standard in
-    let s = c.args.cif.now in
-    let sound = g.met.A.Abi.sound s in
-    let m = c.args.machine.now in
-    let write = written_by_law std s sound g.met.A.Abi.agrees m.target _ g.met.A.Abi.target_is c.requires.target in
-    let registers = subst (λ k. AllByRecursion (IsPlace 0) (to_list k)) (sym c.vector_count-count.ensures) (count_is_register std g.met.A.Abi.agrees) in
-    let low : STACK ≤ c.at-base.result = omega (arith, c.begin_frame.ensures.sp, c.frame.ensures, c.at-base.ensures, c.sp.ensures.value, c.requires.room) in
-    let all = call_stored std s sound c.sig-sig.ensures.faultless c.args.values.now m.target c.at-base.result c.result_place.result.now c.vector_count-count.result c.vectors.result (passing (scribbled (length m.events) m)) (passing c.begin_frame.new.machine) (passing c.store_places.new.machine) (passing c.store_hidden.new.machine) (passing c.put_count.new.machine) (c.at-base.ensures ∙ c.sp.ensures.value) low c.result_place.ensures c.vector_count-count.ensures c.vectors.ensures write registers c.requires.fit c.begin_frame.ensures.registers c.store_places.ensures.stand c.store_places.ensures.stays c.store_places.ensures.within c.store_places.ensures.unused c.store_hidden.ensures.stands c.store_hidden.ensures.stays c.store_hidden.ensures.within c.put_count.ensures.told c.put_count.ensures.stays c.put_count.ensures.within in
-    all.vectors
-
-pub returns-clause-unused : goal.returns-clause-unused
-returns-clause-unused g c =
-    let std = g.A.Abi.standard in
-    let s = c.args.cif.now in
-    let sound = g.met.A.Abi.sound s in
-    let m = c.args.machine.now in
-    let write = written_by_law std s sound g.met.A.Abi.agrees m.target _ g.met.A.Abi.target_is c.requires.target in
-    let registers = subst (λ k. AllByRecursion (IsPlace 0) (to_list k)) (sym c.vector_count-count.ensures) (count_is_register std g.met.A.Abi.agrees) in
-    let low : STACK ≤ c.at-base.result = omega (arith, c.begin_frame.ensures.sp, c.frame.ensures, c.at-base.ensures, c.sp.ensures.value, c.requires.room) in
-    let all = call_stored std s sound c.sig-sig.ensures.faultless c.args.values.now m.target c.at-base.result c.result_place.result.now c.vector_count-count.result c.vectors.result (passing (scribbled (length m.events) m)) (passing c.begin_frame.new.machine) (passing c.store_places.new.machine) (passing c.store_hidden.new.machine) (passing c.put_count.new.machine) (c.at-base.ensures ∙ c.sp.ensures.value) low c.result_place.ensures c.vector_count-count.ensures c.vectors.ensures write registers c.requires.fit c.begin_frame.ensures.registers c.store_places.ensures.stand c.store_places.ensures.stays c.store_places.ensures.within c.store_places.ensures.unused c.store_hidden.ensures.stands c.store_hidden.ensures.stays c.store_hidden.ensures.within c.put_count.ensures.told c.put_count.ensures.stays c.put_count.ensures.within in
-    let o = passing c.begin_frame.new.machine in
-    let d = passing c.put_count.new.machine in
-    subst (λ low. AllKeepUnused low (passing (with_frame (frame_of std s) m)) d s.arguments (plan_of std s).places) (sym all.sp)
-    (subst (λ x. AllKeepUnused o.sp x d s.arguments (plan_of std s).places) (ap passing (c.begin_frame.ensures.opened ∙ ap (λ n. with_frame n m) c.frame.ensures)) all.unused)
-
-pub returns-clause-passed : goal.returns-clause-passed
-returns-clause-passed g c =
-    let std = g.A.Abi.standard in
-    let s = c.args.cif.now in
-    let sound = g.met.A.Abi.sound s in
-    let m = c.args.machine.now in
-    let write = written_by_law std s sound g.met.A.Abi.agrees m.target _ g.met.A.Abi.target_is c.requires.target in
-    let registers = subst (λ k. AllByRecursion (IsPlace 0) (to_list k)) (sym c.vector_count-count.ensures) (count_is_register std g.met.A.Abi.agrees) in
-    let low : STACK ≤ c.at-base.result = omega (arith, c.begin_frame.ensures.sp, c.frame.ensures, c.at-base.ensures, c.sp.ensures.value, c.requires.room) in
-    let all = call_stored std s sound c.sig-sig.ensures.faultless c.args.values.now m.target c.at-base.result c.result_place.result.now c.vector_count-count.result c.vectors.result (passing (scribbled (length m.events) m)) (passing c.begin_frame.new.machine) (passing c.store_places.new.machine) (passing c.store_hidden.new.machine) (passing c.put_count.new.machine) (c.at-base.ensures ∙ c.sp.ensures.value) low c.result_place.ensures c.vector_count-count.ensures c.vectors.ensures write registers c.requires.fit c.begin_frame.ensures.registers c.store_places.ensures.stand c.store_places.ensures.stays c.store_places.ensures.within c.store_places.ensures.unused c.store_hidden.ensures.stands c.store_hidden.ensures.stays c.store_hidden.ensures.within c.put_count.ensures.told c.put_count.ensures.stays c.put_count.ensures.within in
-    all.others
-
-pub returns-clause-others : goal.returns-clause-others
-returns-clause-others g c =
+pub returns : goal.returns
+returns g c =
     let std = g.A.Abi.standard in
     let s = c.args.cif.now in
     let sound = g.met.A.Abi.sound s in
@@ -157,78 +82,25 @@ returns-clause-others g c =
     let low : STACK ≤ c.at-base.result = omega (arith, c.begin_frame.ensures.sp, c.frame.ensures, c.at-base.ensures, c.sp.ensures.value, c.requires.room) in
     let all = call_stored std s sound c.sig-sig.ensures.faultless c.args.values.now m.target c.at-base.result c.result_place.result.now c.vector_count-count.result c.vectors.result (passing (scribbled (length m.events) m)) (passing c.begin_frame.new.machine) (passing c.store_places.new.machine) (passing c.store_hidden.new.machine) (passing c.put_count.new.machine) (c.at-base.ensures ∙ c.sp.ensures.value) low c.result_place.ensures c.vector_count-count.ensures c.vectors.ensures write registers c.requires.fit c.begin_frame.ensures.registers c.store_places.ensures.stand c.store_places.ensures.stays c.store_places.ensures.within c.store_places.ensures.unused c.store_hidden.ensures.stands c.store_hidden.ensures.stays c.store_hidden.ensures.within c.put_count.ensures.told c.put_count.ensures.stays c.put_count.ensures.within in
     let wrote = (call_within (frame_of std s) (passing (scribbled (length m.events) m)) (passing c.begin_frame.new.machine) (passing c.put_count.new.machine) (subst (λ n. c.begin_frame.new.machine.sp + n ≡ m.sp) c.frame.ensures c.begin_frame.ensures.sp) (subst (λ n. WroteWithin c.begin_frame.new.machine.sp (c.begin_frame.new.machine.sp + n) (passing (scribbled (length m.events) m)) (passing c.begin_frame.new.machine)) c.frame.ensures c.begin_frame.ensures.within) all.sp all.within) in
-    let own : (l : Loc) → IsPlace 0 l → IsNoneOf (argument_locs (plan_of std s) ++ to_list std.vector_count) l → SameAt 0 l (scribbled (length m.events) m) c.put_count.new.machine = λ l h none.
-    own_register l (scribbled (length m.events) m) c.put_count.new.machine h wrote.target (length-scribbled_general _ _ _ ∙ sym c.sp-last.ensures.machine.general) (length-scribbled_floating _ ∙ sym c.sp-last.ensures.machine.floating) (all.others l h none) wrote.exchange in
-    own
-
-pub returns-clause-free : goal.returns-clause-free
-returns-clause-free g c =
-    let std = g.A.Abi.standard in
-    let s = c.args.cif.now in
-    let sound = g.met.A.Abi.sound s in
-    let m = c.args.machine.now in
-    let write = written_by_law std s sound g.met.A.Abi.agrees m.target _ g.met.A.Abi.target_is c.requires.target in
-    let registers = subst (λ k. AllByRecursion (IsPlace 0) (to_list k)) (sym c.vector_count-count.ensures) (count_is_register std g.met.A.Abi.agrees) in
-    let low : STACK ≤ c.at-base.result = omega (arith, c.begin_frame.ensures.sp, c.frame.ensures, c.at-base.ensures, c.sp.ensures.value, c.requires.room) in
-    let all = call_stored std s sound c.sig-sig.ensures.faultless c.args.values.now m.target c.at-base.result c.result_place.result.now c.vector_count-count.result c.vectors.result (passing (scribbled (length m.events) m)) (passing c.begin_frame.new.machine) (passing c.store_places.new.machine) (passing c.store_hidden.new.machine) (passing c.put_count.new.machine) (c.at-base.ensures ∙ c.sp.ensures.value) low c.result_place.ensures c.vector_count-count.ensures c.vectors.ensures write registers c.requires.fit c.begin_frame.ensures.registers c.store_places.ensures.stand c.store_places.ensures.stays c.store_places.ensures.within c.store_places.ensures.unused c.store_hidden.ensures.stands c.store_hidden.ensures.stays c.store_hidden.ensures.within c.put_count.ensures.told c.put_count.ensures.stays c.put_count.ensures.within in
-    λ at w k room none below.
     let o = c.begin_frame.new.machine in
     let d = c.put_count.new.machine in
-    let there : d.sp + at + k ≡ o.sp + at + k = omega (arith, all.sp) in
-    let within : at + k < c.frame.result = omega (arith, room, below, c.frame.ensures) in
-    let back : o.sp + (at + k) ≡ o.sp + at + k = omega arith in
-    ap (stack_byte d) there ∙ all.free at w none k below ∙ ap (stack_byte o) (sym back) ∙ c.begin_frame.ensures.filled (at + k) within
-
-pub returns-clause-sp : goal.returns-clause-sp
-returns-clause-sp g c =
-    let std = g.A.Abi.standard in
-    let s = c.args.cif.now in
-    let sound = g.met.A.Abi.sound s in
-    let m = c.args.machine.now in
-    let write = written_by_law std s sound g.met.A.Abi.agrees m.target _ g.met.A.Abi.target_is c.requires.target in
-    let registers = subst (λ k. AllByRecursion (IsPlace 0) (to_list k)) (sym c.vector_count-count.ensures) (count_is_register std g.met.A.Abi.agrees) in
-    let low : STACK ≤ c.at-base.result = omega (arith, c.begin_frame.ensures.sp, c.frame.ensures, c.at-base.ensures, c.sp.ensures.value, c.requires.room) in
-    let all = call_stored std s sound c.sig-sig.ensures.faultless c.args.values.now m.target c.at-base.result c.result_place.result.now c.vector_count-count.result c.vectors.result (passing (scribbled (length m.events) m)) (passing c.begin_frame.new.machine) (passing c.store_places.new.machine) (passing c.store_hidden.new.machine) (passing c.put_count.new.machine) (c.at-base.ensures ∙ c.sp.ensures.value) low c.result_place.ensures c.vector_count-count.ensures c.vectors.ensures write registers c.requires.fit c.begin_frame.ensures.registers c.store_places.ensures.stand c.store_places.ensures.stays c.store_places.ensures.within c.store_places.ensures.unused c.store_hidden.ensures.stands c.store_hidden.ensures.stays c.store_hidden.ensures.within c.put_count.ensures.told c.put_count.ensures.stays c.put_count.ensures.within in
-    omega (arith, all.sp, c.begin_frame.ensures.sp, c.frame.ensures)
-
-pub returns-clause-preserved : goal.returns-clause-preserved
-returns-clause-preserved g c =
-    let std = g.A.Abi.standard in
-    let s = c.args.cif.now in
-    let sound = g.met.A.Abi.sound s in
-    let m = c.args.machine.now in
-    let write = written_by_law std s sound g.met.A.Abi.agrees m.target _ g.met.A.Abi.target_is c.requires.target in
-    let registers = subst (λ k. AllByRecursion (IsPlace 0) (to_list k)) (sym c.vector_count-count.ensures) (count_is_register std g.met.A.Abi.agrees) in
-    let low : STACK ≤ c.at-base.result = omega (arith, c.begin_frame.ensures.sp, c.frame.ensures, c.at-base.ensures, c.sp.ensures.value, c.requires.room) in
-    let all = call_stored std s sound c.sig-sig.ensures.faultless c.args.values.now m.target c.at-base.result c.result_place.result.now c.vector_count-count.result c.vectors.result (passing (scribbled (length m.events) m)) (passing c.begin_frame.new.machine) (passing c.store_places.new.machine) (passing c.store_hidden.new.machine) (passing c.put_count.new.machine) (c.at-base.ensures ∙ c.sp.ensures.value) low c.result_place.ensures c.vector_count-count.ensures c.vectors.ensures write registers c.requires.fit c.begin_frame.ensures.registers c.store_places.ensures.stand c.store_places.ensures.stays c.store_places.ensures.within c.store_places.ensures.unused c.store_hidden.ensures.stands c.store_hidden.ensures.stays c.store_hidden.ensures.within c.put_count.ensures.told c.put_count.ensures.stays c.put_count.ensures.within in
-    let wrote = (call_within (frame_of std s) (passing (scribbled (length m.events) m)) (passing c.begin_frame.new.machine) (passing c.put_count.new.machine) (subst (λ n. c.begin_frame.new.machine.sp + n ≡ m.sp) c.frame.ensures c.begin_frame.ensures.sp) (subst (λ n. WroteWithin c.begin_frame.new.machine.sp (c.begin_frame.new.machine.sp + n) (passing (scribbled (length m.events) m)) (passing c.begin_frame.new.machine)) c.frame.ensures c.begin_frame.ensures.within) all.sp all.within) in
     let own : (l : Loc) → IsPlace 0 l → IsNoneOf (argument_locs (plan_of std s) ++ to_list std.vector_count) l → SameAt 0 l (scribbled (length m.events) m) c.put_count.new.machine = λ l h none.
-    own_register l (scribbled (length m.events) m) c.put_count.new.machine h wrote.target (length-scribbled_general _ _ _ ∙ sym c.sp-last.ensures.machine.general) (length-scribbled_floating _ ∙ sym c.sp-last.ensures.machine.floating) (all.others l h none) wrote.exchange in
-    preserved_same std g.met.A.Abi.agrees s sound (scribbled (length m.events) m) c.put_count.new.machine own
-
-pub returns-clause-reserved : goal.returns-clause-reserved
-returns-clause-reserved g c =
-    let std = g.A.Abi.standard in
-    let s = c.args.cif.now in
-    let sound = g.met.A.Abi.sound s in
-    let m = c.args.machine.now in
-    let write = written_by_law std s sound g.met.A.Abi.agrees m.target _ g.met.A.Abi.target_is c.requires.target in
-    let registers = subst (λ k. AllByRecursion (IsPlace 0) (to_list k)) (sym c.vector_count-count.ensures) (count_is_register std g.met.A.Abi.agrees) in
-    let low : STACK ≤ c.at-base.result = omega (arith, c.begin_frame.ensures.sp, c.frame.ensures, c.at-base.ensures, c.sp.ensures.value, c.requires.room) in
-    let all = call_stored std s sound c.sig-sig.ensures.faultless c.args.values.now m.target c.at-base.result c.result_place.result.now c.vector_count-count.result c.vectors.result (passing (scribbled (length m.events) m)) (passing c.begin_frame.new.machine) (passing c.store_places.new.machine) (passing c.store_hidden.new.machine) (passing c.put_count.new.machine) (c.at-base.ensures ∙ c.sp.ensures.value) low c.result_place.ensures c.vector_count-count.ensures c.vectors.ensures write registers c.requires.fit c.begin_frame.ensures.registers c.store_places.ensures.stand c.store_places.ensures.stays c.store_places.ensures.within c.store_places.ensures.unused c.store_hidden.ensures.stands c.store_hidden.ensures.stays c.store_hidden.ensures.within c.put_count.ensures.told c.put_count.ensures.stays c.put_count.ensures.within in
-    let wrote = (call_within (frame_of std s) (passing (scribbled (length m.events) m)) (passing c.begin_frame.new.machine) (passing c.put_count.new.machine) (subst (λ n. c.begin_frame.new.machine.sp + n ≡ m.sp) c.frame.ensures c.begin_frame.ensures.sp) (subst (λ n. WroteWithin c.begin_frame.new.machine.sp (c.begin_frame.new.machine.sp + n) (passing (scribbled (length m.events) m)) (passing c.begin_frame.new.machine)) c.frame.ensures c.begin_frame.ensures.within) all.sp all.within) in
-    let own : (l : Loc) → IsPlace 0 l → IsNoneOf (argument_locs (plan_of std s) ++ to_list std.vector_count) l → SameAt 0 l (scribbled (length m.events) m) c.put_count.new.machine = λ l h none.
-    own_register l (scribbled (length m.events) m) c.put_count.new.machine h wrote.target (length-scribbled_general _ _ _ ∙ sym c.sp-last.ensures.machine.general) (length-scribbled_floating _ ∙ sym c.sp-last.ensures.machine.floating) (all.others l h none) wrote.exchange in
-    reserved_stays std g.met.A.Abi.agrees s sound (scribbled (length m.events) m) c.put_count.new.machine own (length m.events) m _ refl g.met.A.Abi.target_is c.requires.target
-
-pub returns-clause-within : goal.returns-clause-within
-returns-clause-within g c =
-    let std = g.A.Abi.standard in
-    let s = c.args.cif.now in
-    let sound = g.met.A.Abi.sound s in
-    let m = c.args.machine.now in
-    let write = written_by_law std s sound g.met.A.Abi.agrees m.target _ g.met.A.Abi.target_is c.requires.target in
-    let registers = subst (λ k. AllByRecursion (IsPlace 0) (to_list k)) (sym c.vector_count-count.ensures) (count_is_register std g.met.A.Abi.agrees) in
-    let low : STACK ≤ c.at-base.result = omega (arith, c.begin_frame.ensures.sp, c.frame.ensures, c.at-base.ensures, c.sp.ensures.value, c.requires.room) in
-    let all = call_stored std s sound c.sig-sig.ensures.faultless c.args.values.now m.target c.at-base.result c.result_place.result.now c.vector_count-count.result c.vectors.result (passing (scribbled (length m.events) m)) (passing c.begin_frame.new.machine) (passing c.store_places.new.machine) (passing c.store_hidden.new.machine) (passing c.put_count.new.machine) (c.at-base.ensures ∙ c.sp.ensures.value) low c.result_place.ensures c.vector_count-count.ensures c.vectors.ensures write registers c.requires.fit c.begin_frame.ensures.registers c.store_places.ensures.stand c.store_places.ensures.stays c.store_places.ensures.within c.store_places.ensures.unused c.store_hidden.ensures.stands c.store_hidden.ensures.stays c.store_hidden.ensures.within c.put_count.ensures.told c.put_count.ensures.stays c.put_count.ensures.within in
-    call_within (frame_of std s) (passing (scribbled (length m.events) m)) (passing c.begin_frame.new.machine) (passing c.put_count.new.machine) (subst (λ n. c.begin_frame.new.machine.sp + n ≡ m.sp) c.frame.ensures c.begin_frame.ensures.sp) (subst (λ n. WroteWithin c.begin_frame.new.machine.sp (c.begin_frame.new.machine.sp + n) (passing (scribbled (length m.events) m)) (passing c.begin_frame.new.machine)) c.frame.ensures c.begin_frame.ensures.within) all.sp all.within
+    own_register l (scribbled (length m.events) m) c.put_count.new.machine h wrote.target (length-scribbled_general _ _ _ ∙ sym c.facts.ensures.general) (length-scribbled_floating _ ∙ sym c.facts.ensures.floating) (all.others l h none) wrote.exchange in
+    record {
+      own = all.own;
+      filled = all.filled;
+      hidden = all.hidden;
+      vectors = all.vectors;
+      sp = omega (arith, all.sp, c.begin_frame.ensures.sp, c.frame.ensures);
+      others = own;
+      preserved = preserved_same std g.met.A.Abi.agrees s sound (scribbled (length m.events) m) c.put_count.new.machine own;
+      reserved = reserved_stays std g.met.A.Abi.agrees s sound (scribbled (length m.events) m) c.put_count.new.machine own (length m.events) m _ refl g.met.A.Abi.target_is c.requires.target;
+      passed = all.others;
+      free = λ at w k room none below.
+          let there : d.sp + at + k ≡ o.sp + at + k = omega (arith, all.sp) in
+          let within : at + k < c.frame.result = omega (arith, room, below, c.frame.ensures) in
+          let back : o.sp + (at + k) ≡ o.sp + at + k = omega arith in
+          ap (stack_byte d) there ∙ all.free at w none k below ∙ ap (stack_byte o) (sym back) ∙ c.begin_frame.ensures.filled (at + k) within;
+      unused = subst (λ low. AllKeepUnused low (passing (with_frame (frame_of std s) m)) (passing d) s.arguments (plan_of std s).places) (sym all.sp) (subst (λ x. AllKeepUnused o.sp x (passing d) s.arguments (plan_of std s).places) (ap passing (c.begin_frame.ensures.opened ∙ ap (λ n. with_frame n m) c.frame.ensures)) all.unused);
+      within = wrote;
+    }

@@ -1,6 +1,7 @@
 use Rattle.std.proofs.Common.{◌≡◌, ◌+◌, Bool, true, false, ap, sym, ◌∙◌, arith}
 use Rattle.ffi3_type_spec.specs.TargetIsa.{isa_of}
-use Rattle.ffi3_machine.specs.State.{State, with_x}
+use Rattle.ffi3_machine_spec.specs.declared.stub.TheConstants.{RETURN_SP_AT}
+use Rattle.ffi3_machine_spec.specs.State.{State, with_x}
 use Rattle.ffi3_stubs.specs.Calls.{after_return}
 use Rattle.ffi3_machine_transfer.specs.Passing.{by_exchange}
 use Rattle.ffi3_caller.specs.Called.{come_back_if}
@@ -12,7 +13,7 @@ returns-then-exchanged-clause-whole c =
     let m = c.args.machine.now in
     let e : by_exchange c.args.machine.now.target ≡ true = cc in
     let sp : c.sp-sp.result + c.args.frame ≡ m.sp + c.args.frame = omega (arith, c.sp-sp.ensures.value) in
-    c.run_return.ensures.whole ∙ ap (λ (t : State). after_return (isa_of t.target) t) (c.set_x.ensures ∙ ap (λ v. with_x 544 v m) sp) ∙ ap (λ (b : Bool). come_back_if b c.args.frame m) (sym e)
+    c.run_return.ensures.whole ∙ ap (λ (t : State). after_return (isa_of t.target) t) (c.set_x.ensures ∙ ap (λ v. with_x RETURN_SP_AT v m) sp) ∙ ap (λ (b : Bool). come_back_if b c.args.frame m) (sym e)
 
 pub returns-then-exchanged-clause-back : goal.returns-then-exchanged-clause-back
 returns-then-exchanged-clause-back c =

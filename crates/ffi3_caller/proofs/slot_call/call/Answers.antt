@@ -37,5 +37,5 @@ returns-clause-holds g c = λ values own fill address count.
     let m = c.args.machine.now in
     let sound = g.met.A.Abi.sound s in
     let same : std.target ≡ m.target = g.met.A.Abi.target_is ∙ sym c.requires.target in
-    let fits : m.sp - STACK + frame_of std s ≤ length m.stack = omega (arith, c.requires.room, c.requires.frame, c.sp-sp.ensures.machine.stack) in
+    let fits : m.sp - STACK + frame_of std s ≤ length m.stack = omega (arith, c.requires.room, c.requires.frame, c.facts.ensures.stack) in
     holds_after_call std s sound c.sig-sig.ensures.faultless g.met.A.Abi.agrees c.args.addr m c.call_slot.new.machine same (λ e. laws_of std m.target g.met.A.Abi.by_stubs same e) c.requires.room fits c.call_slot.ensures.called values own fill address count

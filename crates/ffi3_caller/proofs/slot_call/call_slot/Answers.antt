@@ -1,7 +1,7 @@
 use Rattle.std.proofs.Common.{◌≡◌, Bool, true, false, ap, sym, ◌∙◌, arith}
 use Rattle.ffi3_type_spec.specs.TargetIsa.{isa_of}
-use Rattle.ffi3_machine.specs.State.{State, with_pc}
-use Rattle.ffi3_machine.specs.Stubs.{Call, stub_at}
+use Rattle.ffi3_machine_spec.specs.State.{State, with_pc}
+use Rattle.ffi3_machine_spec.specs.Stubs.{Call, stub_at}
 use Rattle.ffi3_stubs.specs.Calls.{after_call}
 use Rattle.ffi3_machine_transfer.specs.Passing.{by_exchange}
 use Rattle.ffi3_caller.specs.Called.{called_if}
@@ -10,15 +10,15 @@ use Rattle.ffi3_caller.proofs.slot_call.call_slot.Goals as goal
 
 pub run_call-requires-clause-slot : goal.run_call-requires-clause-slot
 run_call-requires-clause-slot c =
-    call_at_slot c.args.addr c.args.machine.now c.sp-sp.ensures.machine c.requires.slot c.tell.new.machine c.tell.ensures
+    call_at_slot c.args.addr c.args.machine.now c.facts.ensures c.requires.slot c.tell.new.machine c.tell.ensures
 
 pub run_call-requires-clause-low : goal.run_call-requires-clause-low
 run_call-requires-clause-low c =
-    call_low c.args.addr c.args.machine.now c.sp-sp.ensures.machine c.requires.slot c.tell.new.machine c.tell.ensures c.requires.room
+    call_low c.args.addr c.args.machine.now c.facts.ensures c.requires.slot c.tell.new.machine c.tell.ensures c.requires.room
 
 pub run_call-requires-clause-high : goal.run_call-requires-clause-high
 run_call-requires-clause-high c =
-    call_high c.args.addr c.args.machine.now c.sp-sp.ensures.machine c.requires.slot c.tell.new.machine c.tell.ensures c.requires.top
+    call_high c.args.addr c.args.machine.now c.facts.ensures c.requires.slot c.tell.new.machine c.tell.ensures c.requires.top
 
 pub call-requires-clause-room : goal.call-requires-clause-room
 call-requires-clause-room c = λ some. (omega (arith, c.requires.room), omega (arith, c.requires.room, c.requires.top))
@@ -32,7 +32,7 @@ returns-then-exchanged-clause-whole c =
 pub returns-then-exchanged-clause-called : goal.returns-then-exchanged-clause-called
 returns-then-exchanged-clause-called c =
     let e : by_exchange c.args.machine.now.target ≡ true = cc in
-    called_by_stub c.args.addr c.args.machine.now c.tell.new.machine c.run_call.new.machine c.sp-sp.ensures.machine c.requires.slot c.tell.ensures c.requires.room c.requires.top e c.run_call.ensures.says c.run_call.ensures.counted
+    called_by_stub c.args.addr c.args.machine.now c.tell.new.machine c.run_call.new.machine c.facts.ensures c.requires.slot c.tell.ensures c.requires.room c.requires.top e c.run_call.ensures.says c.run_call.ensures.counted
 
 pub returns-else-exchanged-clause-whole : goal.returns-else-exchanged-clause-whole
 returns-else-exchanged-clause-whole c =

@@ -1,6 +1,6 @@
 use Rattle.std.proofs.Common.{subst}
 use Rattle.ffi3_types.specs.SignatureFaultOf.{signature_fault_of}
-use Rattle.ffi3_cdecl.specs.ReadingFor.{IsReadingFor}
+use Rattle.ffi3_cdecl_spec.specs.ReadingFor.{IsReadingFor}
 use Rattle.ffi3_cdecl.specs.Tells.{Tells}
 use Rattle.ffi3_capi.specs.Chars.{char_sign}
 use Rattle.ffi3_capi.specs.Formats.{long_double_on}

@@ -2,7 +2,7 @@ use Rattle.std.proofs.Common.{subst}
 use Rattle.std.proofs.lemmas.Result.{IfOk-weaker}
 use Rattle.ffi3_cdecl_spec.specs.Tokens.{Sign}
 use Rattle.ffi3_cdecl_spec.specs.Reading.{reads}
-use Rattle.ffi3_cdecl.specs.ReadingFor.{IsReadingFor}
+use Rattle.ffi3_cdecl_spec.specs.ReadingFor.{IsReadingFor}
 use Rattle.ffi3_cdecl.specs.Tells.{Tells}
 use Rattle.ffi3_format_spec.specs.declared.Format.{Format}
 use Rattle.ffi3_capi.specs.Chars.{char_sign}

@@ -2,7 +2,7 @@ use Rattle.std.proofs.Common.{◌++◌, List, ℕ, ap, subst, ◌∙◌}
 use Rattle.std.proofs.lemmas.Result.{IfOk-weaker}
 use Rattle.ffi3_types.specs.SignatureFaultOf.{signature_fault_of}
 use Rattle.ffi3_diagnostics_spec.specs.ToldText.{lines_at}
-use Rattle.ffi3_cdecl.specs.ReadingFor.{IsReadingFor}
+use Rattle.ffi3_cdecl_spec.specs.ReadingFor.{IsReadingFor}
 use Rattle.ffi3_cdecl.specs.Tells.{Tells}
 use Rattle.ffi3_capi.specs.Chars.{char_sign}
 use Rattle.ffi3_capi.specs.FaultLines.{place_line}

@@ -1,7 +1,7 @@
 use Rattle.std.proofs.Common.{◌≡◌, ◌∙◌, ap, refl, sym}
 use Rattle.ffi3_cdecl.specs.PassOf.{outcome_of}
 use Rattle.ffi3_cdecl_spec.specs.Reading.{reads}
-use Rattle.ffi3_cdecl.specs.ReadingFor.{read_for}
+use Rattle.ffi3_cdecl_spec.specs.ReadingFor.{read_for}
 use Rattle.ffi3_cdecl.specs.TokenOf.{sign_of}
 use Rattle.ffi3_cdecl.proofs.Judging.{is_reading_for, read_is_placed}
 use Rattle.ffi3_cdecl.proofs.decl.read_decl_for.Goals as goal

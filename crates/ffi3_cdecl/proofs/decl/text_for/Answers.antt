@@ -3,7 +3,7 @@ use Rattle.std.proofs.lemmas.Result.{IfOk-weaker}
 use Rattle.ffi3_cdecl.specs.PassOf.{pass_of, outcome_of, judged_by, pass_over, unjudged_behind}
 use Rattle.ffi3_cdecl_spec.specs.OnePass.{new_pass}
 use Rattle.ffi3_cdecl_spec.specs.Tokens.{wide}
-use Rattle.ffi3_cdecl.specs.ReadingFor.{judged_for, read_for}
+use Rattle.ffi3_cdecl_spec.specs.ReadingFor.{judged_for, read_for}
 use Rattle.ffi3_cdecl.specs.TokenOf.{sign_of}
 use Rattle.ffi3_cdecl.proofs.Passes.{computed_by}
 use Rattle.ffi3_cdecl.proofs.Judging.{same_judged_for}

@@ -1,7 +1,7 @@
 use Rattle.std.proofs.Common.{rules, ◌≡◌, map, codes}
 use Rattle.std.proofs.lemmas.Result.{IfOk-weaker}
 use Rattle.clap.specs.Words.{app_of, new_app, rule_of}
-use Rattle.ffi3_cli.specs.WordCommands.{targets}
+use Rattle.ffi3_cli_spec.specs.WordCommands.{targets}
 use Rattle.ffi3_cli.proofs.Program.{has_target}
 use Rattle.ffi3_cli.proofs.command.place.Goals as goal
 

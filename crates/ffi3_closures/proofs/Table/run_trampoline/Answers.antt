@@ -1,5 +1,5 @@
 use Rattle.std.proofs.Common.{◌≡◌, ℕ, ◌-◌, ◌+◌, arith, subst, sym, refl}
-use Rattle.ffi3_machine.specs.State.{State}
+use Rattle.ffi3_machine_spec.specs.State.{State}
 use Rattle.ffi3_machine.specs.MachineStep.{Steps, TakesSteps}
 use Rattle.ffi3_closures.specs.Reaching.{reached}
 use Rattle.ffi3_closures.proofs.Live.{three_steps}
@@ -11,7 +11,7 @@ loop-k-init c =
     let map : c.self.inside.slots.items ≡ c.args.self.now = c.self.view_is in
     record {
       done = refl;
-      rest = three_steps c.args.self.now c.args.machine.now (rw map at c.self.invariant) c.sp-sp.ensures.machine c.requires.holds c.requires.live;
+      rest = three_steps c.args.self.now c.args.machine.now (rw map at c.self.invariant) c.facts.ensures c.requires.holds c.requires.live;
     }
 
 pub loop-k-preserved : goal.loop-k-preserved

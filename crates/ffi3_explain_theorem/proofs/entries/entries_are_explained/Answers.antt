@@ -1,6 +1,6 @@
 use Rattle.std.proofs.Common.{subst}
 use Rattle.std.specs.List.{AllByRecursion}
-use Rattle.ffi3_machine.specs.Recorded.{Recorded}
+use Rattle.ffi3_machine_spec.specs.Recorded.{Recorded}
 use Rattle.ffi3_explain_spec.specs.Laws.{HasWords}
 use Rattle.ffi3_explain_theorem.proofs.entries.entries_are_explained.Goals as goal
 

@@ -1,5 +1,5 @@
 use Rattle.std.proofs.Common.{ℕ, ◌<◌}
-use Rattle.ffi3_machine.specs.Recorded.{event_at}
+use Rattle.ffi3_machine_spec.specs.Recorded.{event_at}
 use Rattle.ffi3_explain_spec.specs.Laws.{HasWords}
 use Rattle.ffi3_explain_theorem.proofs.entries.have_words.Given as goal
 

@@ -15,8 +15,8 @@ go_back-requires-clause-target g c =
     let s = c.args.cif.now in
     written_target (c.args.incoming.entry + std.link) s.result_type (plan_of std s).res (passing c.args.machine.now) (passing c.give_result.new.machine) c.give_result.ensures.writes ∙ c.requires.called.1.target ∙ g.met.A.Abi.target_is
 
-pub record_return-requires-clause-at_return : goal.record_return-requires-clause-at_return
-record_return-requires-clause-at_return g c =
+pub record_return-requires : goal.record_return-requires
+record_return-requires g c =
     let std = g.A.Abi.standard in
     let s = c.args.cif.now in
     let m = c.args.machine.now in
@@ -27,66 +27,16 @@ record_return-requires-clause-at_return g c =
     let entry = c.requires.called.0 in
     let called = c.requires.called.1 in
     let v = value_of c.args.value.now in
-    at_return std s agrees v incoming m given back called.target c.sp-sp.ensures.machine.stack c.requires.incoming c.requires.block c.give_result.ensures.writes c.give_result.ensures.reserved c.go_back.ensures.back c.go_back.ensures.reserved entry called
-
-pub record_return-requires-clause-low : goal.record_return-requires-clause-low
-record_return-requires-clause-low g c =
-    let std = g.A.Abi.standard in
-    let s = c.args.cif.now in
-    let m = c.args.machine.now in
-    let agrees = g.met.A.Abi.agrees in
-    let incoming = c.args.incoming in
-    let given = c.give_result.new.machine in
-    let back = c.go_back.new.machine in
-    let entry = c.requires.called.0 in
-    let called = c.requires.called.1 in
-    let v = value_of c.args.value.now in
-    return_low std s agrees v incoming m given back called.target c.sp-sp.ensures.machine.stack c.requires.incoming c.requires.block c.give_result.ensures.writes c.give_result.ensures.reserved c.go_back.ensures.back c.go_back.ensures.reserved
-
-pub record_return-requires-clause-high : goal.record_return-requires-clause-high
-record_return-requires-clause-high g c =
-    let std = g.A.Abi.standard in
-    let s = c.args.cif.now in
-    let m = c.args.machine.now in
-    let agrees = g.met.A.Abi.agrees in
-    let incoming = c.args.incoming in
-    let given = c.give_result.new.machine in
-    let back = c.go_back.new.machine in
-    let entry = c.requires.called.0 in
-    let called = c.requires.called.1 in
-    let v = value_of c.args.value.now in
-    let top = return_high std s agrees v incoming m given back called.target c.sp-sp.ensures.machine.stack c.requires.incoming c.requires.block c.give_result.ensures.writes c.give_result.ensures.reserved c.go_back.ensures.back c.go_back.ensures.reserved in
-    omega (arith, top, c.frame.ensures)
-
-pub record_return-requires-clause-events : goal.record_return-requires-clause-events
-record_return-requires-clause-events g c =
-    let std = g.A.Abi.standard in
-    let s = c.args.cif.now in
-    let m = c.args.machine.now in
-    let agrees = g.met.A.Abi.agrees in
-    let incoming = c.args.incoming in
-    let given = c.give_result.new.machine in
-    let back = c.go_back.new.machine in
-    let entry = c.requires.called.0 in
-    let called = c.requires.called.1 in
-    let v = value_of c.args.value.now in
-    let same = events_room std s agrees v incoming m given back called.target c.sp-sp.ensures.machine.stack c.requires.incoming c.requires.block c.give_result.ensures.writes c.give_result.ensures.reserved c.go_back.ensures.back c.go_back.ensures.reserved in
-    omega (arith, same, called.room)
-
-pub record_return-requires-clause-bytes : goal.record_return-requires-clause-bytes
-record_return-requires-clause-bytes g c =
-    let std = g.A.Abi.standard in
-    let s = c.args.cif.now in
-    let m = c.args.machine.now in
-    let agrees = g.met.A.Abi.agrees in
-    let incoming = c.args.incoming in
-    let given = c.give_result.new.machine in
-    let back = c.go_back.new.machine in
-    let entry = c.requires.called.0 in
-    let called = c.requires.called.1 in
-    let v = value_of c.args.value.now in
-    let same = bytes_room std s agrees v incoming m given back called.target c.sp-sp.ensures.machine.stack c.requires.incoming c.requires.block c.give_result.ensures.writes c.give_result.ensures.reserved c.go_back.ensures.back c.go_back.ensures.reserved in
-    omega (arith, same, called.bytes, c.frame.ensures)
+    let top = return_high std s agrees v incoming m given back called.target c.facts.ensures.stack c.requires.incoming c.requires.block c.give_result.ensures.writes c.give_result.ensures.reserved c.go_back.ensures.back c.go_back.ensures.reserved in
+    let events = events_room std s agrees v incoming m given back called.target c.facts.ensures.stack c.requires.incoming c.requires.block c.give_result.ensures.writes c.give_result.ensures.reserved c.go_back.ensures.back c.go_back.ensures.reserved in
+    let bytes = bytes_room std s agrees v incoming m given back called.target c.facts.ensures.stack c.requires.incoming c.requires.block c.give_result.ensures.writes c.give_result.ensures.reserved c.go_back.ensures.back c.go_back.ensures.reserved in
+    record {
+      at_return = at_return std s agrees v incoming m given back called.target c.facts.ensures.stack c.requires.incoming c.requires.block c.give_result.ensures.writes c.give_result.ensures.reserved c.go_back.ensures.back c.go_back.ensures.reserved entry called;
+      low = return_low std s agrees v incoming m given back called.target c.facts.ensures.stack c.requires.incoming c.requires.block c.give_result.ensures.writes c.give_result.ensures.reserved c.go_back.ensures.back c.go_back.ensures.reserved;
+      high = omega (arith, top, c.frame.ensures);
+      events = omega (arith, events, called.room);
+      bytes = omega (arith, bytes, called.bytes, c.frame.ensures);
+    }
 
 pub returns : goal.returns
 returns g c =
@@ -100,4 +50,4 @@ returns g c =
     let entry = c.requires.called.0 in
     let called = c.requires.called.1 in
     let v = value_of c.args.value.now in
-    returned std s agrees v incoming m given back called.target c.sp-sp.ensures.machine.stack c.requires.incoming c.requires.block c.give_result.ensures.writes c.give_result.ensures.reserved c.go_back.ensures.back c.go_back.ensures.reserved c.frame.result c.record_return.new.machine c.frame.ensures c.record_return.ensures c.go_back.ensures.kept (c.go_back.ensures.keeps (incoming.entry + std.link) v c.give_result.ensures.holds) entry called
+    returned std s agrees v incoming m given back called.target c.facts.ensures.stack c.requires.incoming c.requires.block c.give_result.ensures.writes c.give_result.ensures.reserved c.go_back.ensures.back c.go_back.ensures.reserved c.frame.result c.record_return.new.machine c.frame.ensures c.record_return.ensures c.go_back.ensures.kept (c.go_back.ensures.keeps (incoming.entry + std.link) v c.give_result.ensures.holds) entry called

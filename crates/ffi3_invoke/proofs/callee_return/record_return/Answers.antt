@@ -1,5 +1,5 @@
 use Rattle.std.proofs.Common.{◌≡◌, Bool, true, false, ap, sym, ◌∙◌}
-use Rattle.ffi3_machine.specs.State.{after_arrive}
+use Rattle.ffi3_machine_spec.specs.State.{after_arrive}
 use Rattle.ffi3_machine_transfer.specs.Passing.{by_exchange}
 use Rattle.ffi3_callee.specs.GoneBack.{returned_if}
 use Rattle.ffi3_invoke.proofs.Returned.{own_address, own_lies, stub_at_return, stub_lies}

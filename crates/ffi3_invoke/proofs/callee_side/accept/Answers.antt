@@ -1,7 +1,7 @@
 use Rattle.std.proofs.Common.{◌≡◌, ◌+◌, length, ap, sym, ◌∙◌, subst, arith}
 use Rattle.ffi3_type_spec.specs.TargetIsa.{isa_of}
 use Rattle.ffi3_place_spec.specs.Standard.{frame_of}
-use Rattle.ffi3_machine.specs.State.{after_enter, scribbled_floating, scribbled_general}
+use Rattle.ffi3_machine_spec.specs.State.{after_enter, scribbled_floating, scribbled_general}
 use Rattle.ffi3_callee.specs.Given.{ReservedStay}
 use Rattle.ffi3_callee.specs.Received.{IsReceived, OwnsAtEntry}
 use Rattle.ffi3_invoke.specs.Calls.{entry_at}
@@ -58,115 +58,27 @@ receive-requires-clause-some g c =
     let e_is = c.enter.ensures ∙ ap (λ k. after_enter k m) sized in
     (c.requires.some.0, subst (λ x. OwnsAtEntry std s x c.requires.some.0) (sym e_is) c.requires.some.1)
 
-pub returns-clause-events : goal.returns-clause-events
-returns-clause-events g c =
+pub returns : goal.returns
+returns g c =
     let std = g.A.Abi.standard in
     let s = c.args.cif.now in
     let m = c.args.machine.now in
     let sized : c.LINK.result + c.frame.result ≡ std.link + frame_of std s = omega (arith, c.LINK.ensures, g.met.A.Abi.link_is, c.frame.ensures) in
     let e_is = c.enter.ensures ∙ ap (λ k. after_enter k m) sized in
     let received = subst (λ x. IsReceived std s x c.receive.new.machine) e_is c.receive.ensures.received in
-    received.events
-
-pub returns-clause-received : goal.returns-clause-received
-returns-clause-received g c =
-    let std = g.A.Abi.standard in
-    let s = c.args.cif.now in
-    let m = c.args.machine.now in
-    let sized : c.LINK.result + c.frame.result ≡ std.link + frame_of std s = omega (arith, c.LINK.ensures, g.met.A.Abi.link_is, c.frame.ensures) in
-    let e_is = c.enter.ensures ∙ ap (λ k. after_enter k m) sized in
-    let received = subst (λ x. IsReceived std s x c.receive.new.machine) e_is c.receive.ensures.received in
-    received
-
-pub returns-clause-general : goal.returns-clause-general
-returns-clause-general g c =
-    let std = g.A.Abi.standard in
-    let s = c.args.cif.now in
-    let m = c.args.machine.now in
-    let sized : c.LINK.result + c.frame.result ≡ std.link + frame_of std s = omega (arith, c.LINK.ensures, g.met.A.Abi.link_is, c.frame.ensures) in
-    let e_is = c.enter.ensures ∙ ap (λ k. after_enter k m) sized in
-    subst (λ x. c.receive.new.machine.general ≡ scribbled_general (isa_of x.target) (length x.events) x.general) e_is c.receive.ensures.general ∙ ap (λ n. scribbled_general (isa_of m.target) n m.general) (counted m.events (entry_at std s m))
-
-pub returns-clause-floating : goal.returns-clause-floating
-returns-clause-floating g c =
-    let std = g.A.Abi.standard in
-    let s = c.args.cif.now in
-    let m = c.args.machine.now in
-    let sized : c.LINK.result + c.frame.result ≡ std.link + frame_of std s = omega (arith, c.LINK.ensures, g.met.A.Abi.link_is, c.frame.ensures) in
-    let e_is = c.enter.ensures ∙ ap (λ k. after_enter k m) sized in
-    subst (λ x. c.receive.new.machine.floating ≡ scribbled_floating (length x.events)) e_is c.receive.ensures.floating ∙ ap scribbled_floating (counted m.events (entry_at std s m))
-
-pub returns-clause-reserved : goal.returns-clause-reserved
-returns-clause-reserved g c =
-    let std = g.A.Abi.standard in
-    let s = c.args.cif.now in
-    let m = c.args.machine.now in
-    let sized : c.LINK.result + c.frame.result ≡ std.link + frame_of std s = omega (arith, c.LINK.ensures, g.met.A.Abi.link_is, c.frame.ensures) in
-    let e_is = c.enter.ensures ∙ ap (λ k. after_enter k m) sized in
-    let received = subst (λ x. IsReceived std s x c.receive.new.machine) e_is c.receive.ensures.received in
-    let stay = c.receive.ensures.reserved in
-    same_in 0 0 m c.receive.new.machine std.reserved (reserved_places_lie std g.met.A.Abi.agrees) (reserved_beside std s g.met.A.Abi.agrees m c.receive.new.machine received (subst (λ x. ReservedStay std x c.receive.new.machine) e_is stay))
-
-pub returns-clause-sp : goal.returns-clause-sp
-returns-clause-sp g c =
-    let std = g.A.Abi.standard in
-    let s = c.args.cif.now in
-    let m = c.args.machine.now in
-    let sized : c.LINK.result + c.frame.result ≡ std.link + frame_of std s = omega (arith, c.LINK.ensures, g.met.A.Abi.link_is, c.frame.ensures) in
-    let e_is = c.enter.ensures ∙ ap (λ k. after_enter k m) sized in
-    let received = subst (λ x. IsReceived std s x c.receive.new.machine) e_is c.receive.ensures.received in
-    received.sp
-
-pub returns-clause-within : goal.returns-clause-within
-returns-clause-within g c =
-    let std = g.A.Abi.standard in
-    let s = c.args.cif.now in
-    let m = c.args.machine.now in
-    let sized : c.LINK.result + c.frame.result ≡ std.link + frame_of std s = omega (arith, c.LINK.ensures, g.met.A.Abi.link_is, c.frame.ensures) in
-    let e_is = c.enter.ensures ∙ ap (λ k. after_enter k m) sized in
-    let received = subst (λ x. IsReceived std s x c.receive.new.machine) e_is c.receive.ensures.received in
-    within_beside std s g.met.A.Abi.agrees m c.receive.new.machine received
-
-pub returns-clause-spare_events : goal.returns-clause-spare_events
-returns-clause-spare_events g c =
-    let std = g.A.Abi.standard in
-    let s = c.args.cif.now in
-    let m = c.args.machine.now in
-    let sized : c.LINK.result + c.frame.result ≡ std.link + frame_of std s = omega (arith, c.LINK.ensures, g.met.A.Abi.link_is, c.frame.ensures) in
-    let e_is = c.enter.ensures ∙ ap (λ k. after_enter k m) sized in
-    let received = subst (λ x. IsReceived std s x c.receive.new.machine) e_is c.receive.ensures.received in
-    omega (arith, received.spare_events, c.requires.events)
-
-pub returns-clause-spare_bytes : goal.returns-clause-spare_bytes
-returns-clause-spare_bytes g c =
-    let std = g.A.Abi.standard in
-    let s = c.args.cif.now in
-    let m = c.args.machine.now in
-    let sized : c.LINK.result + c.frame.result ≡ std.link + frame_of std s = omega (arith, c.LINK.ensures, g.met.A.Abi.link_is, c.frame.ensures) in
-    let e_is = c.enter.ensures ∙ ap (λ k. after_enter k m) sized in
-    let received = subst (λ x. IsReceived std s x c.receive.new.machine) e_is c.receive.ensures.received in
-    omega (arith, received.spare_bytes, c.requires.bytes)
-
-pub returns-clause-steps : goal.returns-clause-steps
-returns-clause-steps g c =
-    let std = g.A.Abi.standard in
-    let s = c.args.cif.now in
-    let m = c.args.machine.now in
-    let sized : c.LINK.result + c.frame.result ≡ std.link + frame_of std s = omega (arith, c.LINK.ensures, g.met.A.Abi.link_is, c.frame.ensures) in
-    let e_is = c.enter.ensures ∙ ap (λ k. after_enter k m) sized in
-    let received = subst (λ x. IsReceived std s x c.receive.new.machine) e_is c.receive.ensures.received in
-    received.steps
-
-pub returns-clause-in_callee : goal.returns-clause-in_callee
-returns-clause-in_callee g c = λ back events bytes.
-    let std = g.A.Abi.standard in
-    let s = c.args.cif.now in
-    let m = c.args.machine.now in
-    let sized : c.LINK.result + c.frame.result ≡ std.link + frame_of std s = omega (arith, c.LINK.ensures, g.met.A.Abi.link_is, c.frame.ensures) in
-    let e_is = c.enter.ensures ∙ ap (λ k. after_enter k m) sized in
-    let received = subst (λ x. IsReceived std s x c.receive.new.machine) e_is c.receive.ensures.received in
-    let sound = g.met.A.Abi.sound s in
-    let target = c.requires.target ∙ sym g.met.A.Abi.target_is in
-    let stay = c.receive.ensures.reserved in
-    let reserved = reserved_beside std s g.met.A.Abi.agrees m c.receive.new.machine received (subst (λ x. ReservedStay std x c.receive.new.machine) e_is stay) in
-    in_callee std s g.met.A.Abi.agrees m c.receive.new.machine received c.requires.some.0 sound c.sig-sig.ensures.faultless target c.requires.room c.requires.frame c.requires.some.1 reserved back events bytes
+    let beside = reserved_beside std s g.met.A.Abi.agrees m c.receive.new.machine received (subst (λ x. ReservedStay std x c.receive.new.machine) e_is c.receive.ensures.reserved) in
+    record {
+      events = received.events;
+      received = received;
+      incoming = c.receive.ensures.incoming;
+      block = c.receive.ensures.block;
+      general = subst (λ x. c.receive.new.machine.general ≡ scribbled_general (isa_of x.target) (length x.events) x.general) e_is c.receive.ensures.general ∙ ap (λ n. scribbled_general (isa_of m.target) n m.general) (counted m.events (entry_at std s m));
+      floating = subst (λ x. c.receive.new.machine.floating ≡ scribbled_floating (length x.events)) e_is c.receive.ensures.floating ∙ ap scribbled_floating (counted m.events (entry_at std s m));
+      reserved = same_in 0 0 m c.receive.new.machine std.reserved (reserved_places_lie std g.met.A.Abi.agrees) beside;
+      sp = received.sp;
+      within = within_beside std s g.met.A.Abi.agrees m c.receive.new.machine received;
+      spare_events = omega (arith, received.spare_events, c.requires.events);
+      spare_bytes = omega (arith, received.spare_bytes, c.requires.bytes);
+      steps = received.steps;
+      in_callee = λ back events bytes. in_callee std s g.met.A.Abi.agrees m c.receive.new.machine received c.requires.some.0 (g.met.A.Abi.sound s) c.sig-sig.ensures.faultless (c.requires.target ∙ sym g.met.A.Abi.target_is) c.requires.room c.requires.frame c.requires.some.1 beside back events bytes;
+    }

@@ -1,7 +1,7 @@
 use Rattle.std.proofs.Common.{sym, ◌∙◌, subst, arith}
 use Rattle.std.specs.Prelude.{IsSome}
 use Rattle.ffi3_semantics_spec.specs.Closures.{closure_at}
-use Rattle.ffi3_closures.specs.Slots.{HoldsMap}
+use Rattle.ffi3_machine_spec.specs.Slots.{HoldsMap}
 use Rattle.ffi3_invoke.specs.Calls.{AreStored}
 use Rattle.ffi3_invoke.proofs.Passed.{passed}
 use Rattle.ffi3_invoke.proofs.caller_side.pass_arguments.Goals as goal
@@ -48,4 +48,4 @@ returns g c =
       within = w;
     } in
     let holds = c.call.ensures.holds c.args.values.now c.store_args.ensures.own c.store_args.ensures.filled c.store_args.ensures.hidden c.store_args.ensures.vectors in
-    passed std s sound g.met.A.Abi.agrees c.args.values.now c.args.ptr m a d target_is c.sp-stored.ensures.machine c.sp-called.ensures.machine c.requires.room c.requires.top c.store_args.ensures.sp w c.call.ensures.called _ (search) (search) c.call.ensures.whole stores c.store_args.ensures.preserved c.call.ensures.preserved c.store_args.ensures.reserved c.call.ensures.reserved holds
+    passed std s sound g.met.A.Abi.agrees c.args.values.now c.args.ptr m a d target_is c.facts-2.ensures c.facts-3.ensures c.requires.room c.requires.top c.store_args.ensures.sp w c.call.ensures.called _ (search) (search) c.call.ensures.whole stores c.store_args.ensures.preserved c.call.ensures.preserved c.store_args.ensures.reserved c.call.ensures.reserved holds

@@ -1,5 +1,5 @@
 use Rattle.std.proofs.Common.{length, ◌-◌, ◌≡◌, ◌≤◌, take}
-use Rattle.ffi3_io.specs.Sink.{Adds}
+use Rattle.ffi3_io_spec.specs.Sink.{Adds}
 use Rattle.ffi3_io.proofs.sink.write_all.Given as goal
 
 abbrev pub invariant-loop-done : goal.invariant-loop-done

@@ -1,6 +1,6 @@
 use Rattle.std.proofs.Common.{◌≡◌, ◌∙◌, ap, List, ℕ, length, refl, sym, subst, arith}
 use Rattle.std.proofs.lemmas.Grind.{common_steps}
-use Rattle.ffi3_io.specs.Source.{Gives, HasRead, not_yet, at_limit}
+use Rattle.ffi3_io_spec.specs.Source.{Gives, HasRead, not_yet, at_limit}
 use Rattle.ffi3_io.proofs.Giving.{LosesSome-then, Gives-none, Gives-then}
 use Rattle.ffi3_io.proofs.Reading.{one_more_read, read_to_end, read_failed, read_all_along}
 use Rattle.ffi3_io.proofs.source.read_all.Goals as goal

@@ -1,5 +1,5 @@
 use Rattle.std.proofs.Common.{length, vec_len, ◌-◌, ◌≡◌, ◌≤◌}
-use Rattle.ffi3_io.specs.Source.{Gives, HasRead}
+use Rattle.ffi3_io_spec.specs.Source.{Gives, HasRead}
 use Rattle.ffi3_io.proofs.source.read_all.Given as goal
 
 abbrev pub invariant-loop-buf : goal.invariant-loop-buf

@@ -1,7 +1,7 @@
 use Rattle.std.proofs.Common.{◌∙◌, ap, arith, length, refl}
-use Rattle.ffi3_memory.specs.Memory.{Memory}
+use Rattle.ffi3_machine_spec.specs.Memory.{Memory}
 use Rattle.ffi3_type_spec.specs.TargetIsa.{isa_of}
-use Rattle.ffi3_machine.specs.State.{begun_general}
+use Rattle.ffi3_machine_spec.specs.State.{begun_general}
 use Rattle.ffi3_machine.specs.Scribbled.{length-scribbled_general, length-scribbled_floating, IsZeroHeld-begun}
 use Rattle.ffi3_machine.proofs.Stubs.{stubs_length, stubs_again}
 use Rattle.ffi3_machine.proofs.Slots.{length-begun_stack, length-begun_code, length-begun_exchange}

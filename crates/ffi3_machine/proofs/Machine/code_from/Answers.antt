@@ -1,6 +1,6 @@
 use Rattle.std.proofs.Common.{◌≡◌, ap, arith}
 use Rattle.ffi3_type_spec.specs.TargetIsa.{isa_of}
-use Rattle.ffi3_machine.specs.State.{State}
+use Rattle.ffi3_machine_spec.specs.State.{State}
 use Rattle.ffi3_machine.proofs.Stubs.{above_stubs, stubs_end, lent_stubs}
 use Rattle.ffi3_machine.proofs.Machine.code_from.Goals as goal
 

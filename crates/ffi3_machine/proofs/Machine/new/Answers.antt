@@ -1,6 +1,6 @@
 use Rattle.std.proofs.Common.{ℕ, ap, ◌∙◌, arith, length, refl}
 use Rattle.std.proofs.lemmas.List.{length-replicate}
-use Rattle.ffi3_memory.specs.Memory.{Memory}
+use Rattle.ffi3_machine_spec.specs.Memory.{Memory}
 use Rattle.ffi3_type_spec.specs.declared.limits.TheConstants.{CODE_BYTES}
 use Rattle.ffi3_machine.proofs.Machine.new.Goals as goal
 

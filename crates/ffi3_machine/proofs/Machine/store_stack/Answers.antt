@@ -2,8 +2,8 @@ use Rattle.std.proofs.Common.{◌≡◌, ◌≢◌, ℕ, ◌+◌, ◌-◌, ◌<�
 use Rattle.std.proofs.lemmas.Bool.{ne_eqb}
 use Rattle.std.specs.List.{replace_range}
 use Rattle.ffi3_type_spec.specs.declared.limits.TheConstants.{STACK}
-use Rattle.ffi3_memory.specs.Memory.{Memory}
-use Rattle.ffi3_machine.specs.State.{State, lowered, stored}
+use Rattle.ffi3_machine_spec.specs.Memory.{Memory}
+use Rattle.ffi3_machine_spec.specs.State.{State, lowered, stored}
 use Rattle.ffi3_machine.specs.Fields.{state_of}
 use Rattle.ffi3_machine.proofs.Machine.store_stack.Goals as goal
 

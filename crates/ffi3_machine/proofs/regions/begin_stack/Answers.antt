@@ -1,4 +1,4 @@
-use Rattle.ffi3_machine.specs.State.{begun_stack}
+use Rattle.ffi3_machine_spec.specs.State.{begun_stack}
 use Rattle.ffi3_machine.proofs.regions.begin_stack.Goals as goal
 
 pub returns : goal.returns

@@ -1,7 +1,7 @@
 use Rattle.std.proofs.Common.{◌≡◌, ◌+◌, ◌-◌, ◌*◌, arith, ap, ◌∙◌, refl, length}
-use Rattle.ffi3_memory.specs.Memory.{low_bytes, Memory}
+use Rattle.ffi3_machine_spec.specs.Memory.{low_bytes, Memory}
 use Rattle.ffi3_type_spec.specs.declared.limits.TheConstants.{CODE}
-use Rattle.ffi3_machine.specs.State.{free_word}
+use Rattle.ffi3_machine_spec.specs.State.{free_word}
 use Rattle.ffi3_machine.proofs.Slots.{freed-turn, begun_code-is, length-replaced}
 use Rattle.ffi3_machine.proofs.regions.free_slots.Goals as goal
 

@@ -1,7 +1,7 @@
 use Rattle.std.proofs.Common.{◌≡◌, ◌*◌, ◌++◌, drop, length}
 use Rattle.std.specs.List.{repeat}
 use Rattle.ffi3_type_spec.specs.declared.limits.TheConstants.{CODE, CODE_BYTES}
-use Rattle.ffi3_machine.specs.State.{free_word}
+use Rattle.ffi3_machine_spec.specs.State.{free_word}
 use Rattle.ffi3_machine.proofs.regions.free_slots.Given as goal
 
 abbrev pub invariant-loop-k : goal.invariant-loop-k

@@ -1,6 +1,6 @@
 use Rattle.std.proofs.Common.{arith}
 use Rattle.std.proofs.lemmas.List.FromFn.{fill_by_all}
-use Rattle.ffi3_machine.specs.State.{scribble_floating, scribbled_floating}
+use Rattle.ffi3_machine_spec.specs.State.{scribble_floating, scribbled_floating}
 use Rattle.ffi3_machine.proofs.scribble.scribble_floating.Goals as goal
 
 pub returns : goal.returns

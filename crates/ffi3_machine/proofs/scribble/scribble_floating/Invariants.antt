@@ -1,5 +1,5 @@
 use Rattle.std.proofs.Common.{◌≡◌, ℕ, ◌<◌, get_or, length}
-use Rattle.ffi3_machine.specs.State.{scribble_floating}
+use Rattle.ffi3_machine_spec.specs.State.{scribble_floating}
 use Rattle.ffi3_machine.proofs.scribble.scribble_floating.Given as goal
 
 abbrev pub invariant-loop-k : goal.invariant-loop-k

@@ -1,6 +1,6 @@
 use Rattle.std.proofs.Common.{arith, get_or}
 use Rattle.std.proofs.lemmas.List.FromFn.{fill_by_all}
-use Rattle.ffi3_machine.specs.State.{scribbled_register, scribbled_general}
+use Rattle.ffi3_machine_spec.specs.State.{scribbled_register, scribbled_general}
 use Rattle.ffi3_machine.proofs.scribble.scribble_general.Goals as goal
 
 pub returns : goal.returns

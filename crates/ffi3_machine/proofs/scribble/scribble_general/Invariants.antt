@@ -1,5 +1,5 @@
 use Rattle.std.proofs.Common.{◌≡◌, ℕ, ◌<◌, ◌≤◌, get_or, length}
-use Rattle.ffi3_machine.specs.State.{scribbled_register}
+use Rattle.ffi3_machine_spec.specs.State.{scribbled_register}
 use Rattle.ffi3_machine.proofs.scribble.scribble_general.Given as goal
 
 abbrev pub invariant-loop-k : goal.invariant-loop-k

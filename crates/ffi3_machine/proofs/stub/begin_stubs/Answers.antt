@@ -1,5 +1,5 @@
 use Rattle.std.proofs.Common.{ap, ◌∙◌, length}
-use Rattle.ffi3_memory.specs.Memory.{Memory}
+use Rattle.ffi3_machine_spec.specs.Memory.{Memory}
 use Rattle.ffi3_type_spec.specs.declared.Isa.TheVariants.{Amd64, Aarch64, Riscv}
 use Rattle.ffi3_machine.proofs.Stubs.{length-words, begun_by}
 use Rattle.ffi3_machine.proofs.stub.begin_stubs.Goals as goal

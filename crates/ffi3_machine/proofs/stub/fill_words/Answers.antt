@@ -1,6 +1,6 @@
 use Rattle.std.proofs.Common.{◌≡◌, ◌+◌, ◌-◌, ◌*◌, arith, ap, ◌∙◌, refl, length}
-use Rattle.ffi3_memory.specs.Memory.{low_bytes, Memory}
-use Rattle.ffi3_machine.specs.State.{free_word}
+use Rattle.ffi3_machine_spec.specs.Memory.{low_bytes, Memory}
+use Rattle.ffi3_machine_spec.specs.State.{free_word}
 use Rattle.ffi3_machine.proofs.Slots.{freed-turn, filled-all, length-replaced}
 use Rattle.ffi3_machine.proofs.stub.fill_words.Goals as goal
 

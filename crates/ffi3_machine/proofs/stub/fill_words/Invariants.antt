@@ -1,6 +1,6 @@
 use Rattle.std.proofs.Common.{◌≡◌, ◌*◌, ◌++◌, drop, length}
 use Rattle.std.specs.List.{repeat}
-use Rattle.ffi3_machine.specs.State.{free_word}
+use Rattle.ffi3_machine_spec.specs.State.{free_word}
 use Rattle.ffi3_machine.proofs.stub.fill_words.Given as goal
 
 abbrev pub invariant-loop-k : goal.invariant-loop-k

@@ -6,7 +6,7 @@ use Rattle.ffi3_machine_transfer.proofs.registers.pass_general.Goals as goal
 pub returns-then-exchanged : goal.returns-then-exchanged
 returns-then-exchanged c =
     let e : by_exchange c.args.machine.now.target ≡ true = cc in
-    ap passing c.set_x.ensures ∙ general_passed (by_exchange c.args.machine.now.target) c.args.k c.args.value c.args.machine.now e c.sp-m.ensures.machine.exchange c.requires.below (search rules) c.requires.writable
+    ap passing c.set_x.ensures ∙ general_passed (by_exchange c.args.machine.now.target) c.args.k c.args.value c.args.machine.now e c.facts.ensures.exchange c.requires.below (search rules) c.requires.writable
 
 pub returns-else-exchanged : goal.returns-else-exchanged
 returns-else-exchanged c =

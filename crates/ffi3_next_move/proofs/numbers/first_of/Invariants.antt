@@ -1,6 +1,6 @@
 use Rattle.std.proofs.Common.{◌≡◌, ◌+◌, length}
 use Rattle.ffi3_script.specs.ScriptOf.{script_of}
-use Rattle.ffi3_next_move.specs.Handed.{handed, natives_in, signatures_before}
+use Rattle.ffi3_script_spec.specs.Handed.{handed, natives_in, signatures_before}
 use Rattle.ffi3_next_move.proofs.numbers.first_of.Given as goal
 
 abbrev pub invariant-loop-i : goal.invariant-loop-i

@@ -1,5 +1,5 @@
 use Rattle.std.proofs.Common.{◌≡◌, ◌+◌}
-use Rattle.ffi3_next_move.specs.Handed.{handed, natives_in, signatures_before}
+use Rattle.ffi3_script_spec.specs.Handed.{handed, natives_in, signatures_before}
 use Rattle.ffi3_next_move.proofs.numbers.native_signature.Given as goal
 
 abbrev pub invariant-loop-j : goal.invariant-loop-j

@@ -1,6 +1,6 @@
 use Rattle.std.proofs.Common.{◌≡◌, arith}
 use Rattle.ffi3_type_spec.specs.declared.Role.TheVariants.{AsResult}
-use Rattle.ffi3_nodes.proofs.ScalarsAlone.{scalar_of_right, scalar_written, void_right, void_written}
+use Rattle.ffi3_nodes.proofs.FlatTypes.{scalar_of_right, scalar_written, void_right, void_written}
 use Rattle.ffi3_nodes.proofs.scalars.returned.Goals as goal
 
 pub returns-then-node-eq-VOID-clause-written : goal.returns-then-node-eq-VOID-clause-written

@@ -8,7 +8,7 @@ use Rattle.ffi3_nodes.specs.Read.{IsSignatureFor, IsFaultOf, IsRefusedFor, IsOfN
 use Rattle.ffi3_nodes.proofs.ForFormat.{callable_for, callable_without, one_signature_for, fault_refused, fault_of_none, fault_unplaceable, fault_without, unread_none, unread_refused, unread_uncallable, unread_unplaceable}
 use Rattle.ffi3_nodes.proofs.signature.read_signature_for.Goals as goal
 
--- of scalars alone
+-- of scalars and structs of them
 
 pub returns-in-Ok-Some-clause-ok : goal.returns-in-Ok-Some-clause-ok
 returns-in-Ok-Some-clause-ok c =

@@ -1,7 +1,7 @@
 use Rattle.std.proofs.Common.{◌≡◌, ℕ, ◌-◌, List, length, ap, ◌∙◌, subst}
 use Rattle.ffi3_place_spec.specs.Event.{Event}
 use Rattle.ffi3_machine.specs.Entries.{event_of}
-use Rattle.ffi3_machine.specs.Recorded.{Recorded, event_at}
+use Rattle.ffi3_machine_spec.specs.Recorded.{Recorded, event_at}
 use Rattle.ffi3_run_state.specs.TraceLines.{last_event}
 use Rattle.ffi3_run_state.proofs.tracing.last.Goals as goal
 

@@ -1,5 +1,5 @@
 use Rattle.std.proofs.Common.{◌≡◌, length, take}
-use Rattle.ffi3_body.specs.SeenActivation.{arguments_of}
+use Rattle.ffi3_semantics_spec.specs.SeenActivation.{arguments_of}
 use Rattle.ffi3_run_state.proofs.tracing.read_arguments.Given as goal
 
 abbrev pub invariant-loop-i : goal.invariant-loop-i

@@ -2,7 +2,7 @@ use Rattle.std.proofs.Common.{◌++◌, ◌∙◌, ap, subst}
 use Rattle.ffi3_place_spec.specs.Event.{Event}
 use Rattle.ffi3_text.specs.TraceLines.{enter_text_of, keep_text_of}
 use Rattle.ffi3_run_state.specs.TraceLines.{last_event}
-use Rattle.ffi3_io.specs.Written.{WroteLine}
+use Rattle.ffi3_io_spec.specs.Written.{WroteLine}
 use Rattle.ffi3_run_state.proofs.Telling.{wrote_entry}
 use Rattle.ffi3_run_state.proofs.tracing.tell_entry.Goals as goal
 

@@ -3,7 +3,7 @@ use Rattle.ffi3_place_spec.specs.Event.{Event}
 use Rattle.ffi3_values.specs.ValueOf.{value_of}
 use Rattle.ffi3_text.specs.TraceLines.{keep_text_of, leave_text_of}
 use Rattle.ffi3_run_state.specs.TraceLines.{last_event}
-use Rattle.ffi3_io.specs.Written.{WroteLine}
+use Rattle.ffi3_io_spec.specs.Written.{WroteLine}
 use Rattle.ffi3_run_state.proofs.Telling.{wrote_return}
 use Rattle.ffi3_run_state.proofs.tracing.tell_return.Goals as goal
 

@@ -1,7 +1,7 @@
 use Rattle.std.proofs.Common.{ℕ, List, ◌++◌, ◌∙◌, subst}
-use Rattle.ffi3_io.specs.Written.{LineFailed}
+use Rattle.ffi3_io_spec.specs.Written.{LineFailed}
 use Rattle.ffi3_run_state.proofs.Telling.{failed_first, failed_then, took_both}
-use Rattle.ffi3_io.specs.Written.{TookText}
+use Rattle.ffi3_io_spec.specs.Written.{TookText}
 use Rattle.ffi3_run_state.proofs.tracing.write_event.Goals as goal
 
 pub returns-in_default-write_all : goal.returns-in_default-write_all

@@ -1,6 +1,6 @@
 use Rattle.std.proofs.Common.{ℕ, ap, sym, ◌∙◌}
 use Rattle.ffi3_place_spec.specs.Standard.{block_bytes}
-use Rattle.ffi3_machine.specs.State.{stack_at}
+use Rattle.ffi3_machine_spec.specs.State.{stack_at}
 use Rattle.ffi3_runner.specs.Agreeing.{seen_by_callee}
 use Rattle.ffi3_runner.proofs.Last.{callee_seen}
 use Rattle.ffi3_runner.proofs.Numbers.{asked_as}

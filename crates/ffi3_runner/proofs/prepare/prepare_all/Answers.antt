@@ -1,5 +1,5 @@
 use Rattle.std.proofs.Common.{◌∙◌}
-use Rattle.ffi3_next_move.specs.Handed.{handed}
+use Rattle.ffi3_script_spec.specs.Handed.{handed}
 use Rattle.ffi3_runner.proofs.Numbers.{all_cifs, more_cifs, one_of_all}
 use Rattle.ffi3_runner.proofs.prepare.prepare_all.Goals as goal
 

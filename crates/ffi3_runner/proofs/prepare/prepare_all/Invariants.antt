@@ -1,6 +1,6 @@
 use Rattle.std.proofs.Common.{◌≡◌, ◌++◌, take}
 use Rattle.ffi3_script.specs.ScriptOf.{script_of}
-use Rattle.ffi3_next_move.specs.Handed.{handed, signatures_in}
+use Rattle.ffi3_script_spec.specs.Handed.{handed, signatures_in}
 use Rattle.ffi3_runner.proofs.prepare.prepare_all.Given as goal
 
 abbrev pub invariant-loop-number : goal.invariant-loop-number

@@ -1,7 +1,7 @@
 use Rattle.std.proofs.Common.{◌≡◌, List, ap, map, refl, rules}
-use Rattle.ffi3_machine.specs.State.{begun}
+use Rattle.ffi3_machine_spec.specs.State.{begun}
 use Rattle.ffi3_script_spec.specs.Natives.{NamedNative}
-use Rattle.ffi3_next_move.specs.Handed.{handed_in}
+use Rattle.ffi3_script_spec.specs.Handed.{handed_in}
 use Rattle.ffi3_run_state.specs.declared.configuration.Turn.TheVariants as turn
 use Rattle.ffi3_runner.specs.Ready.{traced_or_not}
 use Rattle.ffi3_runner_tests.proofs.Moving.{can_as}

@@ -1,4 +1,4 @@
-use Rattle.ffi3_next_move.specs.Handed.{handed}
+use Rattle.ffi3_script_spec.specs.Handed.{handed}
 use Rattle.ffi3_runner_tests.proofs.Moving.{CanTurn}
 use Rattle.ffi3_runner_tests.proofs.turns.take_turns.Given as goal
 

@@ -5,8 +5,8 @@ use Rattle.ffi3_semantics_spec.specs.Closures.{Closures}
 use Rattle.ffi3_semantics_spec.specs.Meaning.{Program}
 use Rattle.ffi3_script_spec.specs.Natives.{NamedNative, program_beside}
 use Rattle.ffi3_script.specs.ScriptOf.{script_of}
-use Rattle.ffi3_closures.specs.Slots.{HoldsMap}
-use Rattle.ffi3_next_move.specs.Handed.{handed_in}
+use Rattle.ffi3_machine_spec.specs.Slots.{HoldsMap}
+use Rattle.ffi3_script_spec.specs.Handed.{handed_in}
 use Rattle.ffi3_run_state.specs.Served.{IsIdle}
 use Rattle.ffi3_runner.specs.declared.run.RunEnd.TheVariants as run
 use Rattle.ffi3_serve_tests.proofs.Shown.{at_entry, bottom, frame}

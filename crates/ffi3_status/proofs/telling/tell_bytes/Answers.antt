@@ -1,4 +1,4 @@
-use Rattle.ffi3_status.specs.FaultLines.{whole, cut}
+use Rattle.ffi3_app_spec.specs.FaultLines.{whole, cut}
 use Rattle.ffi3_status.proofs.telling.tell_bytes.Goals as goal
 
 pub returns-in-Ok : goal.returns-in-Ok

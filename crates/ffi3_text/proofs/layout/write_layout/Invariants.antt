@@ -1,6 +1,6 @@
 use Rattle.std.proofs.Common.{◌≡◌, ◌++◌, take}
 use Rattle.ffi3_type_spec.specs.Layout.{leaves_of}
-use Rattle.ffi3_text.specs.LayoutLines.{leaf_texts}
+use Rattle.ffi3_text_spec.specs.LayoutLines.{leaf_texts}
 use Rattle.ffi3_text.proofs.layout.write_layout.Given as goal
 
 abbrev pub invariant-loop-i : goal.invariant-loop-i

@@ -5,7 +5,7 @@ use Rattle.ffi3_type_spec.specs.declared.Isa.{Isa}
 use Rattle.ffi3_type_spec.specs.TargetIsa.{isa_of}
 use Rattle.ffi3_place_spec.specs.declared.Place.{Place}
 use Rattle.ffi3_place_spec.specs.Standard.{plan_of}
-use Rattle.ffi3_text.specs.PlaceLines.{argument_place, argument_text}
+use Rattle.ffi3_text_spec.specs.PlaceLines.{argument_place, argument_text}
 use Rattle.ffi3_text.proofs.place.argument_line.Goals as goal
 
 place_at : (places : List Place) (i : ℕ) (place : Place) → slice_get places i ≡ Some place → place ≡ argument_place places i

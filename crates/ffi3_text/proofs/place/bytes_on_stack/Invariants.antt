@@ -1,5 +1,5 @@
 use Rattle.std.proofs.Common.{◌≡◌, ◌*◌, ◌≤◌, take}
-use Rattle.ffi3_text.specs.PlaceLines.{bytes_on_stack}
+use Rattle.ffi3_text_spec.specs.PlaceLines.{bytes_on_stack}
 use Rattle.ffi3_text.proofs.place.bytes_on_stack.Given as goal
 
 abbrev pub invariant-loop-k : goal.invariant-loop-k

@@ -1,5 +1,5 @@
 use Rattle.std.proofs.Common.{◌∙◌, ◌<◌, ◌+◌, ◌++◌, length, ap, sym, arith, rules}
-use Rattle.ffi3_text.specs.PlaceLines.{longer, register_texts}
+use Rattle.ffi3_text_spec.specs.PlaceLines.{longer, register_texts}
 use Rattle.ffi3_text.proofs.Parts.{texts_from, begins, turn_above, turn_next}
 use Rattle.ffi3_text.proofs.place.write_registers.Goals as goal
 use Rattle.ffi3_text.proofs.place.write_registers.Goals.{then-stands_above, else-stands_above+in_ok-write_register}

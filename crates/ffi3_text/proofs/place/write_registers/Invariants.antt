@@ -1,5 +1,5 @@
 use Rattle.std.proofs.Common.{◌≡◌, ◌*◌, ◌≤◌, ◌++◌}
-use Rattle.ffi3_text.specs.PlaceLines.{register_texts}
+use Rattle.ffi3_text_spec.specs.PlaceLines.{register_texts}
 use Rattle.ffi3_text.proofs.Parts.{texts_from}
 use Rattle.ffi3_text.proofs.place.write_registers.Given as goal
 

@@ -2,7 +2,7 @@ use Rattle.std.proofs.Common.{◌≡◌, length, ap, arith}
 use Rattle.ffi3_type_spec.specs.Layout.{size_of}
 use Rattle.ffi3_type_spec.proofs.Layouts.{least_multiple-above}
 use Rattle.ffi3_types.specs.TreeOf.{tree_of}
-use Rattle.ffi3_body.specs.SeenActivation.{block_offset}
+use Rattle.ffi3_semantics_spec.specs.SeenActivation.{block_offset}
 use Rattle.ffi3_body.proofs.seen.Seen.arg_bytes.Goals as goal
 
 pub overflow_add-offset : goal.overflow_add-offset

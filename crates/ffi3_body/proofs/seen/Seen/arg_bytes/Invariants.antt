@@ -1,5 +1,5 @@
 use Rattle.std.proofs.Common.{◌≡◌}
-use Rattle.ffi3_body.specs.SeenActivation.{block_offset}
+use Rattle.ffi3_semantics_spec.specs.SeenActivation.{block_offset}
 use Rattle.ffi3_body.proofs.seen.Seen.arg_bytes.Given as goal
 
 abbrev pub invariant-loop-k : goal.invariant-loop-k

@@ -6,8 +6,8 @@ use Rattle.ffi3_type_spec.specs.Tree.{scalar, s64}
 use Rattle.ffi3_type_spec.specs.Integer.{widened}
 use Rattle.ffi3_type_spec.specs.Value.{ValueTree, void_value, fits, bytes_of}
 use Rattle.ffi3_semantics_spec.specs.Move.{result_type_of, return}
-use Rattle.ffi3_body.specs.SeenActivation.{arguments_of}
-use Rattle.ffi3_body.specs.Follow.{IsOfType, ResultsFollow}
+use Rattle.ffi3_semantics_spec.specs.SeenActivation.{arguments_of}
+use Rattle.ffi3_semantics_spec.specs.Follow.{IsOfType, ResultsFollow}
 use Rattle.ffi3_hostile_tests.specs.Hostile.{again_signature, again_behaviour, argument, once_less}
 use Rattle.ffi3_hostile_tests.proofs.again.AgainBody.next.Goals as goal
 

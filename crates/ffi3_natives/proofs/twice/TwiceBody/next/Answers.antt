@@ -2,8 +2,8 @@ use Rattle.std.proofs.Common.{◌≡◌, ℕ, ◌≤◌, true, List, [], ◌∷�
 use Rattle.std.specs.Prelude.{slice_index_or}
 use Rattle.ffi3_type_spec.specs.Tree.{scalar, s64}
 use Rattle.ffi3_type_spec.specs.Value.{ValueTree, void_value, fits}
-use Rattle.ffi3_body.specs.SeenActivation.{arguments_of}
-use Rattle.ffi3_body.specs.Follow.{ResultsFollow}
+use Rattle.ffi3_semantics_spec.specs.SeenActivation.{arguments_of}
+use Rattle.ffi3_semantics_spec.specs.Follow.{ResultsFollow}
 use Rattle.ffi3_natives.specs.Natives.{calling_signatures, twice_behaviour}
 use Rattle.ffi3_natives.proofs.twice.TwiceBody.next.Goals as goal
 

@@ -11,7 +11,7 @@ use Rattle.ffi3_run_state.proofs.Accepting.{WasAccepted, cut_at_entry, entry_tol
 use Rattle.ffi3_run_state.proofs.Transports.{as_left, cut_as, entry_told_as, numbered}
 use Rattle.ffi3_io.proofs.Writing.{took_as}
 use Rattle.ffi3_place_spec.specs.Event.{Event}
-use Rattle.ffi3_machine.specs.State.{State}
+use Rattle.ffi3_machine_spec.specs.State.{State}
 use Rattle.ffi3_run_state.proofs.configuration.Configuration.accept_call.Goals as goal
 
 pub accept-incoming-requires-clause-target : goal.accept-incoming-requires-clause-target

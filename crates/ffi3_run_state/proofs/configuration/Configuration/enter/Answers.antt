@@ -5,7 +5,7 @@ use Rattle.ffi3_place_spec.specs.Event.{Event}
 use Rattle.ffi3_place_spec.specs.Standard.{frame_of}
 use Rattle.ffi3_semantics_spec.specs.Move.{call}
 use Rattle.ffi3_semantics_spec.specs.Trace.{Enter}
-use Rattle.ffi3_machine.specs.State.{with_room}
+use Rattle.ffi3_machine_spec.specs.State.{with_room}
 use Rattle.ffi3_invoke.specs.Calls.{entry_at}
 use Rattle.ffi3_io.proofs.Writing.{took_as}
 use Rattle.ffi3_run_state.specs.declared.activation.Activation.{Activation}

@@ -6,7 +6,7 @@ use Rattle.ffi3_semantics_spec.specs.declared.Stop.TheVariants.{NoClosure}
 use Rattle.ffi3_semantics_spec.specs.Closures.{Closures}
 use Rattle.ffi3_semantics_spec.specs.Move.{free}
 use Rattle.ffi3_semantics_spec.specs.Meaning.{goes_on}
-use Rattle.ffi3_machine.specs.State.{State, free_slot}
+use Rattle.ffi3_machine_spec.specs.State.{State, free_slot}
 use Rattle.ffi3_run_state.specs.Going.{StoppedBy}
 use Rattle.ffi3_run_state.specs.Between.{run_state}
 use Rattle.ffi3_run_state.specs.Known.{AreKnown}

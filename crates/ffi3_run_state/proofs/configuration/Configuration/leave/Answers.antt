@@ -6,7 +6,7 @@ use Rattle.ffi3_semantics_spec.specs.Move.{return}
 use Rattle.ffi3_semantics_spec.specs.Trace.{Leave}
 use Rattle.ffi3_run_state.specs.declared.activation.Waiting.{Waiting}
 use Rattle.ffi3_io.proofs.Writing.{took_as}
-use Rattle.ffi3_io.specs.declared.IoError.TheVariants as cut
+use Rattle.ffi3_io_spec.specs.declared.IoError.TheVariants as cut
 use Rattle.ffi3_run_state.specs.Between.{RunState, IsAsking, run_state_with}
 use Rattle.ffi3_run_state.specs.TraceLines.{last_event}
 use Rattle.ffi3_run_state.specs.Going.{GoneOn}

@@ -8,10 +8,10 @@ use Rattle.ffi3_semantics_spec.specs.declared.Closure.{Closure}
 use Rattle.ffi3_semantics_spec.specs.Closures.{Closures, slots, first_free, slot_address, with_closure}
 use Rattle.ffi3_semantics_spec.specs.Move.{make}
 use Rattle.ffi3_semantics_spec.specs.Meaning.{Program, Activation, effect_of, pointer_value, goes_on}
-use Rattle.ffi3_closures.specs.Slots.{live_slot}
+use Rattle.ffi3_machine_spec.specs.Slots.{live_slot}
 use Rattle.ffi3_run_state.specs.Known.{AreKnown, IsKnown}
 use Rattle.ffi3_run_state.proofs.Closed.{known_with}
-use Rattle.ffi3_machine.specs.State.{State}
+use Rattle.ffi3_machine_spec.specs.State.{State}
 use Rattle.ffi3_run_state.specs.Going.{StoppedBy, GoneOn}
 use Rattle.ffi3_run_state.specs.Between.{run_state}
 use Rattle.ffi3_run_state.specs.Turned.{Turned}

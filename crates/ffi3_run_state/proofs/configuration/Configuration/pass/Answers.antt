@@ -30,4 +30,4 @@ returns-clause-passed g c =
     let s = c.get-cif.result.now in
     let m = c.args.machine.now in
     let len : c.LINK.result + c.frame.result ≡ std.link + frame_of std s = omega (arith, c.LINK.ensures, g.met.A.Abi.link_is, c.frame.ensures) in
-    is_passed std s _ c.args.ptr (c.LINK.result + c.frame.result) c.args.args.now m c.journal_room.new.self c.pass_arguments.new.machine c.get-cif.ensures len c.in-Ok-journal_room.ensures.ok c.sp-sp.ensures.machine.stack (c.requires.target ∙ sym g.met.A.Abi.target_is) c.requires.can.1.room c.requires.top c.pass_arguments.ensures
+    is_passed std s _ c.args.ptr (c.LINK.result + c.frame.result) c.args.args.now m c.journal_room.new.self c.pass_arguments.new.machine c.get-cif.ensures len c.in-Ok-journal_room.ensures.ok c.facts.ensures.stack (c.requires.target ∙ sym g.met.A.Abi.target_is) c.requires.can.1.room c.requires.top c.pass_arguments.ensures

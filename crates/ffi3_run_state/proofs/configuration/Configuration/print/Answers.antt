@@ -11,10 +11,10 @@ use Rattle.ffi3_semantics_spec.specs.Move.{print}
 use Rattle.ffi3_semantics_spec.specs.Trace.{TraceItem, Line}
 use Rattle.ffi3_small_step_spec.specs.Remainder.{Remainder}
 use Rattle.ffi3_small_step_spec.specs.SoFar.{Base}
-use Rattle.ffi3_io.specs.Sink.{SinkState}
-use Rattle.ffi3_io.specs.declared.IoError.{IoError}
-use Rattle.ffi3_io.specs.declared.IoError.TheVariants as cut
-use Rattle.ffi3_io.specs.Written.{LineInterrupted}
+use Rattle.ffi3_io_spec.specs.Sink.{SinkState}
+use Rattle.ffi3_io_spec.specs.declared.IoError.{IoError}
+use Rattle.ffi3_io_spec.specs.declared.IoError.TheVariants as cut
+use Rattle.ffi3_io_spec.specs.Written.{LineInterrupted}
 use Rattle.ffi3_run_state.specs.Between.{Beginning, RunState, IsAsking, asking, run_state}
 use Rattle.ffi3_run_state.specs.Turned.{WasInterruptedAfter}
 use Rattle.ffi3_run_state.proofs.Configuring.{goes, goes_off}

@@ -1,4 +1,4 @@
-use Rattle.ffi3_next_move.specs.Handed.{handed}
+use Rattle.ffi3_script_spec.specs.Handed.{handed}
 use Rattle.ffi3_runner.specs.Agreeing.{PositionsAgree}
 use Rattle.ffi3_runner.specs.Ran.{ComesTo}
 use Rattle.ffi3_runner.specs.Ready.{CanGoOnWith}

@@ -1,5 +1,5 @@
 use Rattle.std.proofs.Common.{false, None, Some, refl}
-use Rattle.ffi3_io.specs.Sink.{SinkState}
+use Rattle.ffi3_io_spec.specs.Sink.{SinkState}
 use Rattle.ffi3_next_move.specs.declared.standing.Standing.{Standing}
 use Rattle.ffi3_run_state.specs.declared.activation.Activation.{Activation}
 use Rattle.ffi3_run_state.specs.declared.activation.Who.TheVariants.{Main}

@@ -3,7 +3,7 @@ use Rattle.std.specs.Prelude.{option_map}
 use Rattle.ffi3_type_spec.specs.Tree.{trees_of}
 use Rattle.ffi3_type_spec.specs.Value.{all_fit, values_of}
 use Rattle.ffi3_semantics_spec.specs.Move.{MoveFits}
-use Rattle.ffi3_body.specs.SeenActivation.{arguments_of}
+use Rattle.ffi3_semantics_spec.specs.SeenActivation.{arguments_of}
 use Rattle.ffi3_script_spec.specs.Meaning as meaning
 use Rattle.ffi3_script_spec.specs.Typed.{is_condition, act_is_typed}
 use Rattle.ffi3_script_spec.proofs.Fits.{body_fits}

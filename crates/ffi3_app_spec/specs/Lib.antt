@@ -1,0 +1,6 @@
+pub mod BenchText
+pub mod FaultLines
+pub mod Commands
+pub mod Declarations
+pub mod Outcome
+pub mod Top

@@ -1,0 +1,2 @@
+//! What each command of the program writes, and which status it ends with. The definitions are in `specs/`.
+#![tactic(auto)]

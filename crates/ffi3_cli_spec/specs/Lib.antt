@@ -1,0 +1,2 @@
+pub mod WordCommands
+pub mod Words

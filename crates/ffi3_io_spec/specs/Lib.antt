@@ -1,0 +1,4 @@
+pub mod Count
+pub mod Sink
+pub mod Source
+pub mod Written

@@ -1,0 +1,2 @@
+pub mod Poison
+pub mod Overwritten
