@@ -42,7 +42,7 @@ static inline uint16_t as_they_are(uint32_t length)
 }
 
 /* Bytes that fill eight: by how many they are, with zeros or with the sign. */
-static const uint8_t fillings[2][9] = {
+static const uint8_t fillings[2][16] = {
     {MOVE_SHORT, MOVE_U8, MOVE_U16, MOVE_SHORT, MOVE_U32, MOVE_SHORT, MOVE_SHORT, MOVE_SHORT, MOVE_8},
     {MOVE_SHORT, MOVE_S8, MOVE_S16, MOVE_SHORT, MOVE_S32, MOVE_SHORT, MOVE_SHORT, MOVE_SHORT, MOVE_8},
 };
@@ -161,11 +161,14 @@ __attribute__((noinline)) static bool has_filled_moves(struct plan *plan, const 
             continue;
         if (__builtin_expect(first == end || first->part != part, 0))
             return false;
-        next = end_of(first + 1, end, part++);
-        if (__builtin_expect(next == first + 1 && is_scalar(type), 1))
+        next++;
+        if (__builtin_expect(is_scalar(type) && (next == end || next->part != part), 1)) {
             *moves++ = scalar_move(first, i);
-        else
+        } else {
+            next = end_of(next, end, part);
             moves += fill_moves(moves, first, next, i, type);
+        }
+        part++;
     }
     plan->moves_count = (uint32_t)(moves - plan->moves);
     return next == end;

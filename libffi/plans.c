@@ -58,6 +58,13 @@ static void enter(struct table *table, const struct plan *plan)
     atomic_store_explicit(&table->slots[k & table->mask], plan, memory_order_release);
 }
 
+/* One that has been put. */
+static inline const struct plan *plan_of_index(uint32_t index)
+{
+    struct leaf *leaf = atomic_load_explicit(&plan_leaves[index / PLANS_OF_LEAF], memory_order_relaxed);
+    return atomic_load_explicit(&leaf->plans[index % PLANS_OF_LEAF], memory_order_relaxed);
+}
+
 /* Whether the table has room for one more: at most half of it is full. */
 static bool has_slot(void)
 {
@@ -72,7 +79,7 @@ static bool has_slot(void)
     larger->mask = room - 1;
     larger->smaller = table;
     for (uint32_t k = 1; k <= plans_count; k++)
-        enter(larger, plan_at(FLAGS_OF_INDEX(k)));
+        enter(larger, plan_of_index(k));
     atomic_store_explicit(&plans_by_key, larger, memory_order_release);
     return true;
 }
