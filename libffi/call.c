@@ -76,7 +76,7 @@ ALWAYS_INLINE void call_with(struct exchange *registers, const struct plan *plan
     make_call(registers, plan->stack);
     if (!result)
         return;
-    for (const struct move *move = plan->loads, *end = move + plan->loads_count; move < end; move++)
+    for (const struct move *move = loads_of(plan), *end = move + plan->loads_count; move < end; move++)
         play(move, (char *)result + move->to, exchange + move->from);
 }
 

@@ -5,7 +5,7 @@
 #include <stddef.h>
 #include <stdint.h>
 
-/* The exchange region, through which the stubs hand registers over: docs/FORMATS.md, section 7, has the places up to
+/* The exchange region, through which the stubs hand registers over: docs/RULES.md, section 12, has the places up to
  * 552, and the stubs' rows go by them. It stands on the stack of the call, which owns it: that of a caller 16-aligned,
  * and behind it the caller's frame; that of a closure aligned to 8 only. */
 struct exchange {

@@ -1,15 +1,15 @@
-/* The memory of the proved library while it answers: libffi/build has it call these in place of malloc, realloc and
- * free. All that it takes for an answer is of no use after it. So one piece of memory is given out from its front, and
- * is free again when the library is asked next; malloc serves where it is full. */
+/* The memory of the proved library while it answers: libffi/build has it call the three functions here in place of
+ * those over malloc that it comes with. All that it takes for an answer is of no use after it. So one piece of memory
+ * is given out from its front, and is free again when the library is asked next; malloc serves where it is full. */
 #include "heap.h"
 #include "lock.h"
 #include <stdlib.h>
 #include <string.h>
 
-#define LENGTH_BYTES 16 /* in front of each block stands how long it is */
+#define ANSWER_BYTES 16384
 
 /* All under library_lock. */
-static _Alignas(16) char bytes[16384];
+static _Alignas(16) char bytes[ANSWER_BYTES];
 static size_t used;
 static bool is_full;    /* malloc has served */
 static uint64_t answer; /* the number of the last answer */
@@ -29,55 +29,69 @@ bool library_goes_on(uint64_t number)
 
 uint64_t library_answer(void) { return is_full ? 0 : answer; }
 
-void *answer_malloc(size_t size);
-void *answer_realloc(void *at, size_t size);
-void answer_free(void *at);
+/* What the library asks of a heap. */
+struct block {
+    size_t found; /* 1 where there is memory, else 0 */
+    void *at;     /* the memory, which is the library's until rattle_dealloc has it; never NULL */
+};
+
+void rattle_dealloc(void *at);
+struct block rattle_alloc(size_t size, size_t least);
+struct block rattle_realloc(void *at, size_t kept, size_t to, size_t least);
+
+static struct block block_at(void *at)
+{
+    static char nothing;
+    return at ? (struct block){1, at} : (struct block){0, &nothing};
+}
 
 static inline bool is_own(const void *at) { return (uintptr_t)at - (uintptr_t)bytes < sizeof bytes; }
 
 static inline size_t rounded(size_t size) { return (size + 15) & ~(size_t)15; }
 
-void *answer_malloc(size_t size)
+/* What is left is a multiple of 16. */
+static inline bool has_room(size_t size) { return size <= sizeof bytes - used; }
+
+static inline struct block taken(size_t size)
 {
-    if (size > sizeof bytes || rounded(size) + LENGTH_BYTES > sizeof bytes - used) {
-        is_full = true;
-        return malloc(size);
-    }
-    size_t length = rounded(size);
-    char *at = bytes + used + LENGTH_BYTES;
-    used += length + LENGTH_BYTES;
-    memcpy(at - LENGTH_BYTES, &length, sizeof length);
-    return at;
+    struct block block = {1, bytes + used};
+    used += rounded(size);
+    return block;
 }
 
-/* The block that was given out last is made longer where it stands. */
-static inline bool has_grown(char *at, size_t length, size_t size)
+/* A block of 0 bytes takes `least`. */
+__attribute__((noinline)) static struct block least_or_malloced(size_t size, size_t least)
 {
-    if (at + length != bytes + used || size > sizeof bytes || rounded(size) - length > sizeof bytes - used)
-        return false;
-    used += rounded(size) - length;
-    length = rounded(size);
-    memcpy(at - LENGTH_BYTES, &length, sizeof length);
-    return true;
+    if (size == 0 && has_room(least))
+        return taken(least);
+    is_full = true;
+    return block_at(malloc(size ? size : least));
 }
 
-void *answer_realloc(void *at, size_t size)
+struct block rattle_alloc(size_t size, size_t least)
 {
-    size_t length;
-    if (!at)
-        return answer_malloc(size);
+    return __builtin_expect(size && has_room(size), 1) ? taken(size) : least_or_malloced(size, least);
+}
+
+/* The first `kept` bytes stay as they are. The block that was given out last is made longer where it stands. */
+struct block rattle_realloc(void *at, size_t kept, size_t to, size_t least)
+{
     if (!is_own(at))
-        return realloc(at, size);
-    memcpy(&length, (char *)at - LENGTH_BYTES, sizeof length);
-    if (size <= length || has_grown(at, length, size))
-        return at;
-    void *larger = answer_malloc(size);
-    if (larger)
-        memcpy(larger, at, length);
+        return block_at(realloc(at, to ? to : least));
+    if (to <= rounded(kept))
+        return (struct block){1, at};
+    size_t more = to - rounded(kept);
+    if (kept && (char *)at + rounded(kept) == bytes + used && has_room(more)) {
+        used += rounded(more);
+        return (struct block){1, at};
+    }
+    struct block larger = rattle_alloc(to, least);
+    if (larger.found)
+        memcpy(larger.at, at, kept);
     return larger;
 }
 
-void answer_free(void *at)
+void rattle_dealloc(void *at)
 {
     if (!is_own(at))
         free(at);
@@ -91,21 +105,21 @@ void answer_free(void *at)
 #define CHUNK_BYTES 16384
 #endif
 
-static char *kept, *chunk_end; /* of the last one all is free from `kept` on */
+static char *next_piece, *chunk_end; /* of the last one all is free from `next_piece` on */
 
 static inline size_t in_words(size_t size) { return (size + 7) & ~(size_t)7; }
 
 void *kept_room(size_t most)
 {
-    if (__builtin_expect(most <= (size_t)(chunk_end - kept), 1))
-        return kept;
+    if (__builtin_expect(most <= (size_t)(chunk_end - next_piece), 1))
+        return next_piece;
     size_t size = most > CHUNK_BYTES ? in_words(most) : CHUNK_BYTES;
     char *next = malloc(size);
     if (!next)
         return NULL;
-    kept = next;
+    next_piece = next;
     chunk_end = next + size;
-    return kept;
+    return next_piece;
 }
 
-void kept_take(size_t size) { kept += in_words(size); }
+void kept_take(size_t size) { next_piece += in_words(size); }

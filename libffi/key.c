@@ -78,17 +78,32 @@ bool key_put_bytes(struct key *key, const ffi_type *type)
 /* `alignment` is a power of two. */
 static inline size_t rounded(size_t size, size_t alignment) { return (size + alignment - 1) & ~(alignment - 1); }
 
+/* What elements make, one behind another. */
+struct made {
+    size_t size, alignment;
+};
+
+static inline void add(struct made *made, size_t size, size_t alignment)
+{
+    made->size = rounded(made->size, alignment) + size;
+    made->alignment = alignment > made->alignment ? alignment : made->alignment;
+}
+
+static inline bool are_of(const struct made *made, const ffi_type *type)
+{
+    return made->size != 0 && rounded(made->size, made->alignment) == type->size && made->alignment == type->alignment;
+}
+
 bool is_natural(const ffi_type *type)
 {
-    size_t size = 0, alignment = 1;
+    struct made made = {0, 1};
     for (ffi_type **it = type->elements; *it; it++) {
-        size_t own = (*it)->alignment;
-        if ((*it)->type == FFI_TYPE_VOID || (*it)->size == 0 || !is_alignment(own) || is_sized_otherwise(*it))
+        if ((*it)->type == FFI_TYPE_VOID || (*it)->size == 0 || !is_alignment((*it)->alignment) ||
+            is_sized_otherwise(*it))
             return false;
-        size = rounded(size, own) + (*it)->size;
-        alignment = own > alignment ? own : alignment;
+        add(&made, (*it)->size, (*it)->alignment);
     }
-    return size != 0 && rounded(size, alignment) == type->size && alignment == type->alignment;
+    return are_of(&made, type);
 }
 
 static bool put_type(struct key *key, const ffi_type *type, int depth);
@@ -120,7 +135,9 @@ static bool put_complex(struct key *key, const ffi_type *type, int depth)
     }
 }
 
-/* Equal elements one behind another are told as an array, which is placed as they are. */
+#define FEW_ELEMENTS 8
+
+/* Equal elements one behind another are told as an array, which is placed as they are, where they are not few. */
 static bool put_elements(struct key *key, const ffi_type *type, int depth)
 {
     size_t at = key->length;
@@ -130,7 +147,9 @@ static bool put_elements(struct key *key, const ffi_type *type, int depth)
         uint32_t run = 1;
         while (it[run] == *it)
             run++;
-        if (run > 1)
+        if (run < FEW_ELEMENTS)
+            run = 1;
+        else
             key_put(key, FFI3_ARRAY, run);
         if (!put_type(key, *it, depth + 1))
             return false;
@@ -141,6 +160,30 @@ static bool put_elements(struct key *key, const ffi_type *type, int depth)
     return true;
 }
 
+/* Does the same for a struct of a few scalars, for which there is room, and looks at each once: what they make is known
+ * behind the last. */
+__attribute__((noinline)) static bool has_put_few(struct key *key, const ffi_type *type)
+{
+    struct ffi3_node *first = key->nodes + key->length, *next = first;
+    struct made made = {0, 1};
+    if (key->room - key->length < 1 + FEW_ELEMENTS)
+        return false;
+    for (ffi_type **it = type->elements; *it; it++) {
+        const ffi_type *element = *it;
+        uint32_t kind = scalar_kind(element->type);
+        if (kind >= FFI3_VOID || next == first + FEW_ELEMENTS)
+            return false;
+        size_t size = scalar_sizes[element->type];
+        if (element->size != size || element->alignment != size)
+            return false;
+        add(&made, size, size);
+        *++next = (struct ffi3_node){kind, 0};
+    }
+    *first = (struct ffi3_node){FFI3_STRUCT, (uint32_t)(next - first)};
+    key->length += (size_t)(next - first) + 1;
+    return are_of(&made, type);
+}
+
 /* Adds a type as it is, or answers false where it can't be told so: somewhere its client laid it out itself, or it
  * is of another kind; or structs stand in one another too deep, which is noted. What was added then is to be taken
  * back. */
@@ -148,7 +191,7 @@ static bool put_type(struct key *key, const ffi_type *type, int depth)
 {
     uint32_t kind = scalar_kind(type->type);
     if (kind != FFI3_STRUCT) {
-        key_put(key, kind, 0);
+        key_put_scalar(key, kind);
         return true;
     }
     if (type->type == FFI_TYPE_LONGDOUBLE)
@@ -159,34 +202,24 @@ static bool put_type(struct key *key, const ffi_type *type, int depth)
         return false;
     if (type->type == FFI_TYPE_COMPLEX)
         return put_complex(key, type, depth);
-    if (type->type != FFI_TYPE_STRUCT || !type->elements || !is_natural(type))
+    if (type->type != FFI_TYPE_STRUCT || !type->elements)
         return false;
-    return put_elements(key, type, depth);
+    return has_put_few(key, type) || (is_natural(type) && put_elements(key, type, depth));
 }
 
-/* Adds an aggregate, or a long double. */
-static void put_other(struct key *key, const ffi_type *type)
+/* Adds what is void, a long double, or an aggregate. */
+static void put_other(struct key *key, const ffi_type *type, bool is_result)
 {
     size_t before = key->length;
+    if (type->type == FFI_TYPE_STRUCT && type->elements && has_put_few(key, type))
+        return;
+    if (type->type == FFI_TYPE_VOID && !is_result)
+        key->kinds |= NODES_OF_OWN;
     if (put_type(key, type, 0) || key->status != FFI_OK)
         return;
     key->length = before;
     if (!is_aggregate(type) || !is_alignment(type->alignment) || !host_put_stand_in(key, type, key_abi(key)))
         key->status = FFI_BAD_TYPEDEF;
-}
-
-/* Adds the type of an argument or of the result. */
-static inline void put_value(struct key *key, ffi_type *type, bool is_result)
-{
-    uint32_t kind = scalar_kind(type->type);
-    if (__builtin_expect(!is_laid_out(type), 0))
-        key->status = FFI_BAD_TYPEDEF;
-    else if (kind != FFI3_STRUCT)
-        key_put(key, kind, 0);
-    else
-        put_other(key, type);
-    if (kind == FFI3_VOID && !is_result)
-        key->kinds |= NODES_OF_OWN;
 }
 
 /* ---- Signatures */
@@ -215,15 +248,22 @@ void key_tell(struct key *key, const ffi_cif *cif, unsigned fixed)
 {
     key->nodes = key->own_nodes;
     key->room = sizeof key->own_nodes / sizeof *key->own_nodes;
-    key->length = 0;
+    key->length = NODES_BEFORE_TYPES;
     key->status = FFI_OK;
-    if (fixed != FFI3_NOT_VARIADIC && fixed > cif->nargs)
-        fixed = cif->nargs;
-    key->fixed = fixed;
-    key_put(key, NODE_SIGNATURE, cif->abi);
-    key_put(key, NODE_FIXED, fixed);
     key->kinds = 0;
-    put_value(key, cif->rtype, true);
-    for (unsigned i = 0; i < cif->nargs && key->status == FFI_OK; i++)
-        put_value(key, cif->arg_types[i], false);
+    key->fixed = fixed != FFI3_NOT_VARIADIC && fixed > cif->nargs ? cif->nargs : fixed;
+    key->nodes[0] = (struct ffi3_node){NODE_SIGNATURE, cif->abi};
+    key->nodes[1] = (struct ffi3_node){NODE_FIXED, key->fixed};
+    ffi_type *type = cif->rtype;
+    for (unsigned i = 0;; type = cif->arg_types[i++]) {
+        uint32_t kind = scalar_kind(type->type);
+        if (__builtin_expect(!is_laid_out(type), 0))
+            key->status = FFI_BAD_TYPEDEF;
+        else if (__builtin_expect(kind < FFI3_VOID, 1))
+            key_put_scalar(key, kind);
+        else
+            put_other(key, type, i == 0);
+        if (i == cif->nargs || __builtin_expect(key->status != FFI_OK, 0))
+            break;
+    }
 }

@@ -26,7 +26,7 @@ struct key {
     uint32_t kinds; /* all that the types have, by bits */
     unsigned fixed;
     ffi_status status; /* FFI_OK, or why there is none */
-    struct ffi3_node own_nodes[40];
+    struct ffi3_node own_nodes[56];
 };
 
 /* Makes the key of an interface, whose types it lays out where they have no size. `fixed` is how many arguments are, or
@@ -58,14 +58,20 @@ static inline ffi_abi key_abi(const struct key *key) { return (ffi_abi)key->node
 
 bool key_has_more_room(struct key *key);
 
-/* Adds a node, or notes that memory was refused. */
+/* Adds the node of a scalar that is no long double, or notes that memory was refused. */
+static inline void key_put_scalar(struct key *key, uint32_t kind)
+{
+    if (__builtin_expect(key->length == key->room, 0) && !key_has_more_room(key))
+        return;
+    key->nodes[key->length++] = (struct ffi3_node){kind, 0};
+}
+
+/* Adds a node of any kind, or notes that memory was refused. */
 static inline void key_put(struct key *key, uint32_t kind, uint32_t count)
 {
     if (__builtin_expect(key->length == key->room, 0) && !key_has_more_room(key))
         return;
-    struct ffi3_node *node = &key->nodes[key->length++];
-    node->kind = kind;
-    node->count = count;
+    key->nodes[key->length++] = (struct ffi3_node){kind, count};
     key->kinds |= kind;
 }
 

@@ -38,20 +38,27 @@ void told_end(struct told *told)
 /* What the library keeps of its last answer, in memory that is free when it is asked of something else. */
 static struct ffi3_interface last = FFI3_NO_INTERFACE;
 
-/* One list: where there is room for it, or where malloc gives it. */
-static bool has_told(struct ffi3_interface *interface, uint32_t list, struct told *told)
+/* A list for which there is no room, where malloc gives it. */
+__attribute__((noinline)) static bool has_told_long(uint32_t list, struct told *told)
 {
     struct moves *moves = &told->lists[list];
-    struct ffi3_move *room = told->own_moves + told->used;
-    uint32_t status = ffi3_moves(interface, list, &moves->count, room, OWN_MOVES - told->used);
-    if (status == FFI3_OK) {
-        moves->first = room;
-        told->used += (uint32_t)moves->count;
-    } else if (status == FFI3_TOO_SMALL && (moves->first = malloc(moves->count * sizeof *room))) {
-        told->malloced |= 1u << list;
-        status = ffi3_moves(interface, list, &moves->count, moves->first, moves->count);
-    }
-    return status == FFI3_OK;
+    moves->first = malloc(moves->count * sizeof *moves->first);
+    if (!moves->first)
+        return false;
+    told->malloced |= 1u << list;
+    return ffi3_moves(&last, list, &moves->count, moves->first, moves->count) == FFI3_OK;
+}
+
+/* One list of the last answer. */
+static inline bool has_told(uint32_t list, struct told *told)
+{
+    struct moves *moves = &told->lists[list];
+    moves->first = told->own_moves + told->used;
+    uint32_t status = ffi3_moves(&last, list, &moves->count, moves->first, OWN_MOVES - told->used);
+    if (__builtin_expect(status != FFI3_OK, 0))
+        return status == FFI3_TOO_SMALL && has_told_long(list, told);
+    told->used += (uint32_t)moves->count;
+    return true;
 }
 
 /* Of the frame all is passed on the stack that stands before the first byte whose address is passed. */
@@ -68,60 +75,66 @@ static uint64_t stack_of(const struct told *told)
     return (stack + 15) / 16 * 16;
 }
 
-static bool has_told_caller(struct ffi3_interface *interface, struct told *told)
+__attribute__((noinline)) static bool has_told_caller(struct told *told)
 {
     const struct moves *loads = &told->lists[FFI3_MOVES_TO_LOAD];
-    if (ffi3_sizes(interface, &told->sizes) != FFI3_OK || told->sizes.frame > INT32_MAX ||
-        !has_told(interface, FFI3_MOVES_TO_STORE, told) || !has_told(interface, FFI3_MOVES_TO_LOAD, told))
+    if (ffi3_sizes(&last, &told->sizes) != FFI3_OK || told->sizes.frame > INT32_MAX ||
+        !has_told(FFI3_MOVES_TO_STORE, told) || !has_told(FFI3_MOVES_TO_LOAD, told))
         return false;
     /* A hidden result is in the frame. */
-    if (loads->count && loads->first->from >= FRAME_AT && !has_told(interface, FFI3_MOVES_OF_HIDDEN, told))
+    told->lists[FFI3_MOVES_OF_HIDDEN].count = 0;
+    if (loads->count && loads->first->from >= FRAME_AT && !has_told(FFI3_MOVES_OF_HIDDEN, told))
         return false;
     told->stack = stack_of(told);
     return true;
 }
 
-static bool has_told_callee(struct ffi3_interface *interface, struct told *told)
+static bool has_told_callee(struct told *told)
 {
-    return has_told(interface, FFI3_MOVES_TO_COLLECT, told) && has_told(interface, FFI3_MOVES_TO_GIVE, told);
+    return has_told(FFI3_MOVES_TO_COLLECT, told) && has_told(FFI3_MOVES_TO_GIVE, told);
 }
 
-static bool has_asked(const struct key *key, const struct ffi3_node *nodes, size_t length, uint32_t fixed,
-                      bool is_callee, uint64_t answer, struct told *told)
+static inline bool has_prepared(const struct key *key, const struct ffi3_node *nodes, size_t length, uint32_t fixed)
 {
     struct ffi3_fault fault;
-    uint32_t target = host_target(key_abi(key));
     /* The library wants one that is fixed, and libffi none; all of these standards place it as if it were not. */
     if (fixed == 0)
         fixed = length > type_end(nodes, 0) ? 1 : FFI3_NOT_VARIADIC;
-    memset(told->lists, 0, sizeof told->lists);
+    last = (struct ffi3_interface)FFI3_NO_INTERFACE;
+    return ffi3_prepare(host_target(key_abi(key)), nodes, length, fixed, &last, &fault) == FFI3_OK;
+}
+
+/* The same of a key that has nodes which the library is not told. */
+__attribute__((noinline)) static bool has_prepared_others(const struct key *key)
+{
+    uint32_t fixed = key->fixed;
+    struct ffi3_node own_nodes[96], *nodes = own_nodes;
+    if (key->length > sizeof own_nodes / sizeof *own_nodes)
+        nodes = malloc(key->length * sizeof *nodes);
+    size_t length = nodes ? told_nodes(key, nodes, &fixed) : 0;
+    bool has = length && has_prepared(key, nodes, length, fixed);
+    if (nodes != own_nodes)
+        free(nodes);
+    return has;
+}
+
+static inline bool is_prepared(const struct key *key, uint64_t answer)
+{
+    if (library_goes_on(answer))
+        return true;
+    if (key->kinds & NODES_OF_OWN)
+        return has_prepared_others(key);
+    return has_prepared(key, key->nodes + NODES_BEFORE_TYPES, key->length - NODES_BEFORE_TYPES, key->fixed);
+}
+
+bool has_asked_moves(const struct key *key, bool is_callee, uint64_t answer, struct told *told)
+{
     told->malloced = told->used = 0;
-    bool has = library_goes_on(answer);
-    if (!has) {
-        last = (struct ffi3_interface)FFI3_NO_INTERFACE;
-        has = ffi3_prepare(target, nodes, length, fixed, &last, &fault) == FFI3_OK;
-    }
-    has = has && (is_callee ? has_told_callee(&last, told) : has_told_caller(&last, told));
+    bool has = is_prepared(key, answer) && (is_callee ? has_told_callee(told) : has_told_caller(told));
     told->answer = library_answer();
     if (!told->answer)
         ffi3_release(&last);
     if (!has)
         told_end(told);
-    return has;
-}
-
-bool has_asked_moves(const struct key *key, bool is_callee, uint64_t answer, struct told *told)
-{
-    uint32_t fixed = key->fixed;
-    struct ffi3_node own_nodes[96], *nodes = own_nodes;
-    if (!(key->kinds & NODES_OF_OWN))
-        return has_asked(key, key->nodes + NODES_BEFORE_TYPES, key->length - NODES_BEFORE_TYPES, fixed, is_callee,
-                         answer, told);
-    if (key->length > sizeof own_nodes / sizeof *own_nodes)
-        nodes = malloc(key->length * sizeof *nodes);
-    size_t length = nodes ? told_nodes(key, nodes, &fixed) : 0;
-    bool has = length && has_asked(key, nodes, length, fixed, is_callee, answer, told);
-    if (nodes != own_nodes)
-        free(nodes);
     return has;
 }

@@ -5,10 +5,12 @@
 #include "host.h"
 #include <string.h>
 
-static inline bool is_scalar(const ffi_type *type)
-{
-    return !is_aggregate(type) && type->type != FFI_TYPE_LONGDOUBLE;
-}
+/* The codes of types that are passed as one value, and are no long double: a bit for each. */
+#define SCALARS                                                                                             \
+    (((2u << FFI_TYPE_LAST) - 1) & ~(1u << FFI_TYPE_VOID | 1u << FFI_TYPE_LONGDOUBLE | 1u << FFI_TYPE_STRUCT | \
+                                     1u << FFI_TYPE_COMPLEX))
+
+static inline bool is_scalar(const ffi_type *type) { return SCALARS >> (type->type & 31) & 1; }
 
 static bool is_integer(const ffi_type *type)
 {
@@ -24,7 +26,8 @@ static bool is_signed(const ffi_type *type)
 /* A place of the library's, where these files have it. */
 static inline uint32_t place_of(uint64_t told)
 {
-    return (uint32_t)(told >= HIGH_AT && told < FRAME_AT ? told - HIGH_AT + BESIDE_AT : told);
+    uint32_t it = (uint32_t)told;
+    return it - HIGH_AT < FRAME_AT - HIGH_AT ? it - HIGH_AT + BESIDE_AT : it;
 }
 
 /* Bytes as they are. */
@@ -39,7 +42,7 @@ static inline uint16_t as_they_are(uint32_t length)
 }
 
 /* Bytes that fill eight: by how many they are, with zeros or with the sign. */
-static const uint8_t fillings[2][9] = {
+static const uint8_t fillings[2][16] = {
     {MOVE_SHORT, MOVE_U8, MOVE_U16, MOVE_SHORT, MOVE_U32, MOVE_SHORT, MOVE_SHORT, MOVE_SHORT, MOVE_8},
     {MOVE_SHORT, MOVE_S8, MOVE_S16, MOVE_SHORT, MOVE_S32, MOVE_SHORT, MOVE_SHORT, MOVE_SHORT, MOVE_8},
 };
@@ -102,7 +105,7 @@ static inline uint32_t add(struct move *moves, uint32_t count, const struct move
 /* Where in a list the moves end of the argument `part`, the first of which is the next. */
 static inline const struct ffi3_move *end_of(const struct ffi3_move *next, const struct ffi3_move *end, uint32_t part)
 {
-    while (next < end && next->part == part && next->kind != FFI3_MOVE_NUMBER)
+    while (next < end && next->part == part)
         next++;
     return next;
 }
@@ -114,10 +117,18 @@ static inline struct move move_of(const struct ffi3_move *told, uint64_t start, 
     return (struct move){kind_in(told, length), (uint16_t)number, from, place_of(told->to), length};
 }
 
+/* The same of a scalar that has one. */
+static inline struct move scalar_move(const struct ffi3_move *told, uint32_t number)
+{
+    uint32_t length = (uint32_t)told->length;
+    return (struct move){kind_in(told, length), (uint16_t)number, 0, place_of(told->to), length};
+}
+
 /* Adds the caller's moves of an argument, from `next` on, and answers how many they are. The first of them reads its
  * first byte. */
-static uint32_t fill_moves(struct move *moves, const struct ffi3_move *next, const struct ffi3_move *end,
-                           uint32_t number, const ffi_type *type)
+__attribute__((noinline)) static uint32_t fill_moves(struct move *moves, const struct ffi3_move *next,
+                                                     const struct ffi3_move *end, uint32_t number,
+                                                     const ffi_type *type)
 {
     uint64_t start = next->from;
     uint32_t count = 0;
@@ -132,30 +143,35 @@ static uint32_t fill_moves(struct move *moves, const struct ffi3_move *next, con
 }
 
 /* Answers whether each argument has its moves. */
-static bool has_filled_moves(struct plan *plan, const struct told *told, const ffi_cif *cif)
+__attribute__((noinline)) static bool has_filled_moves(struct plan *plan, const struct told *told, const ffi_cif *cif)
 {
     const struct moves *stores = &told->lists[FFI3_MOVES_TO_STORE];
     const struct ffi3_move *next = stores->first, *end = next + stores->count;
-    uint32_t count = 0, part = 0;
+    struct move *moves = plan->moves;
+    uint32_t part = 0;
+    if (next < end && end[-1].kind == FFI3_MOVE_NUMBER) {
+        end--;
+        plan->number_at = (uint32_t)end->to;
+        plan->number = end->from;
+    }
     for (uint32_t i = 0; i < cif->nargs; i++) {
         const ffi_type *type = cif->arg_types[i];
-        if (type->type == FFI_TYPE_VOID)
-            continue;
         const struct ffi3_move *first = next;
-        next = end_of(first, end, part++);
-        if (next == first)
+        if (__builtin_expect(type->type == FFI_TYPE_VOID, 0))
+            continue;
+        if (__builtin_expect(first == end || first->part != part, 0))
             return false;
-        if (next == first + 1 && is_scalar(type))
-            plan->moves[count++] = move_of(first, first->from, i, type);
-        else
-            count += fill_moves(plan->moves + count, first, next, i, type);
+        next++;
+        if (__builtin_expect(is_scalar(type) && (next == end || next->part != part), 1)) {
+            *moves++ = scalar_move(first, i);
+        } else {
+            next = end_of(next, end, part);
+            moves += fill_moves(moves, first, next, i, type);
+        }
+        part++;
     }
-    if (next < end) {
-        plan->number_at = (uint32_t)next->to;
-        plan->number = next->from;
-    }
-    plan->moves_count = count;
-    return true;
+    plan->moves_count = (uint32_t)(moves - plan->moves);
+    return next == end;
 }
 
 /* Where a closure finds an argument: where it stands, if that is one place. In registers nothing is aligned to 16. What
@@ -233,7 +249,6 @@ static struct move give_of(const struct ffi3_move *told, const ffi_type *type)
 static void fill_loads(struct plan *plan, const struct told *told, const ffi_type *type)
 {
     const struct moves *loads = &told->lists[FFI3_MOVES_TO_LOAD], *hidden = &told->lists[FFI3_MOVES_OF_HIDDEN];
-    plan->hidden = plan->back = NO_PLACE;
     if (hidden->count) {
         plan->hidden = (uint32_t)hidden->first->to;
         plan->buffer = FRAME_AT + (uint32_t)hidden->first->from;
@@ -241,10 +256,13 @@ static void fill_loads(struct plan *plan, const struct told *told, const ffi_typ
             plan->back = (uint32_t)told->sizes.returned;
         return;
     }
+    struct move *filled = plan->moves + plan->moves_count;
+    uint32_t count = 0;
     for (size_t k = 0; k < loads->count; k++) {
         struct move move = load_of(&loads->first[k], type);
-        plan->loads_count = add(plan->loads, plan->loads_count, &move);
+        count = add(filled, count, &move);
     }
+    plan->loads_count = count;
 }
 
 static void fill_gives(struct served *served, const struct told *told, const ffi_type *type)
@@ -268,36 +286,39 @@ static inline uint32_t beside(uint32_t before, uint32_t place, uint32_t length)
 static uint32_t all_beside(const struct plan *plan)
 {
     uint32_t count = 0;
+    const struct move *loads = loads_of(plan);
     for (uint32_t k = 0; k < plan->moves_count; k++)
         count = beside(count, plan->moves[k].to, plan->moves[k].length);
     for (uint32_t k = 0; k < plan->loads_count; k++)
-        count = beside(count, plan->loads[k].from, plan->loads[k].length);
+        count = beside(count, loads[k].from, loads[k].length);
     return count;
 }
 
 struct plan *plan_from(const struct key *key, uint64_t word, const struct told *told, const ffi_cif *cif)
 {
-    size_t stores = told->lists[FFI3_MOVES_TO_STORE].count, loads = told->lists[FFI3_MOVES_TO_LOAD].count;
+    size_t moves = told->lists[FFI3_MOVES_TO_STORE].count + told->lists[FFI3_MOVES_TO_LOAD].count;
     size_t nodes = word ? 0 : key->length;
-    struct plan *plan = kept_room(sizeof *plan + (stores + loads) * sizeof(struct move) + nodes * sizeof *plan->nodes);
+    struct plan *plan = kept_room(sizeof *plan + moves * sizeof *plan->moves + nodes * sizeof *key->nodes);
     if (!plan)
         return NULL;
     *plan = (struct plan){.word = word,
-                          .nodes_count = nodes,
+                          .answer = told->answer,
+                          .number_at = offsetof(struct exchange, unused),
                           .abi = cif->abi,
                           .nargs = cif->nargs,
                           .stack = (uint32_t)told->stack,
                           .frame = (uint32_t)told->sizes.frame,
-                          .number_at = offsetof(struct exchange, unused),
-                          .moves = (struct move *)(plan + 1),
-                          .answer = told->answer};
+                          .hidden = NO_PLACE,
+                          .back = NO_PLACE,
+                          .nodes_count = (uint32_t)nodes};
     if (!has_filled_moves(plan, told, cif))
         return NULL;
-    plan->loads = plan->moves + plan->moves_count;
     fill_loads(plan, told, cif->rtype);
-    plan->beside = key->kinds & NODES_OF_LONG_DOUBLES ? all_beside(plan) : 0;
-    plan->nodes = memcpy(plan->loads + plan->loads_count, key->nodes, nodes * sizeof *plan->nodes);
-    kept_take((size_t)((const char *)(plan->nodes + nodes) - (const char *)plan));
+    if (__builtin_expect(key->kinds & NODES_OF_LONG_DOUBLES, 0))
+        plan->beside = all_beside(plan);
+    void *own_nodes = plan->moves + plan->moves_count + plan->loads_count;
+    memcpy(own_nodes, key->nodes, nodes * sizeof *key->nodes);
+    kept_take((size_t)((char *)own_nodes - (char *)plan) + nodes * sizeof *key->nodes);
     return plan;
 }
 

@@ -53,28 +53,33 @@ struct source {
 
 /* All but `served` is written before the plan is published. */
 struct plan {
-    uint64_t word; /* of the signature; where it is 0, its key has these nodes */
-    uint64_t hash;
-    const struct ffi3_node *nodes;
-    size_t nodes_count;
+    uint64_t word;   /* of the signature; where it is 0, its key has the plan's nodes */
+    uint64_t answer; /* the library's, by which it is asked for the rest */
+    _Atomic(const struct served *) served;
+    uint64_t number; /* what the caller puts at number_at: on AMD64, how many vector registers there are */
+    uint32_t number_at;
+    uint32_t hash;
+    uint32_t index; /* of the table of plans */
     ffi_abi abi;
     uint32_t nargs;
-    uint32_t index;     /* of the table of plans */
-    uint32_t stack;     /* bytes of stack arguments, a multiple of 16 */
-    uint32_t frame;     /* these with copies and the result's buffer */
-    uint32_t beside;    /* goes into the exchange, which says what it counts */
-    uint32_t number_at; /* where the caller puts a number: on AMD64, how many vector registers there are */
-    uint64_t number;
-    uint32_t hidden;    /* the place of the address of the result's buffer, or NO_PLACE */
-    uint32_t back;      /* the place in which the callee gives it back, or NO_PLACE */
-    uint32_t buffer;    /* the place of that buffer, where the client has none */
+    uint32_t stack;  /* bytes of stack arguments, a multiple of 16 */
+    uint32_t frame;  /* these with copies and the result's buffer */
+    uint32_t beside; /* goes into the exchange, which says what it counts */
+    uint32_t hidden; /* the place of the address of the result's buffer, or NO_PLACE */
+    uint32_t back;   /* the place in which the callee gives it back, or NO_PLACE */
+    uint32_t buffer; /* the place of that buffer, where the client has none */
     uint32_t moves_count;
     uint32_t loads_count;
-    struct move *moves; /* the caller's, of the arguments */
-    struct move *loads; /* the caller's, of the result */
-    uint64_t answer;    /* the library's, by which it is asked for the rest */
-    _Atomic(const struct served *) served;
+    uint32_t nodes_count;
+    struct move moves[]; /* the caller's, of the arguments; behind them its loads, of the result, and then the nodes */
 };
+
+static inline const struct move *loads_of(const struct plan *plan) { return plan->moves + plan->moves_count; }
+
+static inline const struct ffi3_node *nodes_of(const struct plan *plan)
+{
+    return (const struct ffi3_node *)(const void *)(loads_of(plan) + plan->loads_count);
+}
 
 /* The callee's part of a plan, which is made for the first closure of its signature. */
 struct served {
@@ -105,9 +110,9 @@ struct told {
     struct ffi3_move own_moves[64];
 };
 
-/* Asks the library for the moves of a key, the callee's, or the caller's and the sizes; answers false where it has none,
- * or memory was refused. `answer` is the number of what it answered of this key, or 0. told_end gives memory back. Under
- * library_lock. */
+/* Asks the library for the moves of a key, the callee's, or the caller's and the sizes; answers false where it has
+ * none, or memory was refused. `answer` is the number of what it answered of this key, or 0. told_end gives memory
+ * back. Under library_lock. */
 bool has_asked_moves(const struct key *key, bool is_callee, uint64_t answer, struct told *told);
 void told_end(struct told *told);
 
@@ -117,11 +122,41 @@ struct plan *plan_from(const struct key *key, uint64_t word, const struct told *
 struct served *served_from(const struct told *told, const ffi_cif *cif);
 
 /* The plan of an interface, from the table or a new one; or NULL, where there is none or memory was refused. Its types
- * are laid out. `fixed` as in key.h. */
-const struct plan *plan_for(const ffi_cif *cif, unsigned fixed);
+ * are laid out. `fixed` as in key.h; `word` is the interface's, or 0. */
+const struct plan *plan_for(const ffi_cif *cif, unsigned fixed, uint64_t word);
 
 /* The callee's part of the interface's plan, from there or a new one; or NULL, where memory was refused. */
 const struct served *served_by(const struct plan *plan, const ffi_cif *cif);
+
+/* ---- The table of plans by their keys, with linear probing. Readers take no lock. One that grew too small stays as it
+ * was for those who read it. */
+
+struct table {
+    size_t mask;
+    struct table *smaller; /* the one that it took the place of */
+    _Atomic(const struct plan *) slots[];
+};
+
+extern _Atomic(struct table *) plans_by_key;
+
+/* Its low bits come of all bits of the word. */
+static inline uint64_t hash_of_word(uint64_t word)
+{
+    uint64_t hash = (word ^ word >> 32) * 0x9E3779B97F4A7C15u;
+    return hash ^ hash >> 32;
+}
+
+/* The plan of a word, or NULL. */
+static inline const struct plan *plan_of_word(uint64_t word)
+{
+    const struct table *table = atomic_load_explicit(&plans_by_key, memory_order_acquire);
+    for (size_t k = hash_of_word(word); __builtin_expect(table != NULL, 1); k++) {
+        const struct plan *plan = atomic_load_explicit(&table->slots[k & table->mask], memory_order_acquire);
+        if (!plan || plan->word == word)
+            return plan;
+    }
+    return NULL;
+}
 
 /* ---- From a prepared interface to its plan: `flags` has the index and a mark, `bytes` the plan's stack. */
 

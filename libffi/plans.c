@@ -8,31 +8,28 @@
 
 _Atomic(struct leaf *) plan_leaves[LEAVES];
 
-/* Plans by their keys, with linear probing. A table that grew too small stays as it was for those who read it. */
-struct table {
-    size_t mask;
-    struct table *smaller; /* the one that it took the place of */
-    _Atomic(const struct plan *) slots[];
-};
-
-static _Atomic(struct table *) current;
+_Atomic(struct table *) plans_by_key;
 static uint32_t plans_count; /* under library_lock, as all that is written here */
 
-static inline uint64_t mixed(uint64_t hash, uint64_t word) { return (hash + word) * 0x9E3779B97F4A7C15u; }
-
-static inline uint64_t finished(uint64_t hash) { return hash ^ hash >> 32; }
+static inline uint64_t bits_of(const struct ffi3_node *node)
+{
+    uint64_t bits;
+    memcpy(&bits, node, sizeof bits);
+    return bits;
+}
 
 static uint64_t hash_of(const struct key *key)
 {
     uint64_t hash = key->length;
-    for (size_t at = 0; at < key->length; at++)
-        hash = mixed(hash, (uint64_t)key->nodes[at].count << 32 | key->nodes[at].kind);
-    return finished(hash);
+    for (const struct ffi3_node *node = key->nodes, *end = node + key->length; node < end; node++)
+        hash = (hash << 7 | hash >> 57) + bits_of(node);
+    return hash_of_word(hash);
 }
 
 static inline bool has_nodes(const struct plan *plan, const struct key *key)
 {
-    return plan->nodes_count == key->length && memcmp(plan->nodes, key->nodes, key->length * sizeof *key->nodes) == 0;
+    return plan->nodes_count == key->length &&
+           memcmp(nodes_of(plan), key->nodes, key->length * sizeof *key->nodes) == 0;
 }
 
 /* A place of a table, and the plan of a word, or, if that is 0, of a key, which stands there; or the place in which it
@@ -47,7 +44,7 @@ static inline struct place found(struct table *table, uint64_t hash, uint64_t wo
 {
     for (size_t k = hash; table; k++) {
         const struct plan *plan = atomic_load_explicit(&table->slots[k & table->mask], memory_order_acquire);
-        if (!plan || (plan->hash == hash && plan->word == word && (word || has_nodes(plan, key))))
+        if (!plan || (plan->hash == (uint32_t)hash && plan->word == word && (word || has_nodes(plan, key))))
             return (struct place){table, k & table->mask, plan};
     }
     return (struct place){NULL, 0, NULL};
@@ -61,10 +58,17 @@ static void enter(struct table *table, const struct plan *plan)
     atomic_store_explicit(&table->slots[k & table->mask], plan, memory_order_release);
 }
 
+/* One that has been put. */
+static inline const struct plan *plan_of_index(uint32_t index)
+{
+    struct leaf *leaf = atomic_load_explicit(&plan_leaves[index / PLANS_OF_LEAF], memory_order_relaxed);
+    return atomic_load_explicit(&leaf->plans[index % PLANS_OF_LEAF], memory_order_relaxed);
+}
+
 /* Whether the table has room for one more: at most half of it is full. */
 static bool has_slot(void)
 {
-    struct table *table = atomic_load(&current);
+    struct table *table = atomic_load(&plans_by_key);
     size_t room = table ? table->mask + 1 : 0;
     if (2 * (size_t)(plans_count + 1) <= room)
         return true;
@@ -75,8 +79,8 @@ static bool has_slot(void)
     larger->mask = room - 1;
     larger->smaller = table;
     for (uint32_t k = 1; k <= plans_count; k++)
-        enter(larger, plan_at(FLAGS_OF_INDEX(k)));
-    atomic_store_explicit(&current, larger, memory_order_release);
+        enter(larger, plan_of_index(k));
+    atomic_store_explicit(&plans_by_key, larger, memory_order_release);
     return true;
 }
 
@@ -124,11 +128,11 @@ static const struct plan *make(const struct key *key, uint64_t hash, uint64_t wo
     struct plan *plan = NULL;
     library_enter();
     if (has_room()) {
-        struct table *table = atomic_load_explicit(&current, memory_order_relaxed);
+        struct table *table = atomic_load_explicit(&plans_by_key, memory_order_relaxed);
         if (place.table != table || atomic_load(&table->slots[place.at]))
             place = found(table, hash, word, key);
         if (!place.plan && (plan = asked_plan(key, word, cif))) {
-            plan->hash = hash;
+            plan->hash = (uint32_t)hash;
             put(place, plan);
         }
     }
@@ -164,48 +168,27 @@ const struct served *served_by(const struct plan *plan, const ffi_cif *cif)
     if (served)
         return served;
     /* The plan's own nodes have how many arguments are fixed. */
-    key_tell(&key, cif, plan->word ? FFI3_NOT_VARIADIC : plan->nodes[1].count);
+    key_tell(&key, cif, plan->word ? FFI3_NOT_VARIADIC : nodes_of(plan)[1].count);
     if (key.status == FFI_OK && is_of(plan, &key, cif))
         served = serve((struct plan *)(uintptr_t)plan, &key, cif);
     key_end(&key);
     return served;
 }
 
-static const struct plan *plan_by_nodes(const ffi_cif *cif, unsigned fixed)
+/* By a word, where that is not 0, or else by nodes. */
+const struct plan *plan_for(const ffi_cif *cif, unsigned fixed, uint64_t word)
 {
     struct key key;
     const struct plan *plan = NULL;
-    key_tell(&key, cif, fixed);
+    if (!word || !key_tell_word(&key, cif, word))
+        key_tell(&key, cif, fixed);
     if (key.status == FFI_OK) {
-        uint64_t hash = hash_of(&key);
-        struct place place = found(atomic_load_explicit(&current, memory_order_acquire), hash, 0, &key);
-        plan = place.plan ? place.plan : make(&key, hash, 0, cif, place);
+        uint64_t hash = word ? hash_of_word(word) : hash_of(&key);
+        struct place place = found(atomic_load_explicit(&plans_by_key, memory_order_acquire), hash, word, &key);
+        plan = __builtin_expect(place.plan != NULL, 1) ? place.plan : make(&key, hash, word, cif, place);
     }
     key_end(&key);
     return plan;
-}
-
-__attribute__((noinline)) static const struct plan *make_by_word(const ffi_cif *cif, uint64_t hash, uint64_t word,
-                                                                 struct place place)
-{
-    struct key key;
-    const struct plan *plan = NULL;
-    if (!key_tell_word(&key, cif, word))
-        key_tell(&key, cif, FFI3_NOT_VARIADIC);
-    if (key.status == FFI_OK)
-        plan = make(&key, hash, word, cif, place);
-    key_end(&key);
-    return plan;
-}
-
-const struct plan *plan_for(const ffi_cif *cif, unsigned fixed)
-{
-    uint64_t word = fixed == FFI3_NOT_VARIADIC ? word_of(cif->abi, cif->nargs, cif->rtype, cif->arg_types) : 0;
-    if (!word)
-        return plan_by_nodes(cif, fixed);
-    uint64_t hash = finished(mixed(0, word));
-    struct place place = found(atomic_load_explicit(&current, memory_order_acquire), hash, word, NULL);
-    return __builtin_expect(place.plan != NULL, 1) ? place.plan : make_by_word(cif, hash, word, place);
 }
 
 /* Such an interface is not written to: it may be another library's, or another thread's. */
@@ -213,7 +196,7 @@ const struct plan *planned_again(ffi_cif *cif)
 {
     const struct plan *plan = NULL;
     if (host_has_abi(cif->abi, false) && cif->nargs <= MOST_ARGUMENTS)
-        plan = plan_for(cif, FFI3_NOT_VARIADIC);
+        plan = plan_for(cif, FFI3_NOT_VARIADIC, word_of(cif->abi, cif->nargs, cif->rtype, cif->arg_types));
     if (!plan) {
         fputs("libffi: a call through an interface that is not prepared\n", stderr);
         abort();

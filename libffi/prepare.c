@@ -4,27 +4,38 @@
 #include "plan.h"
 
 /* Nobody who uses an interface while it is prepared again sees another one in between. */
-static inline ffi_status prepare(ffi_cif *cif, ffi_abi abi, unsigned fixed, unsigned nargs, ffi_type *rtype,
-                                 ffi_type **atypes)
+static inline ffi_status set(ffi_cif *cif, ffi_abi abi, unsigned nargs, ffi_type *rtype, ffi_type **atypes,
+                             uint32_t bytes, uint32_t flags)
 {
-    ffi_cif made = {.abi = abi, .nargs = nargs, .arg_types = atypes, .rtype = rtype};
-    if (!host_has_abi(abi, fixed != FFI3_NOT_VARIADIC))
-        return FFI_BAD_ABI;
-    if (nargs > MOST_ARGUMENTS)
-        return FFI_BAD_TYPEDEF;
-    const struct plan *plan = plan_for(&made, fixed);
     cif->abi = abi;
     cif->nargs = nargs;
     cif->arg_types = atypes;
     cif->rtype = rtype;
-    cif->bytes = plan ? plan->stack : 0;
-    __atomic_store_n(&cif->flags, plan ? FLAGS_OF_INDEX(plan->index) : 0, __ATOMIC_RELEASE);
-    return plan ? FFI_OK : FFI_BAD_TYPEDEF;
+    cif->bytes = bytes;
+    __atomic_store_n(&cif->flags, flags, __ATOMIC_RELEASE);
+    return flags ? FFI_OK : FFI_BAD_TYPEDEF;
+}
+
+/* `word` is the interface's, or 0. */
+__attribute__((noinline)) static ffi_status prepare(ffi_cif *cif, ffi_abi abi, unsigned nargs, ffi_type *rtype,
+                                                    ffi_type **atypes, unsigned fixed, uint64_t word)
+{
+    ffi_cif made = {.abi = abi, .nargs = nargs, .arg_types = atypes, .rtype = rtype};
+    if (nargs > MOST_ARGUMENTS)
+        return FFI_BAD_TYPEDEF;
+    const struct plan *plan = plan_for(&made, fixed, word);
+    return set(cif, abi, nargs, rtype, atypes, plan ? plan->stack : 0, plan ? FLAGS_OF_INDEX(plan->index) : 0);
 }
 
 ffi_status ffi_prep_cif(ffi_cif *cif, ffi_abi abi, unsigned nargs, ffi_type *rtype, ffi_type **atypes)
 {
-    return prepare(cif, abi, FFI3_NOT_VARIADIC, nargs, rtype, atypes);
+    if (!host_has_abi(abi, false))
+        return FFI_BAD_ABI;
+    uint64_t word = word_of(abi, nargs, rtype, atypes);
+    const struct plan *plan = word ? plan_of_word(word) : NULL;
+    if (__builtin_expect(!plan, 0))
+        return prepare(cif, abi, nargs, rtype, atypes, FFI3_NOT_VARIADIC, word);
+    return set(cif, abi, nargs, rtype, atypes, plan->stack, FLAGS_OF_INDEX(plan->index));
 }
 
 /* Whether C promotes what is passed behind the dots: what is narrower than an int, and float. */
@@ -41,7 +52,7 @@ ffi_status ffi_prep_cif_var(ffi_cif *cif, ffi_abi abi, unsigned nfixedargs, unsi
     for (unsigned i = nfixedargs; i < ntotalargs; i++)
         if (is_promoted(atypes[i]))
             return FFI_BAD_ARGTYPE;
-    return prepare(cif, abi, nfixedargs, ntotalargs, rtype, atypes);
+    return prepare(cif, abi, ntotalargs, rtype, atypes, nfixedargs, 0);
 }
 
 ffi_status ffi_get_struct_offsets(ffi_abi abi, ffi_type *struct_type, size_t *offsets)

@@ -64,15 +64,19 @@ def _placed(function: Function) -> dict:
 
 def _told(entry: Entry, known: dict[tuple, dict]) -> dict:
     function = entry.first
-    count = range(len(function.arguments))
+    longest = max(entry.by_target.values(), key=lambda each: len(each.arguments))  # a header may have more on one target
+    count = range(len(longest.arguments))
     targets = {target: _on_target(each, known) for target, each in entry.by_target.items()}
     read = [told for told in targets.values() if "sizes" in told]
-    sizes: dict[Part, str] = {i: counted(told["sizes"][i] for told in read) for i in count} if read else {}
+    sizes: dict[Part, str] = {}
+    for i in count:
+        if found := [told["sizes"][i] for told in read if i < len(told["sizes"])]:
+            sizes[i] = counted(found)
     if any(told["result"] for told in read):
         sizes[RESULT] = counted(told["result"] for told in read)
     return {"name": entry.name, "declaration": function.declaration, "variadic": function.is_variadic,
             "at": f"{function.chunk.owner}:{function.chunk.first}",
-            "names": [label(function.names, i) or f"argument {i}" for i in count],
+            "names": [label(longest.names, i) or f"argument {i}" for i in count],
             "sizes": sizes, "targets": targets}
 
 

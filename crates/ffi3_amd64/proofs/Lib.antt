@@ -1,1 +1,3 @@
 pub mod LongDoubles
+pub mod Results
+pub mod Walks

@@ -1,28 +1,34 @@
 //! The System V AMD64 calling standard.
 #![tactic(auto)]
 
-ghost use Rattle.std.specs.Prelude.{◌*◌, ◌≡◌, ◌<◌, ◌≤◌, ◌+◌, ◌||◌, cond, ◌++◌, ◌∷◌, length, slice_index, IfOk, OnOk, [], true, false};
-ghost use Rattle.std.specs.List.{list_any, count_by};
-ghost use Rattle.ffi3_type_spec.specs.declared.limits.TheConstants.{ARGUMENT_BYTES, ARGUMENT_SPAN, LARGEST_GAP};
+ghost use Rattle.std.specs.Prelude.{◌*◌, ◌^◌, ◌≡◌, ◌<◌, ◌≤◌, ◌+◌, ◌||◌, cond, ◌++◌, ◌∷◌, length, slice_index, IfOk, OnOk, [], true, false};
+ghost use Rattle.std.specs.List.{list_any, count_by, sum_by};
+ghost use Rattle.ffi3_type_spec.specs.declared.limits.TheConstants.{ARGUMENT_BYTES, ARGUMENT_SPAN, LARGEST_GAP, LARGEST_TYPE, STACK_BYTES};
 ghost use Rattle.ffi3_type_spec.specs.Tree.{Tree};
 ghost use Rattle.ffi3_type_spec.specs.Layout.{size_of, leaves_of, leaf_at};
 ghost use Rattle.ffi3_type_spec.specs.Fault.{IsLaidOut};
 ghost use Rattle.ffi3_types.specs.TreeOf.{tree_of};
-ghost use Rattle.ffi3_place_spec.specs.Standard.{places_from, plan_of, result_at};
+ghost use Rattle.ffi3_type_spec.specs.Signature.{Signature};
+ghost use Rattle.ffi3_place_spec.specs.Standard.{places_from, plan_of, result_at, round8};
+ghost use Rattle.ffi3_place_spec.specs.Planned.{planned};
 ghost use Rattle.ffi3_amd64_spec.specs.declared.Class.{Class};
 ghost use Rattle.ffi3_amd64_spec.specs.declared.Class.TheVariants.{Integer, Sse};
 ghost use Rattle.ffi3_amd64_spec.specs.Amd64.{amd64, is_integer_leaf_in, is_integer_class, is_sse_class, is_aggregate, class_of, is_one_x87, is_class_x87, is_class_memory, in_memory, x87_pieces, integers, sses, register_pieces, classes, in_registers, stack_start, argument_pieces, taken_with, taken_after, taken_at_first, spots_after, result_spot_of};
+ghost use Rattle.ffi3_amd64.specs.declared.Classes.TheVariants.{One, Two};
+ghost use Rattle.ffi3_amd64.specs.Flat.{IsFlat};
 ghost use Rattle.ffi3_amd64.specs.Classes.{class_list, is_memory, is_x87, is_in_memory, one_if, register_at};
 
+mod flat;
 pub mod laws;
 
 pub use ffi3_amd64_spec::Class;
-use ffi3_place::ends::{buffer_end, planned, start};
+use ffi3_place::ends::{buffer_end, start};
 use ffi3_place::parts::{doubleword, one_piece, part_of_leaf, stack_pieces, two_pieces, widening};
 use ffi3_place::{Abi, Loc, Pieces, Place, Places, Plan, Res, SaveWord};
 use ffi3_place_spec::Taken;
 use ffi3_type_spec::round_up;
 use ffi3_types::{CheckedType, FfiType, NoMemory, PlacedSig, Sig, Target};
+use flat::{Walk, walk_over};
 pub use laws::placement_laws;
 use std::alloc::Global;
 
@@ -56,7 +62,7 @@ pub fn in_memory(ty: &FfiType) -> bool
     requires { IsLaidOut (tree_of ty.now) }
     ensures { result ≡ in_memory (tree_of ty.now) }
 {
-    classes_of(&CheckedType::of(ty)).is_in_memory()
+    found_of(&CheckedType::of(ty)).classes.is_in_memory()
 }
 
 /// Whether a value of so many leaves is one long double of x87's format and nothing else.
@@ -219,23 +225,19 @@ fn class_from(has_integer: bool) -> Class
     }
 }
 
-fn classes_of_struct(ty: &CheckedType<'_>) -> Classes
-    requires { is_aggregate ty.now ≡ true }
-    ensures memory { is_memory result ≡ is_class_memory ty.now }
-    ensures x87 { is_memory result ≡ false → is_x87 result ≡ is_class_x87 ty.now }
-    ensures passed { is_in_memory result ≡ in_memory ty.now }
+/// The classes of a value in registers, of so many bytes, by where its integers and pointers lie.
+#[inline(always)]
+fn classes_by(ty: &CheckedType<'_>, size: u64, found: Integers) -> Classes
+    requires direct { in_memory ty.now ≡ false }
+    requires sized { size ≡ size_of ty.now }
+    requires few { size ≤ 16 }
+    requires first { found.first ≡ list_any (is_integer_leaf_in 0) (leaves_of ty.now) }
+    requires second { found.second ≡ list_any (is_integer_leaf_in 1) (leaves_of ty.now) }
+    ensures memory { is_memory result ≡ false }
+    ensures x87 { is_x87 result ≡ false }
+    ensures passed { is_in_memory result ≡ false }
     ensures all { class_list result ≡ classes ty.now }
 {
-    let size = ty.size();
-    if has_class_memory(ty, size) {
-        return Classes::Memory;
-    }
-    // asked for once: it is found by a walk over all elements
-    let count = ty.leaf_count();
-    if has_class_x87(ty, count) {
-        return Classes::X87;
-    }
-    let found = integers_in(ty, count);
     if size > 8 {
         Classes::Two(class_from(found.first), class_from(found.second))
     } else if size > 0 {
@@ -245,25 +247,123 @@ fn classes_of_struct(ty: &CheckedType<'_>) -> Classes
     }
 }
 
-/// The classes of a value's eightbytes. A scalar is its own only leaf.
-fn classes_of(ty: &CheckedType<'_>) -> Classes
+/// The classes of a struct's or an array's eightbytes, by a walk to each leaf.
+fn classes_by_leaves(ty: &CheckedType<'_>, size: u64) -> Classes
+    requires aggregate { is_aggregate ty.now ≡ true }
+    requires sized { size ≡ size_of ty.now }
     ensures memory { is_memory result ≡ is_class_memory ty.now }
     ensures x87 { is_memory result ≡ false → is_x87 result ≡ is_class_x87 ty.now }
     ensures passed { is_in_memory result ≡ in_memory ty.now }
     ensures all { class_list result ≡ classes ty.now }
 {
-    match ty.as_type() {
-        FfiType::U8 | FfiType::S8 | FfiType::U16 | FfiType::S16 => Classes::One(Class::Integer),
-        FfiType::U32 | FfiType::S32 | FfiType::U64 | FfiType::S64 => Classes::One(Class::Integer),
-        FfiType::Pointer => Classes::One(Class::Integer),
-        FfiType::U128 | FfiType::S128 => Classes::Two(Class::Integer, Class::Integer),
-        FfiType::Binary128 => Classes::Two(Class::Integer, Class::Integer),
-        FfiType::X87 => Classes::X87,
-        FfiType::Float | FfiType::Double => Classes::One(Class::Sse),
-        FfiType::Struct(_) | FfiType::Array(_, _) => classes_of_struct(ty),
-        FfiType::Void | FfiType::LongDouble | FfiType::Complex | FfiType::Vector => {
-            Classes::Nothing
+    if has_class_memory(ty, size) {
+        return Classes::Memory;
+    }
+    // asked for once: it is found by a walk over all elements
+    let count = ty.leaf_count();
+    if has_class_x87(ty, count) {
+        return Classes::X87;
+    }
+    classes_by(ty, size, integers_in(ty, count))
+}
+
+/// The classes of a struct's eightbytes, by a walk over its elements.
+#[inline(always)]
+fn classes_by_walk(ty: &CheckedType<'_>, size: u64, walk: Walk) -> Classes
+    requires flat { IsFlat walk ty.now }
+    requires sized { size ≡ size_of ty.now }
+    ensures memory { is_memory result ≡ is_class_memory ty.now }
+    ensures x87 { is_memory result ≡ false → is_x87 result ≡ is_class_x87 ty.now }
+    ensures passed { is_in_memory result ≡ in_memory ty.now }
+    ensures all { class_list result ≡ classes ty.now }
+{
+    if size > 16 {
+        return Classes::Memory;
+    }
+    let found = Integers {
+        first: walk.first,
+        second: walk.second,
+    };
+    classes_by(ty, size, found)
+}
+
+/// What is found of a type once, for all that needs it.
+#[derive(Clone, Copy)]
+struct Found {
+    /// The classes of its eightbytes.
+    classes: Classes,
+    /// Its size in bytes.
+    size: u64,
+}
+
+/// Of a struct or an array.
+#[inline(never)]
+fn found_of_struct(ty: &CheckedType<'_>) -> Found
+    requires { is_aggregate ty.now ≡ true }
+    ensures memory { is_memory result.classes ≡ is_class_memory ty.now }
+    ensures x87 { is_memory result.classes ≡ false → is_x87 result.classes ≡ is_class_x87 ty.now }
+    ensures passed { is_in_memory result.classes ≡ in_memory ty.now }
+    ensures all { class_list result.classes ≡ classes ty.now }
+    ensures sized { result.size ≡ size_of ty.now }
+    ensures small { result.size ≤ LARGEST_TYPE }
+{
+    if let FfiType::Struct(fields) = ty.as_type() {
+        if let Some(walk) = walk_over(fields) {
+            let size = round_up(walk.end, walk.align);
+            let classes = classes_by_walk(ty, size, walk);
+            return Found { classes, size };
         }
+    }
+    let size = ty.size();
+    let classes = classes_by_leaves(ty, size);
+    Found { classes, size }
+}
+
+fn one(class: Class, size: u64) -> Found
+    ensures { result ≡ record { classes = One class; size = size } }
+{
+    Found {
+        classes: Classes::One(class),
+        size,
+    }
+}
+
+fn two_integers() -> Found
+    ensures { result ≡ record { classes = Two Integer Integer; size = 16 } }
+{
+    Found {
+        classes: Classes::Two(Class::Integer, Class::Integer),
+        size: 16,
+    }
+}
+
+/// What is found of a type. A scalar is its own only leaf.
+#[inline(always)]
+fn found_of(ty: &CheckedType<'_>) -> Found
+    ensures memory { is_memory result.classes ≡ is_class_memory ty.now }
+    ensures x87 { is_memory result.classes ≡ false → is_x87 result.classes ≡ is_class_x87 ty.now }
+    ensures passed { is_in_memory result.classes ≡ in_memory ty.now }
+    ensures all { class_list result.classes ≡ classes ty.now }
+    ensures sized { result.size ≡ size_of ty.now }
+    ensures small { result.size ≤ LARGEST_TYPE }
+{
+    match ty.as_type() {
+        FfiType::U8 | FfiType::S8 => one(Class::Integer, 1),
+        FfiType::U16 | FfiType::S16 => one(Class::Integer, 2),
+        FfiType::U32 | FfiType::S32 => one(Class::Integer, 4),
+        FfiType::U64 | FfiType::S64 | FfiType::Pointer => one(Class::Integer, 8),
+        FfiType::U128 | FfiType::S128 | FfiType::Binary128 => two_integers(),
+        FfiType::X87 => Found {
+            classes: Classes::X87,
+            size: 16,
+        },
+        FfiType::Float => one(Class::Sse, 4),
+        FfiType::Double => one(Class::Sse, 8),
+        FfiType::Struct(_) | FfiType::Array(_, _) => found_of_struct(ty),
+        FfiType::Void | FfiType::LongDouble | FfiType::Complex | FfiType::Vector => Found {
+            classes: Classes::Nothing,
+            size: 0,
+        },
     }
 }
 
@@ -289,14 +389,18 @@ fn register(class: Class, general: u64, vector: u64, registers: &[u8]) -> Loc
 }
 
 /// A value's eightbytes in registers, from numbers `general` and `vector` on.
+#[inline(always)]
 fn register_pieces(
     alloc: Global,
     ty: &CheckedType<'_>,
+    size: u64,
     found: Classes,
     general: u64,
     vector: u64,
     registers: &[u8],
 ) -> Result<Pieces, NoMemory>
+    requires sized { size ≡ size_of ty.now }
+    requires small { size ≤ LARGEST_TYPE }
     requires direct { in_memory ty.now ≡ false }
     requires all { class_list found ≡ classes ty.now }
     requires enough_general { general + integers ty.now ≤ length registers.now }
@@ -309,7 +413,7 @@ fn register_pieces(
         Classes::Nothing => Ok(Pieces::new(alloc)),
         Classes::One(class) => {
             let at = register(class, general, vector, registers);
-            one_piece(alloc, doubleword(ty.size(), 0, at, widening(ty.as_type())))
+            one_piece(alloc, doubleword(size, 0, at, widening(ty.as_type())))
         }
         Classes::Two(first, second) => {
             let before = Classes::One(first);
@@ -317,7 +421,6 @@ fn register_pieces(
             let next_general = general + before.integers();
             let next_vector = vector + before.sses();
             let high = register(second, next_general, next_vector, registers);
-            let size = ty.size();
             let ext = widening(ty.as_type());
             let first_piece = doubleword(size, 0, low, ext);
             let second_piece = doubleword(size, 1, high, ext);
@@ -334,7 +437,17 @@ struct Argument {
 }
 
 /// In registers, if those that are left suffice for the whole argument, otherwise on the stack.
-fn place_argument(alloc: Global, before: Taken, ty: &CheckedType<'_>) -> Result<Argument, NoMemory>
+#[inline(always)]
+fn place_argument(
+    alloc: Global,
+    before: Taken,
+    ty: &CheckedType<'_>,
+    found: Found,
+) -> Result<Argument, NoMemory>
+    requires passed { is_in_memory found.classes ≡ in_memory ty.now }
+    requires all { class_list found.classes ≡ classes ty.now }
+    requires sized { found.size ≡ size_of ty.now }
+    requires small { found.size ≤ LARGEST_TYPE }
     requires few_general { before.general ≤ 6 }
     requires few_vector { before.vector ≤ 8 }
     requires low { before.stack ≤ ARGUMENT_BYTES }
@@ -344,22 +457,24 @@ fn place_argument(alloc: Global, before: Taken, ty: &CheckedType<'_>) -> Result<
     ensures few_vector { IfOk result (λ a. a.taken.vector ≤ 8) }
     ensures low { IfOk result (λ a. a.taken.stack ≤ before.stack + ARGUMENT_SPAN) }
 {
-    let found = classes_of(ty);
-    let general = before.general + found.integers();
-    let vector = before.vector + found.sses();
-    if !found.is_in_memory() && general <= 6 && vector <= 8 {
+    let general = before.general + found.classes.integers();
+    let vector = before.vector + found.classes.sses();
+    if !found.classes.is_in_memory() && general <= 6 && vector <= 8 {
         return argument_in_registers(alloc, before, ty, found);
     }
-    argument_on_stack(alloc, before, ty)
+    argument_on_stack(alloc, before, ty, found.size)
 }
 
+#[inline(always)]
 fn argument_in_registers(
     alloc: Global,
     before: Taken,
     ty: &CheckedType<'_>,
-    found: Classes,
+    found: Found,
 ) -> Result<Argument, NoMemory>
-    requires all { class_list found ≡ classes ty.now }
+    requires all { class_list found.classes ≡ classes ty.now }
+    requires sized { found.size ≡ size_of ty.now }
+    requires small { found.size ≤ LARGEST_TYPE }
     requires fits { in_registers before ty.now ≡ true }
     ensures pieces { IfOk result (λ a. a.pieces ≡ argument_pieces before ty.now) }
     ensures taken { IfOk result (λ a. a.taken ≡ taken_with before ty.now) }
@@ -370,14 +485,15 @@ fn argument_in_registers(
     let pieces = register_pieces(
         alloc,
         ty,
-        found,
+        found.size,
+        found.classes,
         before.general,
         before.vector,
         &GENERAL_ARGUMENTS,
     )?;
     let taken = Taken {
-        general: before.general + found.integers(),
-        vector: before.vector + found.sses(),
+        general: before.general + found.classes.integers(),
+        vector: before.vector + found.classes.sses(),
         stack: before.stack,
     };
     Ok(Argument { pieces, taken })
@@ -392,11 +508,15 @@ fn stack_start(end: u64, ty: &CheckedType<'_>) -> u64
     start(ty, end)
 }
 
+#[inline(always)]
 fn argument_on_stack(
     alloc: Global,
     before: Taken,
     ty: &CheckedType<'_>,
+    size: u64,
 ) -> Result<Argument, NoMemory>
+    requires sized { size ≡ size_of ty.now }
+    requires small { size ≤ LARGEST_TYPE }
     requires low { before.stack ≤ ARGUMENT_BYTES }
     requires spills { in_registers before ty.now ≡ false }
     ensures pieces { IfOk result (λ a. a.pieces ≡ argument_pieces before ty.now) }
@@ -407,17 +527,18 @@ fn argument_on_stack(
     let taken = Taken {
         general: before.general,
         vector: before.vector,
-        stack: begin + round_up(ty.size(), 8),
+        stack: begin + round_up(size, 8),
     };
     let pieces = stack_pieces(alloc, ty, begin)?;
     Ok(Argument { pieces, taken })
 }
 
-/// The places of all arguments, and what they take.
+/// The places of all arguments, what they take, and the sum of their sizes, each a multiple of 8.
 #[derive(Drop)]
 struct Placed {
     places: Places,
     taken: Taken,
+    sizes: u64,
 }
 
 /// The address of a result in memory takes the first general register.
@@ -439,17 +560,24 @@ fn place_all(alloc: Global, sig: &PlacedSig<'_>, returned: Classes) -> Result<Pl
     ensures taken { IfOk result (λ p. p.taken ≡ taken_after (taken_at_first sig.now.result_type) sig.now.arguments) }
     ensures low { IfOk result (λ p. p.taken.stack ≤ ARGUMENT_BYTES) }
     ensures few_vector { IfOk result (λ p. p.taken.vector ≤ 8) }
+    ensures sizes { IfOk result (λ p. p.sizes ≡ sum_by (λ t. round8 (size_of t)) sig.now.arguments) }
+    ensures few_bytes { IfOk result (λ p. p.sizes ≤ ARGUMENT_BYTES) }
 {
     let mut before = taken_at_first(returned);
+    let mut sizes = 0;
     let mut places = Places::with_capacity(alloc, sig.count() as usize)?;
     for i in 0..sig.count() {
-        let next = place_argument(alloc, before, &sig.arg(i))?;
+        let ty = sig.arg(i);
+        let found = found_of(&ty);
+        let next = place_argument(alloc, before, &ty, found)?;
         before = next.taken;
+        sizes += round_up(found.size, 8);
         places.push(Place::Direct(next.pieces))?;
     }
     Ok(Placed {
         places,
         taken: before,
+        sizes,
     })
 }
 
@@ -475,32 +603,42 @@ fn x87_pieces(alloc: Global, ty: &CheckedType<'_>) -> Result<Pieces, NoMemory>
     Ok(pieces)
 }
 
-/// Where a result with the classes `found` stands, if what is before its buffer ends at `end`.
+/// Where a result stands of whose type that is found, if what is before its buffer ends at `end`.
 fn place_result(
     alloc: Global,
     ty: &CheckedType<'_>,
-    found: Classes,
+    found: Found,
     end: u64,
 ) -> Result<Res, NoMemory>
-    requires memory { is_memory found ≡ is_class_memory ty.now }
-    requires x87 { is_memory found ≡ false → is_x87 found ≡ is_class_x87 ty.now }
-    requires all { class_list found ≡ classes ty.now }
+    requires memory { is_memory found.classes ≡ is_class_memory ty.now }
+    requires x87 { is_memory found.classes ≡ false → is_x87 found.classes ≡ is_class_x87 ty.now }
+    requires all { class_list found.classes ≡ classes ty.now }
+    requires sized { found.size ≡ size_of ty.now }
+    requires small { found.size ≤ LARGEST_TYPE }
     requires low { end ≤ 2 * ARGUMENT_BYTES }
     ensures { IfOk result (λ r. r ≡ result_at amd64.copy_start end ty.now (result_spot_of ty.now)) }
 {
     if let FfiType::Void = ty.as_type() {
         return Ok(Res::Nothing);
     }
-    if found.is_memory() {
+    if found.classes.is_memory() {
         return Ok(Res::Hidden {
             at: Loc::G(GENERAL_ARGUMENTS[0]),
             buffer: start(ty, end) as u32,
         });
     }
-    if found.is_x87() {
+    if found.classes.is_x87() {
         return Ok(Res::Direct(x87_pieces(alloc, ty)?));
     }
-    let pieces = register_pieces(alloc, ty, found, 0, 0, &RESULT_REGISTERS)?;
+    let pieces = register_pieces(
+        alloc,
+        ty,
+        found.size,
+        found.classes,
+        0,
+        0,
+        &RESULT_REGISTERS,
+    )?;
     Ok(Res::Direct(pieces))
 }
 
@@ -525,19 +663,38 @@ const ARGUMENT_REGISTERS: [Loc; 14] = [
     Loc::F(7),
 ];
 
+/// The plan of a call from its places, as `ffi3_place` makes it, where the arguments' sizes are known.
+fn planned(sizes: u64, places: Places, res: Res, end: u64, area: u64, vectors: u8) -> Plan
+    requires few { sizes ≤ ARGUMENT_BYTES }
+    requires low { end < 2 ^ 32 + (LARGEST_TYPE + 7) }
+    requires small { area ≤ STACK_BYTES }
+    ensures { (s : Signature) → sizes ≡ sum_by (λ t. round8 (size_of t)) s.arguments → result ≡ planned s places res end area vectors }
+{
+    let frame = round_up(end, 16);
+    let block = round_up(sizes, 16);
+    Plan {
+        places,
+        res,
+        need: frame + area + block,
+        frame,
+        block,
+        vectors,
+    }
+}
+
 /// Where everything stands in a call.
 fn plan_of(alloc: Global, sig: &PlacedSig<'_>) -> Result<Plan, NoMemory>
     ensures { IfOk result (λ p. p ≡ plan_of amd64 sig.now) }
 {
-    let returned = classes_of(&sig.ret());
-    let all = place_all(alloc, sig, returned)?;
+    let returned = found_of(&sig.ret());
+    let all = place_all(alloc, sig, returned.classes)?;
     // no argument has a copy
     let copies_end = round_up(all.taken.stack, 16);
     let res = place_result(alloc, &sig.ret(), returned, copies_end)?;
     let end = buffer_end(&res, &sig.ret(), copies_end);
     let vectors = all.taken.vector as u8;
     let area = Amd64::LINK + Amd64::SAVE;
-    Ok(planned(sig, all.places, res, end, area, vectors))
+    Ok(planned(all.sizes, all.places, res, end, area, vectors))
 }
 
 impl Abi for Amd64 {

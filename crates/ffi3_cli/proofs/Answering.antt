@@ -4,8 +4,8 @@ use Rattle.clap.specs.Words.{App, HasKind, IsAmong, Text, fault_of, kind_of, is_
 use Rattle.clap.specs.declared.error.Error.{Error}
 use Rattle.clap.specs.declared.parser.matches.ArgMatches.{ArgMatches}
 use Rattle.ffi3_cli_spec.specs.declared.words.Request.{Request}
-use Rattle.ffi3_cli_spec.specs.declared.words.WordsFault.{WordsFault}
-use Rattle.ffi3_cli_spec.specs.declared.words.WordsFault.TheVariants.{Refused, NoMemory}
+use Rattle.ffi3_cli.specs.declared.words.WordsFault.{WordsFault}
+use Rattle.ffi3_cli.specs.declared.words.WordsFault.TheVariants.{Refused, NoMemory}
 use Rattle.ffi3_cli_spec.specs.WordCommands.{LacksNumbers, asked, program}
 use Rattle.ffi3_cli.specs.CommandParts.{IsProgram}
 use Rattle.ffi3_cli_spec.specs.Words.{IsRefusedForNumbers, IsStated, Takes}

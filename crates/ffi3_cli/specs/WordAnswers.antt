@@ -6,8 +6,8 @@ use Rattle.clap.specs.declared.error.kind.ErrorKind.TheVariants.{OutOfMemory}
 use Rattle.ffi3_type_spec.specs.declared.limits.TheConstants.{MOST_CALLS}
 use Rattle.ffi3_cli_spec.specs.declared.words.Request.{Request}
 use Rattle.ffi3_cli_spec.specs.declared.words.Request.TheVariants.{OnInput, Bench}
-use Rattle.ffi3_cli_spec.specs.declared.words.WordsFault.{WordsFault}
-use Rattle.ffi3_cli_spec.specs.declared.words.WordsFault.TheVariants.{Refused, NoMemory}
+use Rattle.ffi3_cli.specs.declared.words.WordsFault.{WordsFault}
+use Rattle.ffi3_cli.specs.declared.words.WordsFault.TheVariants.{Refused, NoMemory}
 use Rattle.ffi3_cli_spec.specs.Words.{IsRefused, IsStated}
 
 -- the numbers that are asked for lie in their ranges: a seed has 32 bits by its type

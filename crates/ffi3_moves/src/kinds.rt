@@ -10,6 +10,7 @@ use ffi3_place::{Ext, Loc, Piece};
 use ffi3_types::{CheckedType, FfiType};
 
 /// Where a place stands in an exchange.
+#[inline(always)]
 pub(crate) fn exchange_at(at: Loc) -> u64
     ensures { result ≡ exchange_at at }
 {
@@ -21,6 +22,7 @@ pub(crate) fn exchange_at(at: Loc) -> u64
 }
 
 // How an integer is extended by its sign.
+#[inline(always)]
 fn widening(ty: &FfiType) -> Kind
     ensures { result ≡ by_sign (is_signed (scalar_of (tree_of ty.now))) }
 {
@@ -79,6 +81,7 @@ fn widening_from_32(ty: &FfiType) -> Kind
 }
 
 // How the rest of a piece's place is filled.
+#[inline(always)]
 fn filling(ext: Ext, ty: &FfiType) -> Kind
     ensures { result ≡ filling ext (scalar_of (tree_of ty.now)) }
 {
@@ -91,6 +94,7 @@ fn filling(ext: Ext, ty: &FfiType) -> Kind
 }
 
 /// A piece of the value that stands at `at`, to its place.
+#[inline(always)]
 pub(crate) fn piece_in(part: u32, at: u64, ty: &CheckedType<'_>, piece: Piece) -> Move
     requires { at < 2 ^ 32 }
     ensures { result ≡ piece_in part at ty.now piece }
@@ -105,6 +109,7 @@ pub(crate) fn piece_in(part: u32, at: u64, ty: &CheckedType<'_>, piece: Piece) -
 }
 
 /// And back.
+#[inline(always)]
 pub(crate) fn piece_out(part: u32, at: u64, piece: Piece) -> Move
     requires { at < 2 ^ 32 }
     ensures { result ≡ piece_out part at piece }

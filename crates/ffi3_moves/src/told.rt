@@ -27,6 +27,7 @@ pub struct ToldMove {
 }
 
 /// The number of a kind.
+#[inline(always)]
 fn kind_number(kind: Kind) -> u32
     ensures { result ≡ kind_number kind }
 {
@@ -41,6 +42,7 @@ fn kind_number(kind: Kind) -> u32
     }
 }
 
+#[inline(always)]
 fn told_move(one: Move) -> ToldMove
     ensures { result ≡ told_move one }
 {
@@ -55,6 +57,7 @@ fn told_move(one: Move) -> ToldMove
 
 // ---- those of one value, from item `at` of the array on; answered is the item behind them
 
+#[inline(always)]
 fn put_pieces_in(
     told: &mut [ToldMove],
     at: usize,
@@ -75,6 +78,7 @@ fn put_pieces_in(
 }
 
 // From the last to the first.
+#[inline(always)]
 fn put_pieces_out(told: &mut [ToldMove], at: usize, part: u32, to: u64, pieces: &Pieces) -> usize
     requires low { to < 2 ^ 32 }
     requires room { at + length pieces.now ≤ length told.old }
@@ -88,6 +92,7 @@ fn put_pieces_out(told: &mut [ToldMove], at: usize, part: u32, to: u64, pieces: 
     at + count
 }
 
+#[inline(always)]
 fn put_argument_in(
     told: &mut [ToldMove],
     at: usize,
@@ -123,6 +128,7 @@ fn put_argument_in(
     }
 }
 
+#[inline(always)]
 fn put_argument_out(
     told: &mut [ToldMove],
     at: usize,

@@ -2,7 +2,6 @@
 // fault.
 ghost use Rattle.std.specs.Prelude.{◌≡◌, ◌<◌, ◌≤◌, ◌∷◌, [], IfOk, IfSome, take, length};
 ghost use Rattle.ffi3_type_spec.specs.declared.Role.{Role};
-ghost use Rattle.ffi3_type_spec.specs.declared.limits.TheConstants.{MOST_ARGUMENTS};
 ghost use Rattle.ffi3_type_spec.specs.Tree.{Tree};
 ghost use Rattle.ffi3_type_spec.specs.Signature.{SignatureHasNoFault};
 ghost use Rattle.ffi3_types.specs.TreeOf.{tree_of};
@@ -102,32 +101,9 @@ fn first(alloc: Global, nodes: &[Node]) -> Result<Option<Begun>, NoMemory>
     Ok(Some(Begun { ty, end: 1 }))
 }
 
-// Takes the struct of scalars that begins there, if one does, to the arguments, and says where it ends.
+// Takes the struct of scalars that begins there, if one does and there may be one more, to the arguments, and says where
+// it ends.
 fn push_struct(
-    alloc: Global,
-    nodes: &[Node],
-    at: usize,
-    args: &mut Fields,
-) -> Result<Option<usize>, NoMemory>
-    requires within { at < length nodes.now }
-    requires few { length args.old < MOST_ARGUMENTS }
-    ensures read { (ret : Tree) → AreReadSoFar ret args.old nodes.now at → IfOk result (λ o. IfSome o (λ end. AreReadSoFar ret args.new nodes.now end)) }
-    ensures on { IfOk result (λ o. IfSome o (λ end. at < end)) }
-{
-    let head = nodes[at];
-    if head.kind != STRUCT {
-        return Ok(None);
-    }
-    let Some(ty) = struct_of_scalars(alloc, &nodes[at + 1..], head.count)? else {
-        return Ok(None);
-    };
-    args.push(ty)?;
-    Ok(Some(at + 1 + head.count as usize))
-}
-
-// Takes the argument that begins there to the others and says where it ends, if it is a scalar or a struct of scalars, and
-// not one too many.
-fn push_argument(
     alloc: Global,
     nodes: &[Node],
     at: usize,
@@ -137,14 +113,32 @@ fn push_argument(
     ensures read { (ret : Tree) → AreReadSoFar ret args.old nodes.now at → IfOk result (λ o. IfSome o (λ end. AreReadSoFar ret args.new nodes.now end)) }
     ensures on { IfOk result (λ o. IfSome o (λ end. at < end)) }
 {
-    if args.len() as u64 >= MOST_ARGUMENTS {
+    let head = nodes[at];
+    if head.kind != STRUCT || args.len() as u64 >= MOST_ARGUMENTS {
         return Ok(None);
     }
-    let Some(ty) = argument(nodes[at]) else {
-        return push_struct(alloc, nodes, at, args);
+    let Some(ty) = struct_of_scalars(alloc, &nodes[at + 1..], head.count)? else {
+        return Ok(None);
     };
     args.push(ty)?;
-    Ok(Some(at + 1))
+    Ok(Some(at + 1 + head.count as usize))
+}
+
+// Takes the scalars that stand there, and those behind them, to the arguments, as far as there may be so many, and says
+// where they end.
+fn push_scalars(nodes: &[Node], at: usize, args: &mut Fields) -> Result<usize, NoMemory>
+    ensures read { (ret : Tree) → AreReadSoFar ret args.old nodes.now at → IfOk result (λ end. AreReadSoFar ret args.new nodes.now end) }
+    ensures on { IfOk result (λ end. at ≤ end) }
+{
+    let mut end = at;
+    while end < nodes.len() && (args.len() as u64) < MOST_ARGUMENTS {
+        let Some(ty) = argument(nodes[end]) else {
+            return Ok(end);
+        };
+        args.push(ty)?;
+        end += 1;
+    }
+    Ok(end)
 }
 
 /// The signature of nodes that are scalars and structs of scalars, but that the result may be void, where no argument is
@@ -170,12 +164,12 @@ pub fn flat_signature(
         return Ok(None);
     };
     let mut args = Fields::with_capacity(alloc, count.saturating_sub(1))?;
-    let mut at = begun.end;
+    let mut at = push_scalars(nodes, begun.end, &mut args)?;
     while at < nodes.len() {
-        let Some(end) = push_argument(alloc, nodes, at, &mut args)? else {
+        let Some(end) = push_struct(alloc, nodes, at, &mut args)? else {
             return Ok(None);
         };
-        at = end;
+        at = push_scalars(nodes, end, &mut args)?;
     }
     Ok(Some(Sig::new(begun.ty, args, None)))
 }

@@ -115,6 +115,32 @@ fn placed(sig: Sig) -> Result<Sig, Refused>
     }
 }
 
+// Reads one whose types are others than scalars and structs of them, or that may have a fault.
+fn read_any_for(
+    alloc: Global,
+    format: Format,
+    nodes: &[Node],
+    fixed: Option<u32>,
+) -> Result<Sig, Refused>
+    ensures ok { IfOk result (λ s. IsSignatureFor format nodes.now fixed s) }
+    ensures placed { IfOk result (λ s. SignatureIsPlaced s) }
+    ensures only { IfOk result (λ s. (other : Signature) → IsSignatureFor format nodes.now fixed other → other ≡ s) }
+    ensures callable { IfOk result (λ s. IsCallableWithout nodes.now fixed s) }
+    ensures err { IfErr result (λ r. IsRefusedFor format nodes.now fixed r) }
+    ensures none { IfErr result (λ r. IsOfNone nodes.now r) }
+    ensures unplaceable { IfErr result (λ r. IsUnplaceable format nodes.now fixed r) }
+    ensures without { IfErr result (λ r. IsRefusedWithout nodes.now fixed r) }
+{
+    let sig = match told(alloc, nodes, fixed) {
+        Ok(sig) => sig,
+        Err(refused) => return Err(refused),
+    };
+    match resolve(alloc, format, sig) {
+        Ok(sig) => placed(sig),
+        Err(_) => Err(Refused::NoMemory),
+    }
+}
+
 /// Reads a signature that can be placed, where long doubles have this format: the nodes of the result, and then those of
 /// the arguments; of a variadic function how many arguments are fixed. One of scalars and of structs of them is not looked
 /// at again.
@@ -138,12 +164,5 @@ pub fn read_signature_for(
         Ok(None) => {}
         Err(_) => return Err(Refused::NoMemory),
     }
-    let sig = match told(alloc, nodes, fixed) {
-        Ok(sig) => sig,
-        Err(refused) => return Err(refused),
-    };
-    match resolve(alloc, format, sig) {
-        Ok(sig) => placed(sig),
-        Err(_) => Err(Refused::NoMemory),
-    }
+    read_any_for(alloc, format, nodes, fixed)
 }

@@ -8,6 +8,9 @@ ghost use Rattle.ffi3_transfer.specs.Calls.{IsCallStored, IsNotStored, IsLoaded,
 ghost use Rattle.ffi3_transfer.specs.Collected.{IsCollected, IsNotCollected};
 ghost use Rattle.ffi3_prepared.specs.Prepared.{IsPrepared, IsUnprepared, IsUnpreparedOfNone, IsUnpreparedUnplaceable, IsUnpreparedWithout, signature_in, sizes_of, standard_in, target_in};
 
+mod each;
+
+use each::{on_aapcs64, on_amd64, on_apple, on_riscv, on_win64};
 use ffi3_aapcs64::Aapcs64;
 use ffi3_amd64::Amd64;
 use ffi3_apple::Apple;
@@ -40,33 +43,19 @@ pub enum Unprepared {
     NoMemory,
 }
 
-/// Prepares calls by the target's standard, of a function whose signature can be placed.
+/// Prepares calls by the target's standard, of a function whose signature can be placed. (Each target's part is a function
+/// of its own, so that a preparation makes room for its own interface alone.)
 pub fn prepare_signature(alloc: Global, target: Target, sig: Sig) -> Result<Prepared, NoMemory>
     requires { SignatureIsPlaced sig }
     ensures target { IfOk result (λ p. target_in p ≡ target) }
     ensures signature { IfOk result (λ p. signature_in p ≡ sig) }
 {
     match target {
-        Target::Amd64 => match Placed::prepare(alloc, sig) {
-            Ok(placed) => Ok(Prepared::Amd64(placed)),
-            Err(_) => Err(NoMemory),
-        },
-        Target::Aapcs64 => match Placed::prepare(alloc, sig) {
-            Ok(placed) => Ok(Prepared::Aapcs64(placed)),
-            Err(_) => Err(NoMemory),
-        },
-        Target::Riscv => match Placed::prepare(alloc, sig) {
-            Ok(placed) => Ok(Prepared::Riscv(placed)),
-            Err(_) => Err(NoMemory),
-        },
-        Target::Win64 => match Placed::prepare(alloc, sig) {
-            Ok(placed) => Ok(Prepared::Win64(placed)),
-            Err(_) => Err(NoMemory),
-        },
-        Target::Apple => match Placed::prepare(alloc, sig) {
-            Ok(placed) => Ok(Prepared::Apple(placed)),
-            Err(_) => Err(NoMemory),
-        },
+        Target::Amd64 => on_amd64(alloc, sig),
+        Target::Aapcs64 => on_aapcs64(alloc, sig),
+        Target::Riscv => on_riscv(alloc, sig),
+        Target::Win64 => on_win64(alloc, sig),
+        Target::Apple => on_apple(alloc, sig),
     }
 }
 

@@ -16,4 +16,4 @@ returns c =
     let returned = rw c.ret-2.ensures at c.in_ok-res.ensures in
     let before = returned ∙ ap (λ t. result_at amd64.copy_start copied t spot) (sym c.ret-3.ensures) in
     let ends = c.buffer_end-end.ensures.value amd64.copy_start spot before in
-    c.planned.ensures ∙ planned_is amd64 s _ copied _ copied _ _ _ _ (ap (λ a. a.stack) c.in_ok-all.ensures.taken) c.round_up-copies_end.ensures.value placed copies returned (rw c.ret-3.ensures at ends) refl (ap (λ a. a.vector) c.in_ok-all.ensures.taken)
+    c.planned.ensures s c.in_ok-all.ensures.sizes ∙ planned_is amd64 s _ copied _ copied _ _ _ _ (ap (λ a. a.stack) c.in_ok-all.ensures.taken) c.round_up-copies_end.ensures.value placed copies returned (rw c.ret-3.ensures at ends) refl (ap (λ a. a.vector) c.in_ok-all.ensures.taken)

@@ -20,7 +20,7 @@ second_at general g f first Sse = refl
 pub returns-in-Two : goal.returns-in-Two
 returns-in-Two c =
     let general = slice_index c.args.registers.now in
-    let size = c.size-size.ensures.value in
+    let size = c.requires.sized in
     let ext = c.widening-ext.ensures ∙ ap widening c.as_type-in-Two.ensures.value in
     let low = c.register-low.ensures ∙ first_at general c.args.general c.args.vector c.in-Two.first in
     let next = ap (λ n. register_at general (c.args.general + n) (c.args.vector + c.sses.result) c.in-Two.second) c.integers.ensures.value ∙ ap (λ n. register_at general (c.args.general + count_by is_integer_class (c.in-Two.first ∷ [])) (c.args.vector + n) c.in-Two.second) c.sses.ensures.value in
