@@ -12,4 +12,3 @@ pub mod Right
 pub mod Running
 pub mod Saying
 pub mod Working
-pub mod NoLongDouble

@@ -1,3 +1,2 @@
 pub mod LineEnds
 pub mod Work
-pub mod NoLongDouble

@@ -4,7 +4,6 @@
 mod cdecl;
 mod cplace;
 mod declaration;
-mod laws;
 mod layout;
 mod marking;
 mod names;
@@ -17,5 +16,4 @@ mod work;
 mod write;
 
 pub use ffi3_machine::Machine;
-pub use laws::no_long_double_laws;
 pub use top::ffi3;

@@ -13,7 +13,7 @@ use crate::write::write_made_line;
 use ffi3_aapcs64::Aapcs64;
 use ffi3_amd64::Amd64;
 use ffi3_apple::Apple;
-use ffi3_cif::Placed;
+use ffi3_cif::{Cif, Placed};
 use ffi3_diagnostics::argument_name;
 use ffi3_io::{IoError, Sink};
 use ffi3_names::{Name, name_at};
@@ -35,13 +35,13 @@ pub fn place<O: Sink>(
 ) -> Result<(), IoError>
     ensures { Wrote (place_text (standard_of target) (script_of script.now)) (O.state output.old) (O.state output.new) result }
 {
-    let sigs = script.sigs();
-    let none = Vec::new(alloc);
-    for i in 0..sigs.len() {
-        let sig = CheckedSig::of(sigs.get(i));
-        place_one(alloc, target, i as u32, &sig, &none, output)?;
+    match target {
+        Target::Amd64 => place_by::<Amd64, O>(alloc, script, output),
+        Target::Aapcs64 => place_by::<Aapcs64, O>(alloc, script, output),
+        Target::Riscv => place_by::<Riscv, O>(alloc, script, output),
+        Target::Win64 => place_by::<Win64, O>(alloc, script, output),
+        Target::Apple => place_by::<Apple, O>(alloc, script, output),
     }
-    Ok(())
 }
 
 /// Writes the same of one signature, as the one of this number, with names of its arguments.
@@ -65,19 +65,17 @@ pub fn place_signature<O: Sink>(
     }
 }
 
-// One signature without fault.
-fn place_one<O: Sink>(
-    alloc: Global,
-    target: Target,
-    number: u32,
-    sig: &CheckedSig<'_>,
-    names: &Vec<Name<'_>>,
-    output: &mut O,
-) -> Result<(), IoError>
-    ensures { Wrote (concat (named_lines (names_of names.now.items) (standard_of target) number sig.now)) (O.state output.old) (O.state output.new) result }
+// The signatures of a script, by a calling standard.
+fn place_by<A: Abi, O: Sink>(alloc: Global, script: &Script, output: &mut O) -> Result<(), IoError>
+    ensures { Wrote (place_text A.standard (script_of script.now)) (O.state output.old) (O.state output.new) result }
 {
-    let copy = sig.placed().as_sig().copy(alloc)?;
-    place_signature(alloc, target, number, copy, names, output)
+    let sigs = script.sigs();
+    let none = Vec::new(alloc);
+    for i in 0..sigs.len() {
+        let sig = CheckedSig::of(sigs.get(i));
+        place_one::<A, O>(alloc, i as u32, &sig, &none, output)?;
+    }
+    Ok(())
 }
 
 // One signature that can be placed, by a calling standard.
@@ -93,6 +91,20 @@ fn place_planned<A: Abi, O: Sink>(
 {
     let placed: Placed<A> = Placed::prepare(alloc, sig)?;
     place_of(alloc, number, &placed, names, output)
+}
+
+// One signature without fault, by a calling standard.
+fn place_one<A: Abi, O: Sink>(
+    alloc: Global,
+    number: u32,
+    sig: &CheckedSig<'_>,
+    names: &Vec<Name<'_>>,
+    output: &mut O,
+) -> Result<(), IoError>
+    ensures { Wrote (concat (named_lines (names_of names.now.items) A.standard number sig.now)) (O.state output.old) (O.state output.new) result }
+{
+    let cif: Cif<A> = Cif::prepare_copy(alloc, sig)?;
+    place_of(alloc, number, cif.placed(), names, output)
 }
 
 // The lines of one signature: its frame, the arguments, then the result.
