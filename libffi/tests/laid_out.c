@@ -188,6 +188,11 @@ static void say_other_sizes(void)
     (void)ffi_prep_cif(&cif, FFI_DEFAULT_ABI, 1, &ffi_type_void, complexes);
     complexes[0] = &ffi_type_complex_double;
     EXPECT(ffi_prep_cif(&cif, FFI_DEFAULT_ABI, 1, &ffi_type_void, complexes) == FFI_OK);
+    ffi_type shorter = {8, 8, FFI_TYPE_LONGDOUBLE, NULL}, *long_doubles[] = {&ffi_type_longdouble};
+    EXPECT(ffi_prep_cif(&cif, FFI_DEFAULT_ABI, 1, &ffi_type_void, long_doubles) == FFI_OK);
+    long_doubles[0] = &shorter;
+    EXPECT(ffi_prep_cif(&cif, FFI_DEFAULT_ABI, 1, &ffi_type_void, long_doubles) == FFI_BAD_TYPEDEF);
+    EXPECT(ffi_prep_cif(&cif, FFI_DEFAULT_ABI, 0, &shorter, NULL) == FFI_BAD_TYPEDEF);
 }
 
 /* ---- Unions of unions, and types that are in themselves: an answer comes, whatever it is. */
