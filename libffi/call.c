@@ -8,9 +8,7 @@
 
 #define ALWAYS_INLINE __attribute__((always_inline)) static inline
 
-#define SMALL_FRAME 128  /* bytes of a frame that stands in the function's own */
-#define FEW_ARGUMENTS 8
-#define SMALL_SCRATCH 64 /* bytes of a closure's gathered arguments */
+#define SMALL_FRAME 128 /* bytes of a frame that stands in the function's own */
 
 /* Bytes of an exchange that are nobody's, where the result of a function without one may be written nevertheless. */
 #define RESULT_AT offsetof(struct exchange, floating[30])
@@ -180,14 +178,14 @@ __attribute__((noinline)) static void serve_at_places(ENTERED)
 ALWAYS_INLINE void receive(ENTERED)
 {
     ((struct exchange *)(void *)exchange)->beside = plan->beside;
-    if (plan->nargs > FEW_ARGUMENTS || served->scratch > SMALL_SCRATCH)
-        serve_many(plan, served, exchange, frame, cif, fun, user_data);
-    else if (served->scratch)
-        serve_few(plan, served, exchange, frame, cif, fun, user_data);
-    else if (plan->nargs || served->gives_count || plan->hidden != NO_PLACE)
-        serve_at_places(plan, served, exchange, frame, cif, fun, user_data);
-    else
+    if (served->serving == SERVE_NOTHING)
         fun(cif, exchange + RESULT_AT, (void **)(void *)(exchange + RESULT_AT), user_data);
+    else if (served->serving == SERVE_AT_PLACES)
+        serve_at_places(plan, served, exchange, frame, cif, fun, user_data);
+    else if (served->serving == SERVE_FEW)
+        serve_few(plan, served, exchange, frame, cif, fun, user_data);
+    else
+        serve_many(plan, served, exchange, frame, cif, fun, user_data);
 }
 
 __attribute__((noinline)) static void receive_anew(char *exchange, char *frame, ffi_cif *cif, function *fun,

@@ -322,7 +322,16 @@ struct plan *plan_from(const struct key *key, uint64_t word, const struct told *
     return plan;
 }
 
-struct served *served_from(const struct told *told, const ffi_cif *cif)
+static enum serving serving_of(const struct plan *plan, const struct served *served)
+{
+    if (plan->nargs > FEW_ARGUMENTS || served->scratch > SMALL_SCRATCH)
+        return SERVE_MANY;
+    if (served->scratch)
+        return SERVE_FEW;
+    return plan->nargs || served->gives_count || plan->hidden != NO_PLACE ? SERVE_AT_PLACES : SERVE_NOTHING;
+}
+
+struct served *served_from(const struct plan *plan, const struct told *told, const ffi_cif *cif)
 {
     size_t moves = told->lists[FFI3_MOVES_TO_COLLECT].count + told->lists[FFI3_MOVES_TO_GIVE].count;
     size_t sources = cif->nargs * sizeof(struct source);
@@ -335,6 +344,7 @@ struct served *served_from(const struct told *told, const ffi_cif *cif)
         return NULL;
     served->gives = served->gathers + served->gathers_count;
     fill_gives(served, told, cif->rtype);
+    served->serving = serving_of(plan, served);
     kept_take((size_t)((char *)(served->gives + served->gives_count) - (char *)served));
     return served;
 }

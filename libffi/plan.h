@@ -6,6 +6,7 @@
 #include "exchange.h"
 #include "key.h"
 #include <stdatomic.h>
+#include <string.h>
 
 /* ---- Moves: those of the library (ffi3.h), by which it says where values stand, in fewer bytes each.
  *
@@ -81,8 +82,20 @@ static inline const struct ffi3_node *nodes_of(const struct plan *plan)
     return (const struct ffi3_node *)(const void *)(loads_of(plan) + plan->loads_count);
 }
 
+/* What a closure's function is given: how much memory that takes. */
+enum serving {
+    SERVE_NOTHING,   /* no argument, and no result */
+    SERVE_AT_PLACES, /* at most FEW_ARGUMENTS, each in one place */
+    SERVE_FEW,       /* so many, and some of them gathered in SMALL_SCRATCH bytes */
+    SERVE_MANY
+};
+
+#define FEW_ARGUMENTS 8
+#define SMALL_SCRATCH 64
+
 /* The callee's part of a plan, which is made for the first closure of its signature. */
 struct served {
+    enum serving serving;
     uint32_t scratch; /* bytes for gathered arguments */
     uint32_t gives_count;
     uint32_t gathers_count;
@@ -119,7 +132,7 @@ void told_end(struct told *told);
 /* Make a plan, and its callee's part, of what was told, in memory that is kept; or NULL, where malloc gives none. Under
  * library_lock. */
 struct plan *plan_from(const struct key *key, uint64_t word, const struct told *told, const ffi_cif *cif);
-struct served *served_from(const struct told *told, const ffi_cif *cif);
+struct served *served_from(const struct plan *plan, const struct told *told, const ffi_cif *cif);
 
 /* The plan of an interface, from the table or a new one; or NULL, where there is none or memory was refused. Its types
  * are laid out. `fixed` as in key.h; `word` is the interface's, or 0. */
@@ -184,10 +197,21 @@ static inline const struct plan *plan_at(uint32_t flags)
     return leaf ? atomic_load_explicit(&leaf->plans[index % PLANS_OF_LEAF], memory_order_acquire) : NULL;
 }
 
+/* Whether both have the same convention and as many arguments: two numbers side by side, looked at as one. */
+static inline bool has_interface(const struct plan *plan, const ffi_cif *cif)
+{
+    uint64_t one, other;
+    _Static_assert(offsetof(struct plan, nargs) == offsetof(struct plan, abi) + 4, "the plan's stand otherwise");
+    _Static_assert(offsetof(ffi_cif, nargs) == offsetof(ffi_cif, abi) + 4, "the interface's stand otherwise");
+    memcpy(&one, (const char *)plan + offsetof(struct plan, abi), sizeof one);
+    memcpy(&other, (const char *)cif + offsetof(ffi_cif, abi), sizeof other);
+    return one == other;
+}
+
 static inline const struct plan *plan_if_prepared(const ffi_cif *cif)
 {
     const struct plan *plan = plan_at(cif->flags);
-    return plan && plan->nargs == cif->nargs && plan->abi == cif->abi && plan->stack == cif->bytes ? plan : NULL;
+    return plan && has_interface(plan, cif) && plan->stack == cif->bytes ? plan : NULL;
 }
 
 static inline const struct plan *plan_of(ffi_cif *cif)

@@ -147,7 +147,7 @@ static const struct served *serve(struct plan *plan, const struct key *key, cons
     library_enter();
     const struct served *served = atomic_load(&plan->served);
     if (!served && has_asked_moves(key, true, plan->answer, &told)) {
-        served = served_from(&told, cif);
+        served = served_from(plan, &told, cif);
         told_end(&told);
         atomic_store_explicit(&plan->served, served, memory_order_release);
     }

@@ -43,12 +43,12 @@ module _ (f : Format) (c : Sign) (text : List ℕ) where
     outcome_on_none = (alike_with f c text without).back
 
     text_fault_on_a_target : (g : TextFault) → IsFaultOf c text g → IsFaultIn f c text g
-    text_fault_on_a_target g (not_text none) = no_text none
-    text_fault_on_a_target g (misread o g utf8 is told) = misread_in o g utf8 (outcome_on_a_target o is) told
+    text_fault_on_a_target _ (not_text bad) = no_text bad
+    text_fault_on_a_target _ (misread o h utf8 is told) = misread_in o h utf8 (outcome_on_a_target o is) told
 
     text_fault_on_none : (g : TextFault) → IsFaultIn f c text g → IsFaultOf c text g
-    text_fault_on_none g (no_text none) = not_text none
-    text_fault_on_none g (misread_in o g utf8 is told) = misread o g utf8 (outcome_on_none o is) told
+    text_fault_on_none _ (no_text bad) = not_text bad
+    text_fault_on_none _ (misread_in o h utf8 is told) = misread o h utf8 (outcome_on_none o is) told
 
 -- ---- nodes
 
@@ -83,27 +83,27 @@ module _ (f : Format) (ns : List Node) (fixed : ℕ) where
         }
 
     nodes_fault_on_a_target : (g : TextFault) → IsFaultOfNodes ns fixed g → IsFaultOfNodesIn f ns fixed g
-    nodes_fault_on_a_target g (too_long long no) =
-        so_many long (λ s is placed. no s (told_by s is) (placed_is_faultless s placed (plain s (told_by s is))))
-    nodes_fault_on_a_target g (no_nodes e few first no) =
-        no_signature e few first (λ s is placed. no s (told_by s is) (placed_is_faultless s placed (plain s (told_by s is))))
-    nodes_fault_on_a_target g (not_called are s e is first all) =
+    nodes_fault_on_a_target _ (too_long long nobody) =
+        so_many long (λ s is placed. nobody s (told_by s is) (placed_is_faultless s placed (plain s (told_by s is))))
+    nodes_fault_on_a_target _ (no_nodes e few first nobody) =
+        no_signature e few first (λ s is placed. nobody s (told_by s is) (placed_is_faultless s placed (plain s (told_by s is))))
+    nodes_fault_on_a_target _ (not_called are s e is first all) =
         not_placed are s e (told_for s is) (first_for_places s (plain s is) e first) (λ other o. first_for_places other (plain other (told_by other o)) e (all other (told_by other o)))
 
     nodes_fault_on_none : (g : TextFault) → IsFaultOfNodesIn f ns fixed g → IsFaultOfNodes ns fixed g
-    nodes_fault_on_none g (so_many long no) =
-        too_long long (λ s is right. no s (told_for s is) (faultless_is_placed s right))
-    nodes_fault_on_none g (no_signature e few first no) =
-        no_nodes e few first (λ s is right. no s (told_for s is) (faultless_is_placed s right))
-    nodes_fault_on_none g (not_placed are s e is first all) =
+    nodes_fault_on_none _ (so_many long nobody) =
+        too_long long (λ s is right. nobody s (told_for s is) (faultless_is_placed s right))
+    nodes_fault_on_none _ (no_signature e few first nobody) =
+        no_nodes e few first (λ s is right. nobody s (told_for s is) (faultless_is_placed s right))
+    nodes_fault_on_none _ (not_placed are s e is first all) =
         not_called are s e (told_by s is) (same_first s (plain s (told_by s is)) e first) (λ other o. same_first other (plain other o) e (all other (told_for other o)))
 
 -- ---- either
 
 declared_the_same : (target : ℕ) (d : Declaration) → IsDeclaredTheSame target d
 declared_the_same target (Text text) = record {
-  on_a_target = λ s h. (h.0, (h.1.0, declared_with (long_double_on target) (char_sign target) text.now (record { called = h.1.0; signature = s }) h.1.1));
-  on_none = λ without s h. (h.0, (h.1.0, outcome_on_none (long_double_on target) (char_sign target) text.now without (reads (record { called = h.1.0; signature = s })) h.1.1));
+  on_a_target = λ s h. (h.0, h.1, declared_with (long_double_on target) (char_sign target) text.now (record { called = h.1; signature = s }) h.2);
+  on_none = λ without s h. (h.0, h.1, outcome_on_none (long_double_on target) (char_sign target) text.now without (reads (record { called = h.1; signature = s })) h.2);
   fault_on_a_target = text_fault_on_a_target (long_double_on target) (char_sign target) text.now;
   fault_on_none = text_fault_on_none (long_double_on target) (char_sign target) text.now;
 }
@@ -141,7 +141,8 @@ one_written : (t : Tree) (ns : List Node) → IsWritten t ns → AreWritten (t �
 one_written t ns is = one_more t [] ns [] ns is none (sym (append_none ns))
 
 is_written : (t : Tree) (ns : List Node) → AreWritten (t ∷ []) ns → IsWritten t ns
-is_written t ns (one_more t [] ms [] ns is none all) = subst (IsWritten t) (sym (all ∙ append_none ms)) is
+is_written _ _ (one_more t [] ms (m ∷ more) ns is rest all) = elim rest [ ]
+is_written _ _ (one_more t [] ms [] ns is rest all) = subst (IsWritten t) (sym (all ∙ append_none ms)) is
 
 own_giving : (f : Format) (t : Tree) → wants_format t ≡ false → resolved_signature f (giving t) ≡ giving t
 own_giving f t e = λ i. record { result_type = own_type f t e i; arguments = []; fixed = None }

@@ -1,4 +1,4 @@
 pub mod Searching
 pub mod StillOwned
 pub mod Overwriting
-pub mod Poisoned
+pub mod Poisoning

@@ -1,7 +1,7 @@
 use Rattle.std.proofs.Common.{◌≡◌, ◌+◌, ◌≤◌, sym, ◌∙◌, subst, arith}
 use Rattle.ffi3_type_spec.specs.declared.limits.TheConstants.{STACK}
 use Rattle.ffi3_poison.specs.Poison.{IsPoisoned}
-use Rattle.ffi3_poison.proofs.Poisoned.{poisoned, return_still, still_owned}
+use Rattle.ffi3_poison.proofs.Poisoning.{poisoned, return_still, still_owned}
 use Rattle.ffi3_poison.proofs.poison.Goals as goal
 
 pub returns-clause-poisoned : goal.returns-clause-poisoned
