@@ -224,15 +224,11 @@ static void put_other(struct key *key, const ffi_type *type, bool is_result)
 
 /* ---- Signatures */
 
-bool key_tell_word(struct key *key, const ffi_cif *cif, uint64_t word)
+void key_tell_word(struct key *key, const ffi_cif *cif, uint64_t word)
 {
     struct ffi3_node *types = key->own_nodes + NODES_BEFORE_TYPES;
-    for (unsigned i = cif->nargs + 1; i-- > 0; word >>= 4) {
-        uint32_t kind = scalar_kinds[word & 15];
-        if (kind == FFI3_STRUCT)
-            return false;
-        types[i] = (struct ffi3_node){kind, 0};
-    }
+    for (unsigned i = cif->nargs + 1; i-- > 0; word >>= 4)
+        types[i] = (struct ffi3_node){scalar_kinds[word & 15], 0};
     key->nodes = key->own_nodes;
     key->room = sizeof key->own_nodes / sizeof *key->own_nodes;
     key->length = cif->nargs + 1 + NODES_BEFORE_TYPES;
@@ -241,7 +237,6 @@ bool key_tell_word(struct key *key, const ffi_cif *cif, uint64_t word)
     key->fixed = FFI3_NOT_VARIADIC;
     key->nodes[0] = (struct ffi3_node){NODE_SIGNATURE, cif->abi};
     key->nodes[1] = (struct ffi3_node){NODE_FIXED, FFI3_NOT_VARIADIC};
-    return true;
 }
 
 void key_tell(struct key *key, const ffi_cif *cif, unsigned fixed)

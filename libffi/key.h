@@ -23,7 +23,7 @@
 struct key {
     struct ffi3_node *nodes; /* own_nodes, or malloc's: the two, the result, the arguments, those that are void too */
     size_t length, room;
-    uint32_t kinds; /* all that the types have, by bits */
+    uint32_t kinds; /* by bits: all that the types have, but for scalars and for structs of a few of them */
     unsigned fixed;
     ffi_status status; /* FFI_OK, or why there is none */
     struct ffi3_node own_nodes[56];
@@ -34,25 +34,32 @@ struct key {
 void key_tell(struct key *key, const ffi_cif *cif, unsigned fixed);
 void key_end(struct key *key);
 
-/* A signature of at most 14 arguments, none of them variadic, and all scalars that have a size, is known by one word
- * too: a nibble for the convention, which is not 0, and one for each type. Answers 0 for another signature. */
+/* Whether a type may be one of a word's: it is void, or a scalar of which nothing counts but its code. A long double's
+ * node goes by the convention, and its size counts. */
+static inline bool is_of_words(const ffi_type *type)
+{
+    return type->type < FFI_TYPE_COMPLEX && type->type != FFI_TYPE_STRUCT && type->type != FFI_TYPE_LONGDOUBLE &&
+           type->size != 0;
+}
+
+/* A signature of at most 14 arguments, none of them variadic, and all scalars that have a size, but no long doubles, is
+ * known by one word too: a nibble for the convention, which is not 0, and one for each type. Answers 0 for another
+ * signature. */
 static inline uint64_t word_of(ffi_abi abi, unsigned nargs, const ffi_type *rtype, ffi_type **atypes)
 {
     uint64_t word = (uint64_t)abi << 4 | rtype->type;
-    if (nargs > 14 || rtype->type >= FFI_TYPE_COMPLEX || rtype->type == FFI_TYPE_STRUCT || rtype->size == 0)
+    if (nargs > 14 || !is_of_words(rtype))
         return 0;
     for (unsigned i = 0; i < nargs; i++) {
-        unsigned short type = atypes[i]->type;
-        if (type == FFI_TYPE_VOID || type == FFI_TYPE_STRUCT || type >= FFI_TYPE_COMPLEX || atypes[i]->size == 0)
+        if (!is_of_words(atypes[i]) || atypes[i]->type == FFI_TYPE_VOID)
             return 0;
-        word = word << 4 | type;
+        word = word << 4 | atypes[i]->type;
     }
     return word;
 }
 
-/* The key of an interface that has this word, from the word alone. Answers false, and makes none, where it has a long
- * double, whose node goes by the convention. */
-bool key_tell_word(struct key *key, const ffi_cif *cif, uint64_t word);
+/* The key of an interface that has this word, from the word alone. */
+void key_tell_word(struct key *key, const ffi_cif *cif, uint64_t word);
 
 static inline ffi_abi key_abi(const struct key *key) { return (ffi_abi)key->nodes[0].count; }
 

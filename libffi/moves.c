@@ -174,8 +174,9 @@ __attribute__((noinline)) static bool has_filled_moves(struct plan *plan, const 
     return next == end;
 }
 
-/* Where a closure finds an argument: where it stands, if that is one place. In registers nothing is aligned to 16. What
- * stands in more is gathered by the callee's moves; the value of the argument begins at `start`, among those of all. */
+/* Where a closure finds an argument: where it stands, if that is one place. In registers nothing is aligned to 16, nor
+ * is a scalar that is no long double, whatever a client says of it. What stands in more is gathered by the callee's
+ * moves; the value of the argument begins at `start`, among those of all. */
 static struct source source_of(struct served *served, const struct ffi3_move *next, const struct ffi3_move *end,
                                uint64_t start, const ffi_type *type)
 {
@@ -189,7 +190,7 @@ static struct source source_of(struct served *served, const struct ffi3_move *ne
         move.kind = as_they_are(move.length);
         count = add(moves, count, &move);
     }
-    if (count == 1 && (moves->from >= FRAME_AT || type->alignment <= 8))
+    if (count == 1 && (moves->from >= FRAME_AT || type->alignment <= 8 || is_scalar(type)))
         return (struct source){AT_PLACE, moves->from, 0, 0};
     struct source source = {GATHERED, served->scratch, served->gathers_count, count};
     served->gathers_count += count;

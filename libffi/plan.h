@@ -117,7 +117,7 @@ struct told {
     uint64_t answer; /* the number of the library's answer */
     struct ffi3_sizes sizes;
     uint64_t stack; /* bytes of the frame that are passed on the stack: it begins with them */
-    struct moves lists[LISTS]; /* the caller's, or the callee's; the others are empty */
+    struct moves lists[LISTS]; /* the caller's, or the callee's; the others are not told */
     uint32_t malloced; /* which lists are not in own_moves, by bits */
     uint32_t used;     /* of own_moves */
     struct ffi3_move own_moves[64];

@@ -180,7 +180,9 @@ const struct plan *plan_for(const ffi_cif *cif, unsigned fixed, uint64_t word)
 {
     struct key key;
     const struct plan *plan = NULL;
-    if (!word || !key_tell_word(&key, cif, word))
+    if (word)
+        key_tell_word(&key, cif, word);
+    else
         key_tell(&key, cif, fixed);
     if (key.status == FFI_OK) {
         uint64_t hash = word ? hash_of_word(word) : hash_of(&key);

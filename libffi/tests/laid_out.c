@@ -173,6 +173,27 @@ static void pass_wide(void)
 
 static float half(void) { return 0.5f; }
 
+static void subtract(ffi_cif *cif, void *result, void **values, void *data)
+{
+    (void)cif, (void)data;
+    *(double *)result = *(double *)values[0] - *(double *)values[1];
+}
+
+static void say_another_alignment(void)
+{
+    ffi_type odd = {(size_t)1 << 32, 16, FFI_TYPE_DOUBLE, NULL}, *odds[] = {&odd, &odd};
+    ffi_type *doubles[] = {&ffi_type_double, &ffi_type_double};
+    ffi_cif first, second;
+    void *code;
+    ffi_closure *closure = ffi_closure_alloc(sizeof *closure, &code);
+    EXPECT(ffi_prep_cif(&first, FFI_DEFAULT_ABI, 2, &ffi_type_double, odds) == FFI_OK);
+    EXPECT(ffi_prep_closure_loc(closure, &first, subtract, NULL, code) == FFI_OK);
+    EXPECT(ffi_prep_cif(&second, FFI_DEFAULT_ABI, 2, &ffi_type_double, doubles) == FFI_OK);
+    EXPECT(ffi_prep_closure_loc(closure, &second, subtract, NULL, code) == FFI_OK);
+    EXPECT(((double (*)(double, double))code)(44, 2) == 42);
+    ffi_closure_free(closure);
+}
+
 static void say_other_sizes(void)
 {
     ffi_type narrow = {2, 2, FFI_TYPE_FLOAT, NULL}, *elements[] = {&narrow, NULL};
@@ -188,6 +209,11 @@ static void say_other_sizes(void)
     (void)ffi_prep_cif(&cif, FFI_DEFAULT_ABI, 1, &ffi_type_void, complexes);
     complexes[0] = &ffi_type_complex_double;
     EXPECT(ffi_prep_cif(&cif, FFI_DEFAULT_ABI, 1, &ffi_type_void, complexes) == FFI_OK);
+    ffi_type shorter = {8, 8, FFI_TYPE_LONGDOUBLE, NULL}, *long_doubles[] = {&ffi_type_longdouble};
+    EXPECT(ffi_prep_cif(&cif, FFI_DEFAULT_ABI, 1, &ffi_type_void, long_doubles) == FFI_OK);
+    long_doubles[0] = &shorter;
+    EXPECT(ffi_prep_cif(&cif, FFI_DEFAULT_ABI, 1, &ffi_type_void, long_doubles) == FFI_BAD_TYPEDEF);
+    EXPECT(ffi_prep_cif(&cif, FFI_DEFAULT_ABI, 0, &shorter, NULL) == FFI_BAD_TYPEDEF);
 }
 
 /* ---- Unions of unions, and types that are in themselves: an answer comes, whatever it is. */
@@ -226,6 +252,7 @@ int main(int count, char **words)
     }
     LIST(PASS)
     pass_wide();
+    say_another_alignment();
     say_other_sizes();
     end_soon();
     printf("%d refused\n", refused);
