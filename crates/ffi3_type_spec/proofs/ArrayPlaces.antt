@@ -4,29 +4,21 @@ use Rattle.std.specs.Prelude.{slice_index_or}
 use Rattle.std.proofs.lemmas.Bool.{cases_lt}
 use Rattle.std.proofs.lemmas.Nat.{mul-le, div-add-mod'}
 use Rattle.std.proofs.Math.Nat.{mod-lt}
-use Rattle.std.proofs.lemmas.List.{get_or_append_left, get_or-append_right}
+use Rattle.std.proofs.lemmas.List.{get_or-map, get_or_append_left, get_or-append_right}
 use Rattle.ffi3_type_spec.specs.declared.limits.TheConstants.{LARGEST_TYPE, DEEPEST_NESTING}
 use Rattle.ffi3_type_spec.specs.declared.Role.{Role}
 use Rattle.ffi3_type_spec.specs.declared.Role.TheVariants.{AsElement}
 use Rattle.ffi3_type_spec.specs.Tree.{Tree, array, trees_of, tree_at, elements_of, first_of, list_of-trees_of, u8}
 use Rattle.ffi3_type_spec.specs.Layout.{Layout, Leaf, layouts, element, size_of, align_of, leaves_of, leaf_at, offset_of, repeated, moved}
-use Rattle.ffi3_type_spec.specs.Fault.{Fault, bad_typedef, too_large, too_deep, misshapen, is_misshapen, takes, HasNoFault, IsFault, IsFirstFault, IsLaidOut, out_of_place, left_out_kind, nested_deep, over_limit}
+use Rattle.ffi3_type_spec.specs.Fault.{Fault, bad_typedef, too_large, too_deep, misshapen, is_misshapen, takes, HasNoFault, IsFirstFault, IsLaidOut, out_of_place}
 use Rattle.ffi3_type_spec.proofs.Layouts.{element-layouts}
 use Rattle.ffi3_type_spec.proofs.Leaves.{repeated-step}
-use Rattle.ffi3_type_spec.proofs.Faults.{part_is_right, right_anywhere, elements_right, first_bad, first_deep, first_in_part, right_by_parts, first_large}
+use Rattle.ffi3_type_spec.proofs.Faults.{fault_deeper, part_is_right, right_anywhere, elements_right, first_bad, first_deep, first_in_part, right_by_parts, first_large}
 use Rattle.ffi3_type_spec.proofs.Arrays.{one_of_equal}
-
--- a type without fault inside some structs and arrays has none inside fewer
-pub fault_further : (from to : ℕ) (role : Role) (t : Tree) (path : List ℕ) (f : Fault) → from ≤ to → IsFault from role t path f → IsFault to role t path f
-fault_further from to role t path f h (out_of_place is bad) = out_of_place is bad
-fault_further from to role t path f h (left_out_kind is) = left_out_kind is
-fault_further from to role t path f h (nested_deep is parts deep) = nested_deep is parts (omega arith)
-fault_further from to role t path f h (misshapen is bad) = misshapen is bad
-fault_further from to role t path f h (over_limit is parts large) = over_limit is parts large
 
 pub laid_out : (outer : ℕ) (role : Role) (t : Tree) → HasNoFault outer role t → IsLaidOut t
 laid_out outer role t h =
-    right_anywhere 0 role t (λ path f fault. h path f (fault_further 0 outer role t path f (omega arith) fault))
+    right_anywhere 0 role t (λ path f fault. h path f (fault_deeper 0 outer role t path f (omega arith) fault))
 
 -- ---- the leaves of an array
 
@@ -35,11 +27,6 @@ count_repeated l zero = omega arith
 count_repeated l (suc n) =
     let more : suc n * length l.leaves ≡ n * length l.leaves + length l.leaves = omega arith in
     omega (arith, repeated-step l n, count_repeated l n, more)
-
-one_moved : (by : ℕ) (xs : List Leaf) (i : ℕ) (d : Leaf) → i < length xs → slice_index_or (map (moved by) xs) i d ≡ moved by (slice_index_or xs i d)
-one_moved by [] i d h = absurd (omega arith)
-one_moved by (x ∷ xs) zero d h = refl
-one_moved by (x ∷ xs) (suc i) d h = one_moved by xs i d (omega arith)
 
 -- leaf i is leaf r of element q
 pub one_repeated : (l : Layout) (n q r i : ℕ) (d : Leaf) → q < n → r < length l.leaves → i ≡ q * length l.leaves + r → slice_index_or (repeated l n) i d ≡ moved (q * l.size) (slice_index_or l.leaves r d)
@@ -55,7 +42,7 @@ one_repeated l (suc n) q r i d h below is =
           let here : i ≡ n * length l.leaves + r = is ∙ ap (λ k. k * length l.leaves + r) same in
           let from : n * length l.leaves ≤ i = omega (arith, here) in
           let rest : i - n * length l.leaves ≡ r = omega (arith, here) in
-          get_or-append_right (repeated l n) tail (n * length l.leaves) i d count from ∙ ap (λ k. slice_index_or tail k d) rest ∙ one_moved (n * l.size) l.leaves r d below ∙ ap (λ k. moved (k * l.size) (slice_index_or l.leaves r d)) (sym same)
+          get_or-append_right (repeated l n) tail (n * length l.leaves) i d count from ∙ ap (λ k. slice_index_or tail k d) rest ∙ get_or-map (moved (n * l.size)) l.leaves r d d below ∙ ap (λ k. moved (k * l.size) (slice_index_or l.leaves r d)) (sym same)
     ]
 
 -- which element and which leaf of it number i is
@@ -126,10 +113,8 @@ array_leaf_there ts n i t size each is s e here =
 
 -- an array without fault has one element type and some elements
 pub array_is_shaped : (outer : ℕ) (role : Role) (ts : List Tree) (n : ℕ) → HasNoFault outer role (array (trees_of ts) n) → (length ts ≡ 1) × (0 < n)
-array_is_shaped outer role [] n h = absurd (h [] bad_typedef (misshapen refl refl))
-array_is_shaped outer role (t ∷ []) zero h = absurd (h [] bad_typedef (misshapen refl refl))
 array_is_shaped outer role (t ∷ []) (suc n) h = (refl, omega arith)
-array_is_shaped outer role (t ∷ u ∷ us) n h = absurd (h [] bad_typedef (misshapen refl refl))
+array_is_shaped outer role _ _ h = absurd (h [] bad_typedef (misshapen refl refl))
 
 -- and its element type has a layout
 pub array_element_is_right : (role : Role) (ts : List Tree) (n : ℕ) → HasNoFault 0 role (array (trees_of ts) n) → IsLaidOut (tree_at ts 0)
@@ -141,10 +126,8 @@ array_element_is_right role ts n h =
 -- ---- the first fault of an array
 
 shaped : (ts : List Tree) (n : ℕ) → length ts ≡ 1 → 0 < n → is_misshapen (array (trees_of ts) n) ≡ false
-shaped [] n one some = absurd (omega arith)
-shaped (t ∷ []) zero one some = absurd (omega arith)
 shaped (t ∷ []) (suc n) one some = refl
-shaped (t ∷ u ∷ us) n one some = absurd (omega arith)
+shaped _ _ one some = absurd (omega arith)
 
 many : (ts : List Tree) (n : ℕ) → length ts ≢ 1 → is_misshapen (array (trees_of ts) n) ≡ true
 many [] n other = refl

@@ -3,6 +3,7 @@ use Prim.Native.Nat.{◌∣◌}
 use Rattle.std.proofs.Common.{◌≡◌, ℕ, zero, suc, ◌+◌, ◌*◌, ◌<◌, ◌≤◌, max, List, [], ◌∷◌, ◌++◌, map, replicate, length, refl, ap, sym, ◌∙◌, arith, append_assoc}
 use Rattle.std.specs.Prelude.{slice_index_or}
 use Rattle.std.proofs.Math.Nat.{dvd-add}
+use Rattle.std.proofs.lemmas.List.{length-replicate, get_or-replicate}
 use Rattle.std.proofs.lemmas.Nat.Gcd.{dvd_refl, dvd-zero, mod-eq-zero_of_dvd}
 use Rattle.ffi3_type_spec.specs.Tree.{Tree, void, scalar, left_out, structure, array, Trees, no_trees, tree, trees_of, struct_of, array_of, first_of}
 use Rattle.ffi3_type_spec.specs.Layout.{Layout, Leaf, layout, layouts, nothing, element, end_before, start_of, align_before, leaves_before, moved, repeated, array_layout, struct_layout, least_multiple, scalar_room, size_of, align_of, leaves_of}
@@ -13,13 +14,10 @@ use Rattle.ffi3_type_spec.proofs.LeastMultiples.{least_multiple-same, least_mult
 -- ---- lists of equal elements
 
 pub length_of_equal : {A : Type 0} (n : ℕ) (a : A) → length (replicate n a) ≡ n
-length_of_equal zero a = refl
-length_of_equal (suc n) a = ap suc (length_of_equal n a)
+length_of_equal n a = length-replicate n a
 
 pub one_of_equal : {A : Type 0} (n i : ℕ) (a d : A) → i < n → slice_index_or (replicate n a) i d ≡ a
-one_of_equal zero i a d h = absurd (omega arith)
-one_of_equal (suc n) zero a d h = refl
-one_of_equal (suc n) (suc i) a d h = one_of_equal n i a d (omega arith)
+one_of_equal n i a d h = get_or-replicate n i a d h
 
 -- ---- every size is a multiple of the alignment
 

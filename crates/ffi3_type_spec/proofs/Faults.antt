@@ -113,8 +113,8 @@ module _ {outer : ℕ} {role : Role} where
   void_faults (i ∷ path) f fault = absurd (omega (arith, (fault_inside void i path f fault).0))
 
   left_out_own : (k : LeftOutKind) (f : Fault) → OwnFault outer role (left_out k) f → f ≡ left_out_type (left_out k)
-  left_out_own k f (own_place bad) = absurd (cc)
   left_out_own k f (own_kind is) = ap left_out_type (sym is)
+  left_out_own k f (own_place bad) = absurd (cc)
   left_out_own k f (own_depth parts deep) = absurd (cc)
   left_out_own k f (own_shape bad) = absurd (cc)
   left_out_own k f (own_size parts large) = absurd (cc)
@@ -140,11 +140,8 @@ module _ {outer : ℕ} {role : Role} where
 
   -- the rank of an own fault, where the type is not too deep
   own_rank : (t : Tree) (f : Fault) → outer < DEEPEST_NESTING → OwnFault outer role t f → 1 ≤ rank f
-  own_rank t f shallow (own_place bad) = omega arith
-  own_rank t f shallow (own_kind is) = omega arith
   own_rank t f shallow (own_depth parts deep) = absurd (omega arith)
-  own_rank t f shallow (own_shape bad) = omega arith
-  own_rank t f shallow (own_size parts large) = omega arith
+  own_rank t f shallow _ = omega arith
 
   own_large : (t : Tree) (f : Fault) → has_parts t ≡ true → outer < DEEPEST_NESTING → takes role t ≡ true → is_misshapen t ≡ false → OwnFault outer role t f → (rank f ≡ 2) × (LARGEST_TYPE < size_of t)
   own_large t f composite shallow placed shaped (own_place bad) = absurd (cc)
@@ -257,34 +254,31 @@ right_is_small outer role (array ts n) h =
 abbrev pub TakesMore : Role → Role → Type 0
 TakesMore more less = (t : Tree) → takes more t ≡ false → takes less t ≡ false
 
+-- a fault stands in another role and deeper too, where the role that takes the node does not matter
+pub fault_along : {from to : ℕ} {role other : Role} (t : Tree) (path : List ℕ) (f : Fault) → from ≤ to → ((u : Tree) → node_at path t ≡ Some u → takes (role_at role path) u ≡ false → takes (role_at other path) u ≡ false) → IsFault from role t path f → IsFault to other t path f
+fault_along t path f h alike (out_of_place {node = u} is bad) = out_of_place is (alike u is bad)
+fault_along t path f h alike (left_out_kind is) = left_out_kind is
+fault_along t path f h alike (nested_deep is parts deep) = nested_deep is parts (omega arith)
+fault_along t path f h alike (misshapen is bad) = misshapen is bad
+fault_along t path f h alike (over_limit is parts large) = over_limit is parts large
+
 role_more : (more less : Role) → TakesMore more less → (path : List ℕ) (t : Tree) → takes (role_at more path) t ≡ false → takes (role_at less path) t ≡ false
 role_more more less h [] t e = h t e
 role_more more less h (i ∷ path) t e = e
 
-pub fault_with_less : (more less : Role) → TakesMore more less → (outer : ℕ) (t : Tree) (path : List ℕ) (f : Fault) → IsFault outer more t path f → IsFault outer less t path f
-fault_with_less more less h outer t path f (out_of_place {node = u} is bad) = out_of_place is (role_more more less h path u bad)
-fault_with_less more less h outer t path f (left_out_kind is) = left_out_kind is
-fault_with_less more less h outer t path f (nested_deep is parts deep) = nested_deep is parts deep
-fault_with_less more less h outer t path f (misshapen is bad) = misshapen is bad
-fault_with_less more less h outer t path f (over_limit is parts large) = over_limit is parts large
-
 pub right_with_more : (more less : Role) → TakesMore more less → (outer : ℕ) (t : Tree) → HasNoFault outer less t → HasNoFault outer more t
 right_with_more more less h outer t right path f fault =
-    right path f (fault_with_less more less h outer t path f fault)
+    right path f (fault_along t path f (omega arith) (λ u is. role_more more less h path u) fault)
 
 result_takes_more : TakesMore AsResult AsArgument
 result_takes_more void e = refl
-result_takes_more (scalar s) e = e
-result_takes_more (left_out k) e = e
-result_takes_more (structure ts) e = e
 result_takes_more (array ts n) e = refl
+result_takes_more _ e = e
 
 anywhere_takes_more : (role : Role) → TakesMore Anywhere role
 anywhere_takes_more role void e = absurd (cc)
-anywhere_takes_more role (scalar s) e = e
-anywhere_takes_more role (left_out k) e = e
-anywhere_takes_more role (structure ts) e = e
 anywhere_takes_more role (array ts n) e = absurd (cc)
+anywhere_takes_more role _ e = e
 
 -- what may be an argument may be a result
 pub argument_is_result : (outer : ℕ) (t : Tree) → HasNoFault outer AsArgument t → HasNoFault outer AsResult t
@@ -297,18 +291,14 @@ right_anywhere outer role t h =
     right_with_more Anywhere role (anywhere_takes_more role) outer t h
 
 -- a type without fault has none where fewer structs and arrays are around it
-pub fault_deeper : (outer : ℕ) (role : Role) (t : Tree) (path : List ℕ) (f : Fault) → IsFault outer role t path f → IsFault (outer + 1) role t path f
-fault_deeper outer role t path f (out_of_place is bad) = out_of_place is bad
-fault_deeper outer role t path f (left_out_kind is) = left_out_kind is
-fault_deeper outer role t path f (nested_deep is parts deep) = nested_deep is parts (omega arith)
-fault_deeper outer role t path f (misshapen is bad) = misshapen is bad
-fault_deeper outer role t path f (over_limit is parts large) = over_limit is parts large
+pub fault_deeper : (from to : ℕ) (role : Role) (t : Tree) (path : List ℕ) (f : Fault) → from ≤ to → IsFault from role t path f → IsFault to role t path f
+fault_deeper from to role t path f h fault = fault_along t path f h (λ u is bad. bad) fault
 
 -- the parts of a type without fault have none
 pub part_is_right : (role : Role) (root : Tree) → HasNoFault 0 role root → (i : ℕ) → i < length (parts_of root) → IsLaidOut (tree_at (parts_of root) i)
 part_is_right role root h i below =
-    right_anywhere 0 AsElement (tree_at (parts_of root) i) (λ path f fault. h (i ∷ path) f (fault_outside root i path f below (fault_deeper 0 AsElement _ path f fault)))
+    right_anywhere 0 AsElement (tree_at (parts_of root) i) (λ path f fault. h (i ∷ path) f (fault_outside root i path f below (fault_deeper 0 1 AsElement _ path f (omega arith) fault)))
 
 pub element_is_right : (role : Role) (ts : List Tree) → HasNoFault 0 role (struct_of ts) → (i : ℕ) → i < length ts → IsLaidOut (tree_at ts i)
 element_is_right role ts h i below =
-    right_anywhere 0 AsElement (tree_at ts i) (λ path f fault. h (i ∷ path) f (fault_by_element ts i path f below (fault_deeper 0 AsElement _ path f fault)))
+    right_anywhere 0 AsElement (tree_at ts i) (λ path f fault. h (i ∷ path) f (fault_by_element ts i path f below (fault_deeper 0 1 AsElement _ path f (omega arith) fault)))

@@ -7,7 +7,7 @@ use Rattle.ffi3_type_spec.specs.declared.Role.{Role}
 use Rattle.ffi3_type_spec.specs.declared.Role.TheVariants.{AsElement}
 use Rattle.ffi3_type_spec.specs.Tree.{Tree, void, scalar, left_out, structure, array, Trees, no_trees, tree, list_of, tree_at, parts_of}
 use Rattle.ffi3_type_spec.specs.Layout.{size_of}
-use Rattle.ffi3_type_spec.specs.Fault.{Fault, bad_typedef, left_out_type, too_large, too_deep, IsFault, out_of_place, misshapen, takes, takes_void, has_parts, is_misshapen, rank, IsBefore, HasNoFault, IsFirstFault}
+use Rattle.ffi3_type_spec.specs.Fault.{Fault, bad_typedef, too_large, too_deep, IsFault, out_of_place, misshapen, takes, takes_void, has_parts, is_misshapen, rank, IsBefore, HasNoFault, IsFirstFault}
 use Rattle.ffi3_type_spec.proofs.Faults.{OwnFault, own_place, own_kind, own_depth, own_shape, own_size, own_fault, scalar_faults, void_faults, left_out_faults, fault_inside, first_deep, first_bad, first_void, first_left_out, first_in_part, right_by_parts, first_large}
 use Rattle.ffi3_type_spec.specs.FirstFault.{Found, or_else, inside_element, fault_of_size, in_composite, unless_deep, first_fault, first_inside}
 
@@ -16,6 +16,11 @@ use Rattle.ffi3_type_spec.specs.FirstFault.{Found, or_else, inside_element, faul
 abbrev pub Answers : ℕ → Role → Tree → Option Found → Type 0
 Answers outer role t None = HasNoFault outer role t
 Answers outer role t (Some f) = IsFirstFault outer role t f.0 f.1
+
+-- what holds of a type and of the first n others holds of the first n + 1 of all
+pub in_front_of : (P : Tree → Type 0) (t : Tree) (ts : List Tree) (n : ℕ) → P t → ((j : ℕ) → j < n → P (tree_at ts j)) → (j : ℕ) → j < suc n → P (tree_at (t ∷ ts) j)
+in_front_of P t ts n first others zero h = first
+in_front_of P t ts n first others (suc j) h = others j (omega arith)
 
 -- the elements before one have no fault, and it has a first one
 pub record FirstElement (outer i : ℕ) (ts : List Tree) (f : Found) : Type 0 where
@@ -36,17 +41,9 @@ ElementsAnswer outer i ts (Some f) = FirstElement outer i ts f
 in_front : (outer i : ℕ) (t : Tree) (ts : List Tree) (f g : Option Found) → Answers outer AsElement t f → ElementsAnswer outer (i + 1) ts g → ElementsAnswer outer i (t ∷ ts) (or_else (option_map (inside_element i) f) g)
 in_front outer i t ts (Some f) g first others =
     record { number = 0; way = f.0; leads = ap (λ n. n ∷ f.0) (omega arith); there = omega arith; right_before = λ j h. absurd (omega arith); first = first }
-in_front outer i t ts None None right rights = each
-  where
-    each : (j : ℕ) → j < length (t ∷ ts) → HasNoFault outer AsElement (tree_at (t ∷ ts) j)
-    each zero h = right
-    each (suc j) h = rights j (omega arith)
+in_front outer i t ts None None right rights = in_front_of (HasNoFault outer AsElement) t ts (length ts) right rights
 in_front outer i t ts None (Some g) right first =
-    record { number = suc first.number; way = first.way; leads = first.leads ∙ ap (λ n. n ∷ first.way) (omega arith); there = omega (arith, first.there); right_before = each; first = first.first }
-  where
-    each : (j : ℕ) → j < suc first.number → HasNoFault outer AsElement (tree_at (t ∷ ts) j)
-    each zero h = right
-    each (suc j) h = first.right_before j (omega arith)
+    record { number = suc first.number; way = first.way; leads = first.leads ∙ ap (λ n. n ∷ first.way) (omega arith); there = omega (arith, first.there); right_before = in_front_of (HasNoFault outer AsElement) t ts first.number right first.right_before; first = first.first }
 
 -- a struct or an array
 module _ (outer : ℕ) (role : Role) (root : Tree) (composite : has_parts root ≡ true) where
@@ -54,14 +51,14 @@ module _ (outer : ℕ) (role : Role) (root : Tree) (composite : has_parts root �
   module _ (shallow : outer < DEEPEST_NESTING) where
     -- in its place and well shaped
     module _ (placed : takes role root ≡ true) (shaped : is_misshapen root ≡ false) where
-      of_size : (right : (j : ℕ) → j < length (parts_of root) → HasNoFault (outer + 1) AsElement (tree_at (parts_of root) j)) (b : Bool) → nat_lt LARGEST_TYPE (size_of root) ≡ b → Answers outer role root (cond b (Some ([], too_large (size_of root))) None)
-      of_size right true e =
+      by_size : (right : (j : ℕ) → j < length (parts_of root) → HasNoFault (outer + 1) AsElement (tree_at (parts_of root) j)) (b : Bool) → nat_lt LARGEST_TYPE (size_of root) ≡ b → Answers outer role root (cond b (Some ([], too_large (size_of root))) None)
+      by_size right true e =
           first_large root composite shallow placed shaped right (ltb-true LARGEST_TYPE _ e)
-      of_size right false e =
+      by_size right false e =
           right_by_parts root composite shallow placed shaped right (ltb-false LARGEST_TYPE _ e)
 
       by_elements : (f : Option Found) → ElementsAnswer (outer + 1) 0 (parts_of root) f → Answers outer role root (or_else f (fault_of_size (size_of root)))
-      by_elements None right = of_size right (nat_lt LARGEST_TYPE (size_of root)) refl
+      by_elements None right = by_size right (nat_lt LARGEST_TYPE (size_of root)) refl
       by_elements (Some f) e =
           let leads : e.number ∷ e.way ≡ f.0 = ap (λ n. n ∷ e.way) (omega arith) ∙ sym e.leads in
           subst (λ path. IsFirstFault outer role root path f.1) leads (first_in_part root composite shallow placed shaped e.number e.way f.1 e.there e.right_before e.first)
@@ -108,33 +105,28 @@ right_by_none outer role t e = subst (Answers outer role t) e (answers outer rol
 
 rank_low : (f : Fault) → rank f ≤ 2
 rank_low bad_typedef = omega arith
-rank_low (left_out_type t) = omega arith
-rank_low (too_large size) = omega arith
-rank_low too_deep = omega arith
+rank_low _ = omega arith
 
 -- the faults that a struct or an array of a size may have itself
-abbrev OneOf : ℕ → Fault → Type 0
-OneOf size f = (f ≡ too_deep) ⊎ ((f ≡ bad_typedef) ⊎ (f ≡ too_large size))
+data OneOf (size : ℕ) : Fault → Type 0 where
+  of_depth : OneOf size too_deep
+  of_shape : OneOf size bad_typedef
+  of_size : OneOf size (too_large size)
 
 one_by_rank : (size : ℕ) (f g : Fault) → OneOf size f → OneOf size g → rank f ≡ rank g → f ≡ g
-one_by_rank size f g (inl a) (inl b) e = a ∙ sym b
-one_by_rank size f g (inl a) (inr (inl b)) e = absurd (omega (arith, ap rank a, ap rank b))
-one_by_rank size f g (inl a) (inr (inr b)) e = absurd (omega (arith, ap rank a, ap rank b))
-one_by_rank size f g (inr (inl a)) (inl b) e = absurd (omega (arith, ap rank a, ap rank b))
-one_by_rank size f g (inr (inl a)) (inr (inl b)) e = a ∙ sym b
-one_by_rank size f g (inr (inl a)) (inr (inr b)) e = absurd (omega (arith, ap rank a, ap rank b))
-one_by_rank size f g (inr (inr a)) (inl b) e = absurd (omega (arith, ap rank a, ap rank b))
-one_by_rank size f g (inr (inr a)) (inr (inl b)) e = absurd (omega (arith, ap rank a, ap rank b))
-one_by_rank size f g (inr (inr a)) (inr (inr b)) e = a ∙ sym b
+one_by_rank size _ _ of_depth of_depth e = refl
+one_by_rank size _ _ of_shape of_shape e = refl
+one_by_rank size _ _ of_size of_size e = refl
+one_by_rank size _ _ _ _ e = absurd (omega arith)
 
 module _ {outer : ℕ} {role : Role} where
   own_is_one : (t : Tree) (f : Fault) → has_parts t ≡ true → OwnFault outer role t f → OneOf (size_of t) f
-  own_is_one t f composite (own_place bad) = inr (inl refl)
+  own_is_one t f composite (own_place bad) = of_shape
   own_is_one t f composite (own_kind is) =
       let none : true ≡ false = sym composite ∙ ap has_parts is in absurd (cc)
-  own_is_one t f composite (own_depth parts deep) = inl refl
-  own_is_one t f composite (own_shape bad) = inr (inl refl)
-  own_is_one t f composite (own_size parts large) = inr (inr refl)
+  own_is_one t f composite (own_depth parts deep) = of_depth
+  own_is_one t f composite (own_shape bad) = of_shape
+  own_is_one t f composite (own_size parts large) = of_size
 
   composite_by_rank : (t : Tree) (f g : Fault) → has_parts t ≡ true → IsFault outer role t [] f → IsFault outer role t [] g → rank f ≡ rank g → f ≡ g
   composite_by_rank t f g composite a b e =

@@ -1,5 +1,5 @@
 -- The first fault of a signature that is computed is the first in the order of faults, and it is there wherever one is.
-use Rattle.std.proofs.Common.{◌≡◌, ℕ, zero, suc, ◌+◌, ◌-◌, ◌<◌, ◌≤◌, ◌⊎◌, inl, inr, Bool, true, false, List, [], ◌∷◌, length, drop, Option, Some, None, option_map, refl, ap, sym, ◌∙◌, subst, cond, nat_lt, ◌||◌, ◌==◌, arith, ◌&&◌}
+use Rattle.std.proofs.Common.{◌≡◌, ℕ, suc, ◌+◌, ◌-◌, ◌<◌, ◌≤◌, ◌⊎◌, inl, inr, Bool, true, false, List, [], ◌∷◌, length, drop, Option, Some, None, option_map, refl, ap, sym, ◌∙◌, subst, cond, nat_lt, ◌||◌, ◌==◌, arith, ◌&&◌}
 use Rattle.std.proofs.lemmas.Bool.{cases_order, ltb-true, ltb-false, eqb-true, eqb-false, or_cases, or_parts}
 use Rattle.std.proofs.lemmas.List.{get_or-drop, length-drop}
 use Rattle.ffi3_type_spec.specs.declared.limits.TheConstants.{MOST_ARGUMENTS}
@@ -11,7 +11,7 @@ use Rattle.ffi3_type_spec.specs.Signature.{Signature, SignatureFault, too_many, 
 use Rattle.ffi3_type_spec.proofs.Signatures.{IsSuited, first_too_many, first_in_result, first_in_argument, first_bad_fixed, right_with_no_fixed, right_with_fixed}
 use Rattle.ffi3_type_spec.proofs.Signatures as known
 use Rattle.ffi3_type_spec.specs.FirstFault.{Found, or_else, at_position, first_fault, found_fault, first_in_arguments, first_promoted, first_in_fixed, first_fault_for, first_signature_fault}
-use Rattle.ffi3_type_spec.proofs.FirstFaults.{Answers, answers, one_first_fault}
+use Rattle.ffi3_type_spec.proofs.FirstFaults.{in_front_of, Answers, answers, one_first_fault}
 use Rattle.ffi3_type_spec.proofs.Tests.{and_left, and_right}
 
 -- ---- what the computed fault says
@@ -57,17 +57,9 @@ ArgumentsAnswer purpose i ts (Some f) = FirstArgument purpose i ts f
 argument_in_front : (purpose : Purpose) (i : ℕ) (t : Tree) (ts : List Tree) (f : Option Found) (g : Option SignatureFault) → FoundAnswers purpose (argument_role purpose) t f → ArgumentsAnswer purpose (i + 1) ts g → ArgumentsAnswer purpose i (t ∷ ts) (or_else (option_map (at_position (at_argument i)) f) g)
 argument_in_front purpose i t ts (Some f) g first others =
     record { number = 0; way = f.0; fault = f.1; leads = ap (λ n. bad_type (at_argument n) f.0 f.1) (omega arith); there = omega arith; right_before = λ j h. absurd (omega arith); first = first }
-argument_in_front purpose i t ts None None right rights = each
-  where
-    each : (j : ℕ) → j < length (t ∷ ts) → IsSuited purpose (argument_role purpose) (tree_at (t ∷ ts) j)
-    each zero h = right
-    each (suc j) h = rights j (omega arith)
+argument_in_front purpose i t ts None None right rights = in_front_of (IsSuited purpose (argument_role purpose)) t ts (length ts) right rights
 argument_in_front purpose i t ts None (Some g) right first =
-    record { number = suc first.number; way = first.way; fault = first.fault; leads = first.leads ∙ ap (λ n. bad_type (at_argument n) first.way first.fault) (omega arith); there = omega (arith, first.there); right_before = each; first = first.first }
-  where
-    each : (j : ℕ) → j < suc first.number → IsSuited purpose (argument_role purpose) (tree_at (t ∷ ts) j)
-    each zero h = right
-    each (suc j) h = first.right_before j (omega arith)
+    record { number = suc first.number; way = first.way; fault = first.fault; leads = first.leads ∙ ap (λ n. bad_type (at_argument n) first.way first.fault) (omega arith); there = omega (arith, first.there); right_before = in_front_of (IsSuited purpose (argument_role purpose)) t ts first.number right first.right_before; first = first.first }
 
 arguments_answer : (purpose : Purpose) (i : ℕ) (ts : List Tree) → ArgumentsAnswer purpose i ts (first_in_arguments purpose i ts)
 arguments_answer purpose i [] = λ j h. absurd (omega arith)
@@ -89,17 +81,9 @@ PromotedAnswer i ts (Some f) = FirstPromoted i ts f
 promoted_in_front : (i : ℕ) (t : Tree) (ts : List Tree) (b : Bool) (g : Option SignatureFault) → is_promoted t ≡ b → PromotedAnswer (i + 1) ts g → PromotedAnswer i (t ∷ ts) (cond b (Some (bad_argument_type i)) g)
 promoted_in_front i t ts true g bad others =
     record { number = 0; leads = ap bad_argument_type (omega arith); there = omega arith; bad = bad; right_before = λ j h. absurd (omega arith) }
-promoted_in_front i t ts false None right rights = each
-  where
-    each : (j : ℕ) → j < length (t ∷ ts) → is_promoted (tree_at (t ∷ ts) j) ≡ false
-    each zero h = right
-    each (suc j) h = rights j (omega arith)
+promoted_in_front i t ts false None right rights = in_front_of (λ u. is_promoted u ≡ false) t ts (length ts) right rights
 promoted_in_front i t ts false (Some g) right first =
-    record { number = suc first.number; leads = first.leads ∙ ap bad_argument_type (omega arith); there = omega (arith, first.there); bad = first.bad; right_before = each }
-  where
-    each : (j : ℕ) → j < suc first.number → is_promoted (tree_at (t ∷ ts) j) ≡ false
-    each zero h = right
-    each (suc j) h = first.right_before j (omega arith)
+    record { number = suc first.number; leads = first.leads ∙ ap bad_argument_type (omega arith); there = omega (arith, first.there); bad = first.bad; right_before = in_front_of (λ u. is_promoted u ≡ false) t ts first.number right first.right_before }
 
 promoted_answer : (i : ℕ) (ts : List Tree) → PromotedAnswer i ts (first_promoted i ts)
 promoted_answer i [] = λ j h. absurd (omega arith)
@@ -109,24 +93,19 @@ promoted_answer i (t ∷ ts) =
 after_drop : (n : ℕ) (ts : List Tree) (i : ℕ) → tree_at (drop n ts) i ≡ tree_at ts (n + i)
 after_drop n ts i = get_or-drop n ts i void
 
+behind_drop : (n : ℕ) (ts : List Tree) (j : ℕ) → n ≤ j → is_promoted (tree_at (drop n ts) (j - n)) ≡ false → is_promoted (tree_at ts j) ≡ false
+behind_drop n ts j from e =
+    let same : n + (j - n) ≡ j = omega arith in
+    ap (λ k. is_promoted (tree_at ts k)) (sym same) ∙ ap is_promoted (sym (after_drop n ts (j - n))) ∙ e
+
 -- the kinds of faults, one after another
 module _ (purpose : Purpose) (s : Signature) (few : length s.arguments ≤ MOST_ARGUMENTS) where
   module _ (result_right : IsSuited purpose (result_role purpose) s.result_type) where
     module _ (right : (j : ℕ) → j < length s.arguments → IsSuited purpose (argument_role purpose) (tree_at s.arguments j)) where
       by_promoted : (n : ℕ) → s.fixed ≡ Some n → 0 < n → n ≤ length s.arguments → (f : Option SignatureFault) → PromotedAnswer n (drop n s.arguments) f → SignatureAnswers purpose s f
-      by_promoted n is some within None none = right_with_fixed s few result_right right n is some within each
-        where
-          each : (j : ℕ) → n ≤ j → j < length s.arguments → is_promoted (tree_at s.arguments j) ≡ false
-          each j from below =
-              let same : n + (j - n) ≡ j = omega arith in
-              ap (λ k. is_promoted (tree_at s.arguments k)) (sym same) ∙ ap is_promoted (sym (after_drop n s.arguments (j - n))) ∙ none (j - n) (omega (arith, length-drop n s.arguments))
+      by_promoted n is some within None none = right_with_fixed s few result_right right n is some within (λ j from below. behind_drop n s.arguments j from (none (j - n) (omega (arith, length-drop n s.arguments))))
       by_promoted n is some within (Some f) p =
-          subst (IsFirstFaultFor purpose s) (sym p.leads) (known.first_promoted s few result_right right n is some within (n + p.number) (omega arith) (omega (arith, p.there, length-drop n s.arguments)) (ap is_promoted (sym (after_drop n s.arguments p.number)) ∙ p.bad) each)
-        where
-          each : (j : ℕ) → n ≤ j → j < n + p.number → is_promoted (tree_at s.arguments j) ≡ false
-          each j from below =
-              let same : n + (j - n) ≡ j = omega arith in
-              ap (λ k. is_promoted (tree_at s.arguments k)) (sym same) ∙ ap is_promoted (sym (after_drop n s.arguments (j - n))) ∙ p.right_before (j - n) (omega arith)
+          subst (IsFirstFaultFor purpose s) (sym p.leads) (known.first_promoted s few result_right right n is some within (n + p.number) (omega arith) (omega (arith, p.there, length-drop n s.arguments)) (ap is_promoted (sym (after_drop n s.arguments p.number)) ∙ p.bad) (λ j from below. behind_drop n s.arguments j from (p.right_before (j - n) (omega arith))))
 
       by_number : (n : ℕ) → s.fixed ≡ Some n → (b : Bool) → ((n == 0) || nat_lt (length s.arguments) n) ≡ b → SignatureAnswers purpose s (cond b (Some (bad_fixed n (length s.arguments))) (first_promoted n (drop n s.arguments)))
       by_number n is true e =
@@ -177,36 +156,17 @@ one_found_fault p f q g (of_long_double calls right long) (of_long_double calls'
 -- two faults of one kind and of one argument, of which each is the first there, are the same
 same_by_kind : (purpose : Purpose) (s : Signature) (f g : SignatureFault) → IsFaultFor purpose s f → IsFaultFor purpose s g → kind_rank f ≡ kind_rank g → argument_number f ≡ argument_number g → f ≡ g
 same_by_kind purpose s f g (over_most a) (over_most b) kind number = refl
-same_by_kind purpose s f g (over_most a) (in_result b) kind number = absurd (omega arith)
-same_by_kind purpose s f g (over_most a) (in_argument below b) kind number = absurd (omega arith)
-same_by_kind purpose s f g (over_most a) (fixed_outside is b) kind number = absurd (omega arith)
-same_by_kind purpose s f g (over_most a) (promoted is from below b) kind number = absurd (omega arith)
-same_by_kind purpose s f g (in_result a) (over_most b) kind number = absurd (omega arith)
 same_by_kind purpose s f g (in_result {path = p} {fault = x} a) (in_result {path = q} {fault = y} b) kind number =
     let same = one_found_fault p x q y a b in
     λ i. bad_type at_result (same.0 i) (same.1 i)
-same_by_kind purpose s f g (in_result a) (in_argument below b) kind number = absurd (omega arith)
-same_by_kind purpose s f g (in_result a) (fixed_outside is b) kind number = absurd (omega arith)
-same_by_kind purpose s f g (in_result a) (promoted is from below b) kind number = absurd (omega arith)
-same_by_kind purpose s f g (in_argument low a) (over_most b) kind number = absurd (omega arith)
-same_by_kind purpose s f g (in_argument low a) (in_result b) kind number = absurd (omega arith)
 same_by_kind purpose s f g (in_argument {i = n} {path = p} {fault = x} low a) (in_argument {i = m} {path = q} {fault = y} below b) kind number =
     let same = one_found_fault p x q y a (subst (λ k. IsFoundFault purpose (argument_role purpose) (tree_at s.arguments k) q y) (sym number) b) in
     λ i. bad_type (at_argument (number i)) (same.0 i) (same.1 i)
-same_by_kind purpose s f g (in_argument low a) (fixed_outside is b) kind number = absurd (omega arith)
-same_by_kind purpose s f g (in_argument low a) (promoted is from below b) kind number = absurd (omega arith)
-same_by_kind purpose s f g (fixed_outside is a) (over_most b) kind number = absurd (omega arith)
-same_by_kind purpose s f g (fixed_outside is a) (in_result b) kind number = absurd (omega arith)
-same_by_kind purpose s f g (fixed_outside is a) (in_argument below b) kind number = absurd (omega arith)
 same_by_kind purpose s f g (fixed_outside {n = n} is a) (fixed_outside {n = m} has b) kind number =
     let same : n ≡ m = cc in
     ap (λ k. bad_fixed k (length s.arguments)) same
-same_by_kind purpose s f g (fixed_outside is a) (promoted has from below b) kind number = absurd (omega arith)
-same_by_kind purpose s f g (promoted is since low a) (over_most b) kind number = absurd (omega arith)
-same_by_kind purpose s f g (promoted is since low a) (in_result b) kind number = absurd (omega arith)
-same_by_kind purpose s f g (promoted is since low a) (in_argument below b) kind number = absurd (omega arith)
-same_by_kind purpose s f g (promoted is since low a) (fixed_outside has b) kind number = absurd (omega arith)
 same_by_kind purpose s f g (promoted is since low a) (promoted has from below b) kind number = ap bad_argument_type number
+same_by_kind purpose s f g _ _ kind number = absurd (omega arith)
 
 abbrev OrderedFaults : SignatureFault → SignatureFault → Type 0
 OrderedFaults f g = SignatureFaultBefore f g ⊎ (SignatureFaultBefore g f ⊎ (f ≡ g))

@@ -1,178 +1,77 @@
 -- Every layout keeps its laws.
 use Prim.Native.Nat.{◌∣◌}
-use Rattle.std.proofs.Common.{◌≡◌, ℕ, zero, suc, ◌+◌, ◌*◌, ◌%◌, ◌<◌, ◌≤◌, inl, inr, max, List, [], ◌∷◌, ◌++◌, map, length, refl, ap, sym, ◌∙◌, subst, arith}
+use Rattle.std.proofs.Common.{◌≡◌, ℕ, zero, suc, ◌+◌, ◌*◌, ◌<◌, ◌≤◌, inl, inr, max, List, [], ◌∷◌, ◌++◌, map, length, refl, ap, sym, ◌∙◌, subst, arith}
 use Rattle.std.specs.Prelude.{◌⊎◌, Some, None, slice_get, slice_index_or, option_and_then}
-use Rattle.std.proofs.Math.Nat.{dvd-add}
-use Rattle.std.proofs.lemmas.Nat.Gcd.{dvd_refl, dvd-zero, dvd_trans, dvd_of_mod-eq-zero, mod-eq-zero_of_dvd}
+use Rattle.std.proofs.Math.Nat.{dvd-add, mul-dvd-mul_left}
+use Rattle.std.proofs.lemmas.Nat.Gcd.{dvd_refl, dvd-zero, dvd_trans, le_of_dvd, dvd_of_mod-eq-zero, mod-eq-zero_of_dvd}
+use Rattle.std.specs.List.{All, Contains}
+use Rattle.std.proofs.lemmas.List.{get_or_default, get_or-map, length-map}
+use Rattle.std.proofs.lemmas.List.Elements.{All-nil, All-cons, All-append, All-weaker, All-map, Contains-append_left, Contains-append_right}
 use Rattle.std.proofs.lemmas.Bool.{cases_lt}
-use Rattle.ffi3_type_spec.specs.Tree.{Tree, void, scalar, left_out, structure, Trees, no_trees, tree, tree_at, list_of, Scalar, u8, s8, u16, s16, u32, s32, u64, s64, u128, s128, float, double, pointer, x87, binary128, array, first_of, elements_of}
+use Rattle.ffi3_type_spec.specs.Tree.{Tree, void, scalar, left_out, structure, Trees, no_trees, tree, tree_at, list_of, Scalar, u8, s8, u16, s16, u32, s32, u128, s128, float, x87, binary128, array, first_of, elements_of}
 use Rattle.ffi3_type_spec.specs.Layout.{Layout, Leaf, layout, layouts, nothing, element, end_before, start_of, align_before, leaves_before, moved, least_multiple, struct_layout, scalar_size, scalar_room, scalar_layout, leaves_of, leaf_at, size_of, align_of, repeated, array_layout, offset_of}
 use Rattle.ffi3_type_spec.specs.LayoutLaws.{leaf_end, offset_on, StandsOnPath, HasLeafAt, IsWellLaidOut, element_on}
-use Rattle.ffi3_type_spec.proofs.Layouts.{least_multiple-above, scalar_size-room}
+use Rattle.ffi3_type_spec.proofs.Layouts.{least_multiple-above, scalar_size-bounds, scalar_size-room}
 use Rattle.ffi3_type_spec.proofs.LeastMultiples.{least_multiple-divides, times_divides}
 use Rattle.ffi3_type_spec.proofs.Arrays.{length_of_equal, one_of_equal}
-use Rattle.ffi3_type_spec.proofs.StructLaws.{element_placed, greatest_alignment, least_size}
+use Rattle.ffi3_type_spec.proofs.StructLaws.{length_is, element_placed, greatest_alignment, least_size}
 use Rattle.ffi3_type_spec.proofs.Faults.{element_is, no_element}
 
--- the alignments
-data Power : Type 0 where
-  p1 : Power
-  p2 : Power
-  p4 : Power
-  p8 : Power
-  p16 : Power
-
-abbrev bytes : Power → ℕ
-bytes p1 = 1
-bytes p2 = 2
-bytes p4 = 4
-bytes p8 = 8
-bytes p16 = 16
-
-abbrev greater : Power → Power → Power
-greater p1 q = q
-greater p2 p1 = p2
-greater p2 q = q
-greater p4 p8 = p8
-greater p4 p16 = p16
-greater p4 q = p4
-greater p8 p16 = p16
-greater p8 q = p8
-greater p16 q = p16
-
-greater-is : (p q : Power) → max (bytes p) (bytes q) ≡ bytes (greater p q)
-greater-is p1 p1 = refl
-greater-is p1 p2 = refl
-greater-is p1 p4 = refl
-greater-is p1 p8 = refl
-greater-is p1 p16 = refl
-greater-is p2 p1 = refl
-greater-is p2 p2 = refl
-greater-is p2 p4 = refl
-greater-is p2 p8 = refl
-greater-is p2 p16 = refl
-greater-is p4 p1 = refl
-greater-is p4 p2 = refl
-greater-is p4 p4 = refl
-greater-is p4 p8 = refl
-greater-is p4 p16 = refl
-greater-is p8 p1 = refl
-greater-is p8 p2 = refl
-greater-is p8 p4 = refl
-greater-is p8 p8 = refl
-greater-is p8 p16 = refl
-greater-is p16 p1 = refl
-greater-is p16 p2 = refl
-greater-is p16 p4 = refl
-greater-is p16 p8 = refl
-greater-is p16 p16 = refl
-
-left_divides : (p q : Power) → bytes (greater p q) % bytes p ≡ 0
-left_divides p1 p1 = refl
-left_divides p1 p2 = refl
-left_divides p1 p4 = refl
-left_divides p1 p8 = refl
-left_divides p1 p16 = refl
-left_divides p2 p1 = refl
-left_divides p2 p2 = refl
-left_divides p2 p4 = refl
-left_divides p2 p8 = refl
-left_divides p2 p16 = refl
-left_divides p4 p1 = refl
-left_divides p4 p2 = refl
-left_divides p4 p4 = refl
-left_divides p4 p8 = refl
-left_divides p4 p16 = refl
-left_divides p8 p1 = refl
-left_divides p8 p2 = refl
-left_divides p8 p4 = refl
-left_divides p8 p8 = refl
-left_divides p8 p16 = refl
-left_divides p16 p1 = refl
-left_divides p16 p2 = refl
-left_divides p16 p4 = refl
-left_divides p16 p8 = refl
-left_divides p16 p16 = refl
-
-right_divides : (p q : Power) → bytes (greater p q) % bytes q ≡ 0
-right_divides p1 p1 = refl
-right_divides p1 p2 = refl
-right_divides p1 p4 = refl
-right_divides p1 p8 = refl
-right_divides p1 p16 = refl
-right_divides p2 p1 = refl
-right_divides p2 p2 = refl
-right_divides p2 p4 = refl
-right_divides p2 p8 = refl
-right_divides p2 p16 = refl
-right_divides p4 p1 = refl
-right_divides p4 p2 = refl
-right_divides p4 p4 = refl
-right_divides p4 p8 = refl
-right_divides p4 p16 = refl
-right_divides p8 p1 = refl
-right_divides p8 p2 = refl
-right_divides p8 p4 = refl
-right_divides p8 p8 = refl
-right_divides p8 p16 = refl
-right_divides p16 p1 = refl
-right_divides p16 p2 = refl
-right_divides p16 p4 = refl
-right_divides p16 p8 = refl
-right_divides p16 p16 = refl
-
-abbrev IsPower : ℕ → Type 0
-IsPower a = (p : Power) × (a ≡ bytes p)
+-- the alignments are powers of two
+pub data IsPower : ℕ → Type 0 where
+  one : IsPower 1
+  twice : {a : ℕ} → IsPower a → IsPower (2 * a)
 
 power_positive : (a : ℕ) → IsPower a → 0 < a
-power_positive a (p1, e) = omega arith
-power_positive a (p2, e) = omega arith
-power_positive a (p4, e) = omega arith
-power_positive a (p8, e) = omega arith
-power_positive a (p16, e) = omega arith
+power_positive _ one = omega arith
+power_positive _ (twice {a = b} p) = omega (arith, power_positive b p)
+
+-- of two of them one divides the other
+comparable : (a b : ℕ) → IsPower a → IsPower b → (a ∣ b) ⊎ (b ∣ a)
+comparable _ b one q = inl (dvd_of_mod-eq-zero 1 (omega arith))
+comparable _ _ (twice {a = c} p) one = inr (dvd_of_mod-eq-zero 1 (omega arith))
+comparable _ _ (twice {a = c} p) (twice {a = d} q) =
+    elim (comparable c d p q) [ inl e ↦ inl (mul-dvd-mul_left c 2 e) | inr e ↦ inr (mul-dvd-mul_left d 2 e) ]
 
 max_power : (a b : ℕ) → IsPower a → IsPower b → IsPower (max a b)
-max_power a b (p, e) (q, f) = (greater p q, ap (λ n. max n b) e ∙ ap (max (bytes p)) f ∙ greater-is p q)
+max_power a b p q =
+    elim (cases_lt a b) [
+      | inl less ↦ let whole : b ≡ max a b = omega arith in subst IsPower whole q
+      | inr at_least ↦ let whole : a ≡ max a b = omega arith in subst IsPower whole p
+    ]
 
 max_left : (a b : ℕ) → IsPower a → IsPower b → a ∣ max a b
-unfolding max_power
-max_left a b (p, e) (q, f) =
-    let whole : max a b ≡ bytes (greater p q) = (max_power a b (p, e) (q, f)).1 in
-    dvd_of_mod-eq-zero a (ap (λ n. n % a) whole ∙ ap (λ n. bytes (greater p q) % n) e ∙ left_divides p q)
+max_left a b p q =
+    elim (comparable a b p q) [
+      | inl d ↦ let whole : b ≡ max a b = omega (arith, le_of_dvd (power_positive b q) d) in subst (λ n. a ∣ n) whole d
+      | inr d ↦ let whole : a ≡ max a b = omega (arith, le_of_dvd (power_positive a p) d) in subst (λ n. a ∣ n) whole (dvd_refl a)
+    ]
 
 max_right : (a b : ℕ) → IsPower a → IsPower b → b ∣ max a b
-unfolding max_power
-max_right a b (p, e) (q, f) =
-    let whole : max a b ≡ bytes (greater p q) = (max_power a b (p, e) (q, f)).1 in
-    dvd_of_mod-eq-zero b (ap (λ n. n % b) whole ∙ ap (λ n. bytes (greater p q) % n) f ∙ right_divides p q)
+max_right a b p q = let turned : max b a ≡ max a b = omega arith in subst (λ n. b ∣ n) turned (max_left b a q p)
 
 scalar_power : (s : Scalar) → IsPower (scalar_room s)
-scalar_power u8 = (p1, refl)
-scalar_power s8 = (p1, refl)
-scalar_power u16 = (p2, refl)
-scalar_power s16 = (p2, refl)
-scalar_power u32 = (p4, refl)
-scalar_power s32 = (p4, refl)
-scalar_power u64 = (p8, refl)
-scalar_power s64 = (p8, refl)
-scalar_power u128 = (p16, refl)
-scalar_power s128 = (p16, refl)
-scalar_power float = (p4, refl)
-scalar_power double = (p8, refl)
-scalar_power pointer = (p8, refl)
-scalar_power x87 = (p16, refl)
-scalar_power binary128 = (p16, refl)
+scalar_power u8 = one
+scalar_power s8 = one
+scalar_power u16 = twice one
+scalar_power s16 = twice one
+scalar_power u32 = twice (twice one)
+scalar_power s32 = twice (twice one)
+scalar_power float = twice (twice one)
+scalar_power u128 = twice (twice (twice (twice one)))
+scalar_power s128 = twice (twice (twice (twice one)))
+scalar_power x87 = twice (twice (twice (twice one)))
+scalar_power binary128 = twice (twice (twice (twice one)))
+scalar_power _ = twice (twice (twice one))
 
 -- leaves from one place up to another
-abbrev Rising : ℕ → List Leaf → ℕ → Type 0
+abbrev pub Rising : ℕ → List Leaf → ℕ → Type 0
 Rising from [] to = from ≤ to
 Rising from (l ∷ ls) to = (from ≤ l.at) × Rising (leaf_end l) ls to
 
--- leaves aligned as their kinds are, in a type of this alignment
-abbrev AlignedIn : ℕ → List Leaf → Type 0
-AlignedIn align [] = Unit {0}
-AlignedIn align (l ∷ ls) =
-    (scalar_room l.kind ∣ l.at) × (scalar_room l.kind ∣ align) × AlignedIn align ls
+-- a leaf that is aligned as its kind is, in a type of this alignment
+abbrev pub IsAligned : ℕ → Leaf → Type 0
+IsAligned align l = (scalar_room l.kind ∣ l.at) × (scalar_room l.kind ∣ align)
 
 rising-further : (from : ℕ) (ls : List Leaf) (to further : ℕ) → to ≤ further → Rising from ls to → Rising from ls further
 rising-further from [] to further h r = omega arith
@@ -192,27 +91,21 @@ rising-moved by from (l ∷ ls) to r =
     let same : by + leaf_end l ≡ by + l.at + scalar_size l.kind = omega arith in
     (omega (arith, r.0), subst (λ n. Rising n (map (moved by) ls) (by + to)) same (rising-moved by (leaf_end l) ls to r.1))
 
-aligned-append : (align : ℕ) (xs ys : List Leaf) → AlignedIn align xs → AlignedIn align ys → AlignedIn align (xs ++ ys)
-aligned-append align [] ys a b = b
-aligned-append align (x ∷ xs) ys a b = (a.0, a.1, aligned-append align xs ys a.2 b)
-
 -- moved by a multiple of their type's alignment, in a type whose alignment is a multiple of it too
-aligned-moved : (inner outer by : ℕ) (ls : List Leaf) → inner ∣ by → inner ∣ outer → AlignedIn inner ls → AlignedIn outer (map (moved by) ls)
-aligned-moved inner outer by [] d e a = tt
-aligned-moved inner outer by (l ∷ ls) d e a =
-    let k = scalar_room l.kind in
-    (dvd-add k (dvd_trans k a.1 d) a.0, dvd_trans k a.1 e, aligned-moved inner outer by ls d e a.2)
+aligned-moved : (inner outer by : ℕ) (ls : List Leaf) → inner ∣ by → inner ∣ outer → All (IsAligned inner) ls → All (IsAligned outer) (map (moved by) ls)
+aligned-moved inner outer by ls d e each =
+    All-map (IsAligned outer) (moved by) ls (All-weaker (IsAligned inner) (λ l. IsAligned outer (moved by l)) (λ l a. let k = scalar_room l.kind in (dvd-add k (dvd_trans k a.1 d) a.0, dvd_trans k a.1 e)) ls each)
 
-record IsWell (l : Layout) : Type 0 where
-  power : IsPower l.align
-  whole : l.align ∣ l.size
-  rising : Rising 0 l.leaves l.size
-  aligned : AlignedIn l.align l.leaves
+pub record IsWell (l : Layout) : Type 0 where
+  pub power : IsPower l.align
+  pub whole : l.align ∣ l.size
+  pub rising : Rising 0 l.leaves l.size
+  pub aligned : All (IsAligned l.align) l.leaves
 
 -- a struct of elements that keep the laws
 module _ (es : List Layout) (well : (k : ℕ) → IsWell (element es k)) where
   align_power : (n : ℕ) → IsPower (align_before es n)
-  align_power zero = (p1, refl)
+  align_power zero = one
   align_power (suc n) = max_power (align_before es n) (element es n).align (align_power n) (well n).power
 
   align_divides : (k n : ℕ) → k < n → (element es k).align ∣ align_before es n
@@ -232,12 +125,12 @@ module _ (es : List Layout) (well : (k : ℕ) → IsWell (element es k)) where
       let there = subst (λ j. Rising j (map (moved start) (element es n).leaves) (start + (element es n).size)) none (rising-moved start 0 (element es n).leaves (element es n).size (well n).rising) in
       rising-append 0 (leaves_before es n) start (map (moved start) (element es n).leaves) (end_before es (suc n)) (rising-further 0 (leaves_before es n) (end_before es n) start (least_multiple-above (element es n).align (end_before es n)) (rising_before n)) there
 
-  aligned_before : (n align : ℕ) → ((k : ℕ) → k < n → (element es k).align ∣ align) → AlignedIn align (leaves_before es n)
-  aligned_before zero align h = tt
+  aligned_before : (n align : ℕ) → ((k : ℕ) → k < n → (element es k).align ∣ align) → All (IsAligned align) (leaves_before es n)
+  aligned_before zero align h = All-nil (IsAligned align)
   aligned_before (suc n) align h =
       let start = start_of es n in
       let a = (element es n).align in
-      aligned-append align (leaves_before es n) (map (moved start) (element es n).leaves) (aligned_before n align (λ k below. h k (omega arith))) (aligned-moved a align start (element es n).leaves (least_multiple-divides a (end_before es n) (power_positive a (well n).power)) (h n (omega arith)) (well n).aligned)
+      All-append (IsAligned align) (leaves_before es n) (map (moved start) (element es n).leaves) (aligned_before n align (λ k below. h k (omega arith))) (aligned-moved a align start (element es n).leaves (least_multiple-divides a (end_before es n) (power_positive a (well n).power)) (h n (omega arith)) (well n).aligned)
 
   struct_well : IsWell (struct_layout es)
   struct_well =
@@ -262,31 +155,31 @@ module _ (l : Layout) (well : IsWell l) where
       let there = subst (λ j. Rising j (map (moved start) l.leaves) (start + l.size)) none moved_there in
       rising-append 0 (repeated l n) start (map (moved start) l.leaves) (suc n * l.size) (rising_repeated n) (subst (λ j. Rising start (map (moved start) l.leaves) j) more there)
 
-  aligned_repeated : (n : ℕ) → AlignedIn l.align (repeated l n)
-  aligned_repeated zero = tt
+  aligned_repeated : (n : ℕ) → All (IsAligned l.align) (repeated l n)
+  aligned_repeated zero = All-nil (IsAligned l.align)
   aligned_repeated (suc n) =
-      aligned-append l.align (repeated l n) (map (moved (n * l.size)) l.leaves) (aligned_repeated n) (aligned-moved l.align l.align (n * l.size) l.leaves (times_divides l.align l.size n well.whole) (dvd_refl l.align) well.aligned)
+      All-append (IsAligned l.align) (repeated l n) (map (moved (n * l.size)) l.leaves) (aligned_repeated n) (aligned-moved l.align l.align (n * l.size) l.leaves (times_divides l.align l.size n well.whole) (dvd_refl l.align) well.aligned)
 
   array_well : (n : ℕ) → IsWell (array_layout l n)
   array_well n =
       record { power = well.power; whole = times_divides l.align l.size n well.whole; rising = rising_repeated n; aligned = aligned_repeated n }
 
 nothing_well : IsWell nothing
-nothing_well = record { power = (p1, refl); whole = dvd-zero 1; rising = omega arith; aligned = tt }
+nothing_well = record { power = one; whole = dvd-zero 1; rising = omega arith; aligned = All-nil (IsAligned 1) }
 
 scalar_well : (s : Scalar) → IsWell (scalar_layout s)
 scalar_well s =
-    record { power = scalar_power s; whole = dvd_refl (scalar_room s); rising = (omega arith, omega (arith, scalar_size-room s)); aligned = (dvd-zero (scalar_room s), dvd_refl (scalar_room s), tt) }
+    record { power = scalar_power s; whole = dvd_refl (scalar_room s); rising = (omega arith, omega (arith, scalar_size-room s)); aligned = All-cons (IsAligned (scalar_room s)) _ [] (dvd-zero (scalar_room s), dvd_refl (scalar_room s)) (All-nil (IsAligned (scalar_room s))) }
 
 mutual
-  tree_well : (t : Tree) → IsWell (layout t)
+  pub tree_well : (t : Tree) → IsWell (layout t)
   tree_well void = nothing_well
   tree_well (scalar s) = scalar_well s
   tree_well (left_out k) = nothing_well
   tree_well (structure ts) = struct_well (layouts ts) (trees_well ts)
   tree_well (array ts n) = array_well (element (layouts ts) 0) (trees_well ts 0) n
 
-  trees_well : (ts : Trees) (k : ℕ) → IsWell (element (layouts ts) k)
+  pub trees_well : (ts : Trees) (k : ℕ) → IsWell (element (layouts ts) k)
   trees_well no_trees k = nothing_well
   trees_well (tree t ts) zero = tree_well t
   trees_well (tree t ts) (suc k) = trees_well ts k
@@ -296,12 +189,17 @@ rising-end : (from : ℕ) (ls : List Leaf) (to : ℕ) → Rising from ls to → 
 rising-end from [] to r = r
 rising-end from (l ∷ ls) to r = omega (arith, r.0, rising-end (leaf_end l) ls to r.1)
 
-rising-inside : (from : ℕ) (ls : List Leaf) (to i : ℕ) (d : Leaf) → i < length ls → Rising from ls to → (from ≤ (slice_index_or ls i d).at) × (leaf_end (slice_index_or ls i d) ≤ to)
+pub rising-inside : (from : ℕ) (ls : List Leaf) (to i : ℕ) (d : Leaf) → i < length ls → Rising from ls to → (from ≤ (slice_index_or ls i d).at) × (leaf_end (slice_index_or ls i d) ≤ to)
 rising-inside from [] to i d h r = absurd (omega arith)
 rising-inside from (l ∷ ls) to zero d h r = (r.0, rising-end (leaf_end l) ls to r.1)
 rising-inside from (l ∷ ls) to (suc i) d h r =
     let inner = rising-inside (leaf_end l) ls to i d (omega arith) r.1 in
     (omega (arith, inner.0, r.0), inner.1)
+
+-- there is a byte for each leaf
+pub rising-count : (from : ℕ) (ls : List Leaf) (to : ℕ) → Rising from ls to → from + length ls ≤ to
+rising-count from [] to r = omega (arith, r)
+rising-count from (l ∷ ls) to r = omega (arith, r.0, (scalar_size-bounds l.kind).0, rising-count (leaf_end l) ls to r.1)
 
 rising-order : (from : ℕ) (ls : List Leaf) (to i j : ℕ) (d : Leaf) → i < j → j < length ls → Rising from ls to → leaf_end (slice_index_or ls i d) ≤ (slice_index_or ls j d).at
 rising-order from [] to i j d h k r = absurd (omega arith)
@@ -309,62 +207,41 @@ rising-order from (l ∷ ls) to i zero d h k r = absurd (omega arith)
 rising-order from (l ∷ ls) to zero (suc j) d h k r = (rising-inside (leaf_end l) ls to j d (omega arith) r.1).0
 rising-order from (l ∷ ls) to (suc i) (suc j) d h k r = rising-order (leaf_end l) ls to i j d (omega arith) (omega arith) r.1
 
-aligned-at : (align : ℕ) (ls : List Leaf) (i : ℕ) (d : Leaf) → i < length ls → AlignedIn align ls → scalar_room (slice_index_or ls i d).kind ∣ (slice_index_or ls i d).at
-aligned-at align [] i d h a = absurd (omega arith)
-aligned-at align (l ∷ ls) zero d h a = a.0
-aligned-at align (l ∷ ls) (suc i) d h a = aligned-at align ls i d (omega arith) a.2
+-- the paths of leaves: a leaf of element k is one of the whole
+stands-moved : (t : Tree) (k start : ℕ) (ls : List Leaf) → k < length (elements_of t) → offset_of t k ≡ start → All (StandsOnPath (tree_at (elements_of t) k)) ls → All (StandsOnPath t) (map (moved start) ls)
+stands-moved t k start ls h s each =
+    All-map (StandsOnPath t) (moved start) ls (All-weaker (StandsOnPath (tree_at (elements_of t) k)) (λ l. StandsOnPath t (moved start l)) one_of_whole ls each)
+  where
+    one_of_whole : (l : Leaf) → StandsOnPath (tree_at (elements_of t) k) l → StandsOnPath t (moved start l)
+    one_of_whole l e =
+        let leads = ap (option_and_then (element_on e.path)) (element_is (elements_of t) k h) ∙ e.leads in
+        let starts : start + l.at ≡ offset_of t k + offset_on e.path (tree_at (elements_of t) k) = omega (arith, s, e.starts) in
+        record { path = k ∷ e.path; leads = leads; starts = starts }
 
--- the paths of leaves
-abbrev EachStands : Tree → List Leaf → Type 0
-EachStands t [] = Unit {0}
-EachStands t (l ∷ ls) = StandsOnPath t l × EachStands t ls
-
-stands-at : (t : Tree) (ls : List Leaf) (i : ℕ) (d : Leaf) → i < length ls → EachStands t ls → StandsOnPath t (slice_index_or ls i d)
-stands-at t [] i d h e = absurd (omega arith)
-stands-at t (l ∷ ls) zero d h e = e.0
-stands-at t (l ∷ ls) (suc i) d h e = stands-at t ls i d (omega arith) e.1
-
-stands-append : (t : Tree) (xs ys : List Leaf) → EachStands t xs → EachStands t ys → EachStands t (xs ++ ys)
-stands-append t [] ys a b = b
-stands-append t (x ∷ xs) ys a b = (a.0, stands-append t xs ys a.1 b)
-
--- a leaf of element k is one of the whole
-stands-moved : (t : Tree) (k start : ℕ) (ls : List Leaf) → k < length (elements_of t) → offset_of t k ≡ start → EachStands (tree_at (elements_of t) k) ls → EachStands t (map (moved start) ls)
-stands-moved t k start [] h s e = tt
-stands-moved t k start (l ∷ ls) h s e =
-    let first = e.0 in
-    let leads = ap (option_and_then (element_on first.path)) (element_is (elements_of t) k h) ∙ first.leads in
-    let starts : start + l.at ≡ offset_of t k + offset_on first.path (tree_at (elements_of t) k) = omega (arith, s, first.starts) in
-    (record { path = k ∷ first.path; leads = leads; starts = starts }, stands-moved t k start ls h s e.1)
-
-stands_before : (ts : Trees) → ((k : ℕ) → EachStands (tree_at (list_of ts) k) (element (layouts ts) k).leaves) → (n : ℕ) → n ≤ length (list_of ts) → EachStands (structure ts) (leaves_before (layouts ts) n)
-stands_before ts each zero h = tt
+stands_before : (ts : Trees) → ((k : ℕ) → All (StandsOnPath (tree_at (list_of ts) k)) (element (layouts ts) k).leaves) → (n : ℕ) → n ≤ length (list_of ts) → All (StandsOnPath (structure ts)) (leaves_before (layouts ts) n)
+stands_before ts each zero h = All-nil (StandsOnPath (structure ts))
 stands_before ts each (suc n) h =
-    stands-append (structure ts) (leaves_before (layouts ts) n) (map (moved (start_of (layouts ts) n)) (element (layouts ts) n).leaves) (stands_before ts each n (omega arith)) (stands-moved (structure ts) n (start_of (layouts ts) n) (element (layouts ts) n).leaves (omega arith) refl (each n))
+    All-append (StandsOnPath (structure ts)) (leaves_before (layouts ts) n) (map (moved (start_of (layouts ts) n)) (element (layouts ts) n).leaves) (stands_before ts each n (omega arith)) (stands-moved (structure ts) n (start_of (layouts ts) n) (element (layouts ts) n).leaves (omega arith) refl (each n))
 
-stands_repeated : (ts : Trees) (n : ℕ) → EachStands (first_of ts) (element (layouts ts) 0).leaves → (m : ℕ) → m ≤ n → EachStands (array ts n) (repeated (element (layouts ts) 0) m)
-stands_repeated ts n each zero h = tt
+stands_repeated : (ts : Trees) (n : ℕ) → All (StandsOnPath (first_of ts)) (element (layouts ts) 0).leaves → (m : ℕ) → m ≤ n → All (StandsOnPath (array ts n)) (repeated (element (layouts ts) 0) m)
+stands_repeated ts n each zero h = All-nil (StandsOnPath (array ts n))
 stands_repeated ts n each (suc m) h =
     let l = element (layouts ts) 0 in
     let count : length (elements_of (array ts n)) ≡ n = length_of_equal n (first_of ts) in
     let here : tree_at (elements_of (array ts n)) m ≡ first_of ts = one_of_equal n m (first_of ts) void (omega arith) in
-    stands-append (array ts n) (repeated l m) (map (moved (m * l.size)) l.leaves) (stands_repeated ts n each m (omega arith)) (stands-moved (array ts n) m (m * l.size) l.leaves (omega (arith, count, h)) refl (subst (λ t. EachStands t l.leaves) (sym here) each))
-
-length-trees : (ts : Trees) → length (layouts ts) ≡ length (list_of ts)
-length-trees no_trees = refl
-length-trees (tree t ts) = ap suc (length-trees ts)
+    All-append (StandsOnPath (array ts n)) (repeated l m) (map (moved (m * l.size)) l.leaves) (stands_repeated ts n each m (omega arith)) (stands-moved (array ts n) m (m * l.size) l.leaves (omega (arith, count, h)) refl (subst (λ t. All (StandsOnPath t) l.leaves) (sym here) each))
 
 mutual
-  tree_stands : (t : Tree) → EachStands t (leaves_of t)
-  tree_stands void = tt
-  tree_stands (scalar s) = (record { path = []; leads = refl; starts = refl }, tt)
-  tree_stands (left_out k) = tt
+  tree_stands : (t : Tree) → All (StandsOnPath t) (leaves_of t)
+  tree_stands void = All-nil (StandsOnPath void)
+  tree_stands (scalar s) = All-cons (StandsOnPath (scalar s)) _ [] (record { path = []; leads = refl; starts = refl }) (All-nil (StandsOnPath (scalar s)))
+  tree_stands (left_out k) = All-nil (StandsOnPath (left_out k))
   tree_stands (structure ts) =
-      stands_before ts (trees_stands ts) (length (layouts ts)) (omega (arith, length-trees ts))
+      stands_before ts (trees_stands ts) (length (layouts ts)) (omega (arith, length_is ts))
   tree_stands (array ts n) = stands_repeated ts n (trees_stands ts 0) n (omega arith)
 
-  trees_stands : (ts : Trees) (k : ℕ) → EachStands (tree_at (list_of ts) k) (element (layouts ts) k).leaves
-  trees_stands no_trees k = tt
+  trees_stands : (ts : Trees) (k : ℕ) → All (StandsOnPath (tree_at (list_of ts) k)) (element (layouts ts) k).leaves
+  trees_stands no_trees k = All-nil (StandsOnPath void)
   trees_stands (tree t ts) zero = tree_stands t
   trees_stands (tree t ts) (suc k) = trees_stands ts k
 
@@ -372,39 +249,27 @@ mutual
 
 -- a leaf of the list has this offset and kind
 abbrev Among : ℕ → Scalar → List Leaf → Type 0
-Among at s [] = ⊥
-Among at s (l ∷ ls) = ((l.at ≡ at) × (l.kind ≡ s)) ⊎ Among at s ls
-
-among-left : (at : ℕ) (s : Scalar) (xs ys : List Leaf) → Among at s xs → Among at s (xs ++ ys)
-among-left at s [] ys h = absurd h
-among-left at s (x ∷ xs) ys (inl here) = inl here
-among-left at s (x ∷ xs) ys (inr later) = inr (among-left at s xs ys later)
-
-among-right : (at : ℕ) (s : Scalar) (xs ys : List Leaf) → Among at s ys → Among at s (xs ++ ys)
-among-right at s [] ys h = h
-among-right at s (x ∷ xs) ys h = inr (among-right at s xs ys h)
+Among at s ls = Contains ls (record { at = at; kind = s })
 
 among-moved : (by at : ℕ) (s : Scalar) (ls : List Leaf) → Among at s ls → Among (by + at) s (map (moved by) ls)
-among-moved by at s [] h = absurd h
-among-moved by at s (l ∷ ls) (inl here) = inl (ap (λ n. by + n) here.0, here.1)
-among-moved by at s (l ∷ ls) (inr later) = inr (among-moved by at s ls later)
+among-moved by at s ls h = (h.0, omega (arith, h.1, length-map ls (moved by)), get_or-map (moved by) ls h.0 _ _ h.1 ∙ ap (moved by) h.2)
 
 among-before : (es : List Layout) (k n at : ℕ) (s : Scalar) → k < n → Among at s (element es k).leaves → Among (start_of es k + at) s (leaves_before es n)
 among-before es k zero at s h there = absurd (omega arith)
 among-before es k (suc n) at s h there =
     elim (cases_lt k n) [
-      | inl earlier ↦ among-left (start_of es k + at) s (leaves_before es n) _ (among-before es k n at s earlier there)
+      | inl earlier ↦ Contains-append_left (leaves_before es n) _ _ (among-before es k n at s earlier there)
       | inr here ↦ let same : k ≡ n = omega arith in
-          among-right (start_of es k + at) s (leaves_before es n) _ (subst (λ (j : ℕ). Among (start_of es k + at) s (map (moved (start_of es j)) (element es j).leaves)) same (among-moved (start_of es k) at s (element es k).leaves there))
+          Contains-append_right (leaves_before es n) _ _ (subst (λ (j : ℕ). Among (start_of es k + at) s (map (moved (start_of es j)) (element es j).leaves)) same (among-moved (start_of es k) at s (element es k).leaves there))
     ]
 
 among-repeated : (l : Layout) (k n at : ℕ) (s : Scalar) → k < n → Among at s l.leaves → Among (k * l.size + at) s (repeated l n)
 among-repeated l k zero at s h there = absurd (omega arith)
 among-repeated l k (suc n) at s h there =
     elim (cases_lt k n) [
-      | inl earlier ↦ among-left (k * l.size + at) s (repeated l n) _ (among-repeated l k n at s earlier there)
+      | inl earlier ↦ Contains-append_left (repeated l n) _ _ (among-repeated l k n at s earlier there)
       | inr here ↦ let same : k ≡ n = omega arith in
-          among-right (k * l.size + at) s (repeated l n) _ (subst (λ (j : ℕ). Among (k * l.size + at) s (map (moved (j * l.size)) l.leaves)) same (among-moved (k * l.size) at s l.leaves there))
+          Contains-append_right (repeated l n) _ _ (subst (λ (j : ℕ). Among (k * l.size + at) s (map (moved (j * l.size)) l.leaves)) same (among-moved (k * l.size) at s l.leaves there))
     ]
 
 -- an element of an array on a path is one of its element type, and has a number below the count
@@ -419,14 +284,7 @@ in_element ts n k path t e =
 
 mutual
   tree_there : (t : Tree) (path : List ℕ) (s : Scalar) → element_on path t ≡ Some (scalar s) → Among (offset_on path t) s (leaves_of t)
-  tree_there void [] s h = cc
-  tree_there (left_out k) [] s h = cc
-  tree_there (scalar r) [] s h = inl (refl, cc)
-  tree_there (structure ts) [] s h = cc
-  tree_there (array ts n) [] s h = cc
-  tree_there void (k ∷ path) s h = cc
-  tree_there (left_out j) (k ∷ path) s h = cc
-  tree_there (scalar r) (k ∷ path) s h = cc
+  tree_there (scalar r) [] s h = (0, omega arith, cc)
   tree_there (structure ts) (k ∷ path) s h =
       let inside = trees_there ts k path s h in
       among-before (layouts ts) k (length (layouts ts)) (offset_on path (tree_at (list_of ts) k)) s inside.0 inside.1
@@ -436,6 +294,9 @@ mutual
       let here : first_of ts ≡ tree_at (elements_of (array ts n)) k = sym (one_of_equal n k (first_of ts) void inside.0) in
       let there = among-repeated l k n (offset_on path (first_of ts)) s inside.0 (first_there ts path s inside.1) in
       subst (λ t. Among (k * l.size + offset_on path t) s (repeated l n)) here there
+  tree_there void [] s h = cc
+  tree_there (left_out k) [] s h = cc
+  tree_there _ _ s h = cc
 
   first_there : (ts : Trees) (path : List ℕ) (s : Scalar) → element_on path (first_of ts) ≡ Some (scalar s) → Among (offset_on path (first_of ts)) s (element (layouts ts) 0).leaves
   first_there no_trees [] s h = cc
@@ -449,17 +310,11 @@ mutual
       let inside = trees_there ts k path s h in
       (omega (arith, inside.0), inside.1)
 
-among-at : (at : ℕ) (s : Scalar) (ls : List Leaf) (d : Leaf) → Among at s ls → (i : ℕ) × (i < length ls) × ((slice_index_or ls i d).at ≡ at) × ((slice_index_or ls i d).kind ≡ s)
-among-at at s [] d h = absurd h
-among-at at s (l ∷ ls) d (inl here) = (0, omega arith, here.0, here.1)
-among-at at s (l ∷ ls) d (inr later) =
-    let found = among-at at s ls d later in
-    (suc found.0, omega (arith, found.1), found.2, found.3)
-
 leaf_there : (t : Tree) (path : List ℕ) (s : Scalar) → element_on path t ≡ Some (scalar s) → HasLeafAt t (offset_on path t) s
 leaf_there t path s h =
-    let found = among-at (offset_on path t) s (leaves_of t) (record { at = 0; kind = u8 }) (tree_there t path s h) in
-    record { number = found.0; in_range = found.1; starts = found.2; is = found.3 }
+    let found = tree_there t path s h in
+    let is = get_or_default (leaves_of t) found.0 _ _ found.1 ∙ found.2 in
+    record { number = found.0; in_range = found.1; starts = ap (λ (l : Leaf). l.at) is; is = ap (λ (l : Leaf). l.kind) is }
 
 pub well_laid_out : (t : Tree) → IsWellLaidOut t
 well_laid_out t =
@@ -472,8 +327,8 @@ well_laid_out t =
       least = λ h. least_size t h;
       inside = λ i h. (rising-inside 0 ls (size_of t) i d h well.rising).1;
       in_order = λ i j h k. rising-order 0 ls (size_of t) i j d h k well.rising;
-      aligned = λ i h. mod-eq-zero_of_dvd (scalar_room (leaf_at t i).kind) (aligned-at (align_of t) ls i d h well.aligned);
-      summed = λ i h. stands-at t ls i d h (tree_stands t);
+      aligned = λ i h. mod-eq-zero_of_dvd (scalar_room (leaf_at t i).kind) (well.aligned i d h).0;
+      summed = λ i h. tree_stands t i d h;
       complete = λ path s h. leaf_there t path s h;
       whole = mod-eq-zero_of_dvd (align_of t) well.whole;
     }

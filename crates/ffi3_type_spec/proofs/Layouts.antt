@@ -29,29 +29,25 @@ pub least_multiple-below : (a n : ℕ) → 0 < a → least_multiple a n < n + a
 unfolding least_multiple
 least_multiple-below a n h = omega (arith, mod_below (a - n % a) a h)
 
+-- what does not fall in a step does not fall
+pub rises : (f : ℕ → ℕ) → ((n : ℕ) → f n ≤ f (suc n)) → (i n : ℕ) → i ≤ n → f i ≤ f n
+rises f step i zero h =
+    let same : i ≡ 0 = omega arith in
+    subst (λ k. f k ≤ f 0) (sym same) (omega arith)
+rises f step i (suc n) h =
+    elim (cases_lt i (suc n)) [
+      | inl below ↦ omega (arith, rises f step i n (omega arith), step n)
+      | inr at_least ↦ let same : i ≡ suc n = omega arith in
+          subst (λ k. f k ≤ f (suc n)) (sym same) (omega arith)
+    ]
+
 -- ends do not fall
 pub end_before-le : (es : List Layout) (i n : ℕ) → i ≤ n → end_before es i ≤ end_before es n
-end_before-le es i zero h =
-    let same : i ≡ 0 = omega arith in
-    subst (λ k. end_before es k ≤ 0) (sym same) (omega arith)
-end_before-le es i (suc n) h =
-    let above = least_multiple-above (element es n).align (end_before es n) in
-    elim (cases_lt i (suc n)) [
-      | inl below ↦ omega (arith, end_before-le es i n (omega arith))
-      | inr at_least ↦ let same : i ≡ suc n = omega arith in
-          subst (λ k. end_before es k ≤ end_before es (suc n)) (sym same) (omega arith)
-    ]
+end_before-le es = rises (end_before es) (λ n. omega (arith, least_multiple-above (element es n).align (end_before es n)))
 
 -- each element lies before the end of all
 pub size_le-end : (es : List Layout) (i n : ℕ) → i < n → (element es i).size ≤ end_before es n
-size_le-end es i zero h = absurd (omega arith)
-size_le-end es i (suc n) h =
-    let above = least_multiple-above (element es n).align (end_before es n) in
-    elim (cases_lt i n) [
-      | inl below ↦ omega (arith, size_le-end es i n below)
-      | inr at_least ↦ let same : i ≡ n = omega arith in
-          subst (λ k. (element es k).size ≤ end_before es (suc n)) (sym same) (omega arith)
-    ]
+size_le-end es i n h = omega (arith, end_before-le es (suc i) n (omega arith))
 
 pub size_le-struct : (ts : List Tree) (i : ℕ) → i < length ts → size_of (tree_at ts i) ≤ size_of (struct_of ts)
 size_le-struct ts i h =

@@ -1,50 +1,24 @@
 -- Laws of the leaves of a type.
-use Rattle.std.proofs.Common.{◌≡◌, ℕ, zero, suc, ◌+◌, ◌*◌, ◌<◌, ◌≤◌, ◌-◌, inl, inr, List, [], ◌∷◌, map, length, refl, ap, sym, ◌∙◌, subst, arith, length-append, add-one}
+use Rattle.std.proofs.Common.{◌≡◌, ℕ, zero, suc, ◌+◌, ◌*◌, ◌<◌, ◌≤◌, ◌-◌, inl, inr, List, map, length, refl, ap, sym, ◌∙◌, subst, arith, length-append, add-one}
 use Rattle.std.specs.Prelude.{slice_index_or}
 use Rattle.std.proofs.lemmas.Bool.{cases_lt}
-use Rattle.std.proofs.lemmas.List.{get_or_append_left, get_or-append_right}
-use Rattle.ffi3_type_spec.specs.Tree.{Tree, void, scalar, left_out, structure, array, Trees, no_trees, tree, trees_of, struct_of, tree_at, u8}
-use Rattle.ffi3_type_spec.specs.Layout.{Layout, layouts, element, end_before, start_of, size_of, leaves_of, leaves_before, repeated, moved, Leaf, leaf_at, align_before}
-use Rattle.ffi3_type_spec.proofs.Layouts.{least_multiple-above, scalar_room-bounds, length-layouts, layout_here}
-
-length-moved : (by : ℕ) (xs : List Leaf) → length (map (moved by) xs) ≡ length xs
-length-moved by [] = refl
-length-moved by (x ∷ xs) = ap suc (length-moved by xs)
+use Rattle.std.proofs.lemmas.List.{length-map, get_or-map, get_or_append_left, get_or-append_right}
+use Rattle.ffi3_type_spec.specs.Tree.{Tree, trees_of, struct_of, tree_at, u8}
+use Rattle.ffi3_type_spec.specs.Layout.{Layout, layouts, element, start_of, size_of, leaves_of, leaves_before, repeated, moved, Leaf, leaf_at}
+use Rattle.ffi3_type_spec.proofs.Layouts.{rises, length-layouts, layout_here}
+use Rattle.ffi3_type_spec.proofs.LayoutLaws.{rising-count, tree_well}
 
 pub leaves_before-step : (es : List Layout) (i : ℕ) → length (leaves_before es (suc i)) ≡ length (leaves_before es i) + length (element es i).leaves
 leaves_before-step es i =
-    length-append (leaves_before es i) (map (moved (start_of es i)) (element es i).leaves) ∙ ap (λ n. length (leaves_before es i) + n) (length-moved (start_of es i) (element es i).leaves)
-
--- no type has more leaves than bytes
-leaves_within : (es : List Layout) → ((k : ℕ) → length (element es k).leaves ≤ (element es k).size) → (i : ℕ) → length (leaves_before es i) ≤ end_before es i
-leaves_within es h zero = omega arith
-leaves_within es h (suc i) =
-    omega (arith, leaves_before-step es i, h i, leaves_within es h i, least_multiple-above (element es i).align (end_before es i))
+    length-append (leaves_before es i) (map (moved (start_of es i)) (element es i).leaves) ∙ ap (λ n. length (leaves_before es i) + n) (length-map (element es i).leaves (moved (start_of es i)))
 
 pub repeated-step : (l : Layout) (i : ℕ) → length (repeated l (suc i)) ≡ length (repeated l i) + length l.leaves
 repeated-step l i =
-    length-append (repeated l i) (map (moved (i * l.size)) l.leaves) ∙ ap (λ n. length (repeated l i) + n) (length-moved (i * l.size) l.leaves)
+    length-append (repeated l i) (map (moved (i * l.size)) l.leaves) ∙ ap (λ n. length (repeated l i) + n) (length-map l.leaves (moved (i * l.size)))
 
-repeated_within : (l : Layout) → length l.leaves ≤ l.size → (n : ℕ) → length (repeated l n) ≤ n * l.size
-repeated_within l h zero = omega arith
-repeated_within l h (suc n) =
-    let more : suc n * l.size ≡ n * l.size + l.size = omega arith in
-    omega (arith, repeated-step l n, h, repeated_within l h n, more)
-
-mutual
-  pub leaves_le-size : (t : Tree) → length (leaves_of t) ≤ size_of t
-  leaves_le-size void = omega arith
-  leaves_le-size (scalar s) = (scalar_room-bounds s).0
-  leaves_le-size (left_out k) = omega arith
-  leaves_le-size (structure ts) =
-      let es = layouts ts in
-      omega (arith, leaves_within es (all_le-size ts) (length es), least_multiple-above (align_before es (length es)) (end_before es (length es)))
-  leaves_le-size (array ts n) = repeated_within (element (layouts ts) 0) (all_le-size ts 0) n
-
-  all_le-size : (ts : Trees) (k : ℕ) → length (element (layouts ts) k).leaves ≤ (element (layouts ts) k).size
-  all_le-size no_trees k = omega arith
-  all_le-size (tree t ts) zero = leaves_le-size t
-  all_le-size (tree t ts) (suc k) = all_le-size ts k
+-- no type has more leaves than bytes
+pub leaves_le-size : (t : Tree) → length (leaves_of t) ≤ size_of t
+leaves_le-size t = omega (arith, rising-count 0 (leaves_of t) (size_of t) (tree_well t).rising)
 
 -- one more element, t
 module _ (ts : List Tree) (i : ℕ) (t : Tree) (is : t ≡ tree_at ts i) where
@@ -55,20 +29,7 @@ module _ (ts : List Tree) (i : ℕ) (t : Tree) (is : t ≡ tree_at ts i) where
       rw add-one (omega (arith, step, here, b, n))
 
 pub leaves_before-le : (es : List Layout) (i n : ℕ) → i ≤ n → length (leaves_before es i) ≤ length (leaves_before es n)
-leaves_before-le es i zero h =
-    let same : i ≡ 0 = omega arith in
-    subst (λ k. length (leaves_before es k) ≤ 0) (sym same) (omega arith)
-leaves_before-le es i (suc n) h =
-    elim (cases_lt i (suc n)) [
-      | inl below ↦ omega (arith, leaves_before-le es i n (omega arith), leaves_before-step es n)
-      | inr at_least ↦ let same : i ≡ suc n = omega arith in
-          subst (λ k. length (leaves_before es k) ≤ length (leaves_before es (suc n))) (sym same) (omega arith)
-    ]
-
-leaf_moved : (by : ℕ) (xs : List Leaf) (i : ℕ) (d : Leaf) → i < length xs → slice_index_or (map (moved by) xs) i d ≡ moved by (slice_index_or xs i d)
-leaf_moved by [] i d h = absurd (omega arith)
-leaf_moved by (x ∷ xs) zero d h = refl
-leaf_moved by (x ∷ xs) (suc i) d h = leaf_moved by xs i d (omega arith)
+leaves_before-le es = rises (λ n. length (leaves_before es n)) (λ n. omega (arith, leaves_before-step es n))
 
 -- the leaves of element k among those of the first n
 pub leaf_in_element : (es : List Layout) (k n i : ℕ) (d : Leaf) → k < n → length (leaves_before es k) ≤ i → i < length (leaves_before es (suc k)) → slice_index_or (leaves_before es n) i d ≡ moved (start_of es k) (slice_index_or (element es k).leaves (i - length (leaves_before es k)) d)
@@ -81,7 +42,7 @@ leaf_in_element es k (suc n) i d h from below =
           let from_n = subst (λ j. length (leaves_before es j) ≤ i) same from in
           let below_n = subst (λ j. i < length (leaves_before es (suc j))) same below in
           let inside : i - length (leaves_before es n) < length (element es n).leaves = omega (arith, leaves_before-step es n, below_n, from_n) in
-          subst (λ j. slice_index_or (leaves_before es (suc n)) i d ≡ moved (start_of es j) (slice_index_or (element es j).leaves (i - length (leaves_before es j)) d)) (sym same) (get_or-append_right (leaves_before es n) tail (length (leaves_before es n)) i d refl from_n ∙ leaf_moved (start_of es n) (element es n).leaves (i - length (leaves_before es n)) d inside)
+          subst (λ j. slice_index_or (leaves_before es (suc n)) i d ≡ moved (start_of es j) (slice_index_or (element es j).leaves (i - length (leaves_before es j)) d)) (sym same) (get_or-append_right (leaves_before es n) tail (length (leaves_before es n)) i d refl from_n ∙ get_or-map (moved (start_of es n)) (element es n).leaves (i - length (leaves_before es n)) d d inside)
     ]
 
 -- leaf i of a struct, where it is one of element k, t

@@ -3,7 +3,7 @@ use Rattle.std.specs.Prelude.{◌%◌, ◌^◌, ◌↔◌, ℤ, pos, negsuc, ◌
 use Rattle.std.proofs.Common.{◌≡◌, ℕ, ◌+◌, ◌-◌, ◌<◌, inl, inr, refl, ap, ◌∙◌, arith}
 use Rattle.std.proofs.lemmas.Int.{ints, to_z_pos}
 use Rattle.std.proofs.lemmas.Bool.{cases_lt}
-use Rattle.std.specs.Int.{Width, w8, w16, w32, w64, w128, to_le_bytes, cast_signed, cast_unsigned}
+use Rattle.std.specs.Int.{Width, w8, w128, to_le_bytes, cast_signed, cast_unsigned}
 use Rattle.std.specs.Int.RustNames.{FitsSigned}
 use Rattle.ffi3_type_spec.specs.Tree.{Scalar}
 use Rattle.ffi3_type_spec.specs.Integer.{width_of, bit_count, modulo, bytes_of_number}
@@ -12,15 +12,8 @@ use Rattle.ffi3_type_spec.proofs.Widened.{read_negative}
 -- modulo two to the 128th, and then to fewer bits
 pub modulo-fewer : (w : Width) (z : ℤ) → modulo 128 z % 2 ^ bit_count w ≡ modulo (bit_count w) z
 modulo-fewer w8 (pos n) = omega arith
-modulo-fewer w8 (negsuc n) = omega arith
-modulo-fewer w16 (pos n) = omega arith
-modulo-fewer w16 (negsuc n) = omega arith
-modulo-fewer w32 (pos n) = omega arith
-modulo-fewer w32 (negsuc n) = omega arith
-modulo-fewer w64 (pos n) = omega arith
-modulo-fewer w64 (negsuc n) = omega arith
-modulo-fewer w128 (pos n) = omega arith
-modulo-fewer w128 (negsuc n) = omega arith
+modulo-fewer _ (pos n) = omega arith
+modulo-fewer _ _ = omega arith
 
 -- the bytes of a number are those of its bits
 pub bytes_of_bits : (s : Scalar) (z : ℤ) (n : ℕ) → n ≡ modulo 128 z → to_le_bytes (width_of s) (n % 2 ^ bit_count (width_of s)) ≡ bytes_of_number s z
@@ -46,26 +39,18 @@ modulo-signed n h =
 -- a sum and a difference have the bits of the sum and the difference of the bits
 sum_modulo : (x y z : ℤ) → z ≡ x +ℤ y → (modulo 128 x + modulo 128 y) % 2 ^ 128 ≡ modulo 128 z
 sum_modulo (pos a) (pos b) (pos c) e = omega (arith, ints, e)
-sum_modulo (pos a) (pos b) (negsuc c) e = omega (arith, ints, e)
-sum_modulo (pos a) (negsuc b) (pos c) e = omega (arith, ints, e)
-sum_modulo (pos a) (negsuc b) (negsuc c) e = omega (arith, ints, e)
-sum_modulo (negsuc a) (pos b) (pos c) e = omega (arith, ints, e)
-sum_modulo (negsuc a) (pos b) (negsuc c) e = omega (arith, ints, e)
-sum_modulo (negsuc a) (negsuc b) (pos c) e = omega (arith, ints, e)
-sum_modulo (negsuc a) (negsuc b) (negsuc c) e = omega (arith, ints, e)
+sum_modulo _ (pos b) (pos c) e = omega (arith, ints, e)
+sum_modulo _ _ (pos c) e = omega (arith, ints, e)
+sum_modulo _ _ _ e = omega (arith, ints, e)
 
 pub modulo-add : (x y : ℤ) → (modulo 128 x + modulo 128 y) % 2 ^ 128 ≡ modulo 128 (x +ℤ y)
 modulo-add x y = sum_modulo x y (x +ℤ y) refl
 
 difference_modulo : (x y z : ℤ) → z ≡ x -ℤ y → (modulo 128 x + (2 ^ 128 - modulo 128 y)) % 2 ^ 128 ≡ modulo 128 z
 difference_modulo (pos a) (pos b) (pos c) e = omega (arith, ints, e)
-difference_modulo (pos a) (pos b) (negsuc c) e = omega (arith, ints, e)
-difference_modulo (pos a) (negsuc b) (pos c) e = omega (arith, ints, e)
-difference_modulo (pos a) (negsuc b) (negsuc c) e = omega (arith, ints, e)
-difference_modulo (negsuc a) (pos b) (pos c) e = omega (arith, ints, e)
-difference_modulo (negsuc a) (pos b) (negsuc c) e = omega (arith, ints, e)
-difference_modulo (negsuc a) (negsuc b) (pos c) e = omega (arith, ints, e)
-difference_modulo (negsuc a) (negsuc b) (negsuc c) e = omega (arith, ints, e)
+difference_modulo _ (pos b) (pos c) e = omega (arith, ints, e)
+difference_modulo _ _ (pos c) e = omega (arith, ints, e)
+difference_modulo _ _ _ e = omega (arith, ints, e)
 
 pub modulo-sub : (x y : ℤ) → (modulo 128 x + (2 ^ 128 - modulo 128 y)) % 2 ^ 128 ≡ modulo 128 (x -ℤ y)
 modulo-sub x y = difference_modulo x y (x -ℤ y) refl

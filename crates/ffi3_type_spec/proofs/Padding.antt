@@ -4,11 +4,12 @@ use Rattle.std.specs.Prelude.{slice_index, slice_index_or}
 use Rattle.std.proofs.lemmas.Bool.{cases_lt}
 use Rattle.std.proofs.lemmas.Nat.{mul-le}
 use Rattle.std.proofs.lemmas.List.{length-map, get_or-take}
-use Rattle.std.proofs.lemmas.List.Elements.{All-nil, All-cons, All-append, All-map, All-weaker}
+use Rattle.std.proofs.lemmas.List.Elements.{All-nil, All-cons, All-append, All-map}
 use Rattle.ffi3_type_spec.specs.Tree.{Scalar, Tree, void, scalar, left_out, structure, array, Trees, no_trees, tree, list_of}
 use Rattle.ffi3_type_spec.specs.Layout.{Layout, Leaf, layout, layouts, element, size_of, start_of, end_before, leaves_of, leaves_before, repeated, moved, scalar_size, scalar_room, align_before}
 use Rattle.ffi3_type_spec.specs.Value.{ValueTree, ValueTrees, leaf_value, struct_value, value, value_in, values_in, first_value_in, repeated_values, part, DifferInPaddingAlone, significant}
-use Rattle.ffi3_type_spec.proofs.Layouts.{layouts_is_map, end_before-le, least_multiple-above, scalar_size-room}
+use Rattle.ffi3_type_spec.proofs.Layouts.{layouts_is_map, end_before-le, least_multiple-above}
+use Rattle.ffi3_type_spec.proofs.LayoutLaws.{IsWell, rising-inside, tree_well, trees_well}
 use Rattle.ffi3_type_spec.proofs.Parts.{index_part, length_part}
 use Rattle.ffi3_type_spec.proofs.Significant.{significant_first}
 
@@ -16,41 +17,9 @@ use Rattle.ffi3_type_spec.proofs.Significant.{significant_first}
 abbrev EndsWithin : ℕ → Leaf → Type 0
 EndsWithin n leaf = leaf.at + scalar_size leaf.kind ≤ n
 
-ends_before : (es : List Layout) → ((k : ℕ) → All (EndsWithin (element es k).size) (element es k).leaves) → (n : ℕ) → All (EndsWithin (end_before es n)) (leaves_before es n)
-ends_before es h zero = All-nil (EndsWithin 0)
-ends_before es h (suc n) =
-    let last = end_before es (suc n) in
-    let start = start_of es n in
-    let size = (element es n).size in
-    let above = end_before-le es n (suc n) (omega arith) in
-    All-append (EndsWithin last) (leaves_before es n) (map (moved start) (element es n).leaves) (All-weaker (EndsWithin (end_before es n)) (EndsWithin last) (λ leaf ends. omega arith) (leaves_before es n) (ends_before es h n)) (All-map (EndsWithin last) (moved start) (element es n).leaves (All-weaker (EndsWithin size) (λ leaf. EndsWithin last (moved start leaf)) (λ leaf ends. omega arith) (element es n).leaves (h n)))
-
-repeated_ends : (l : Layout) → All (EndsWithin l.size) l.leaves → (n : ℕ) → All (EndsWithin (n * l.size)) (repeated l n)
-repeated_ends l h zero = All-nil (EndsWithin (zero * l.size))
-repeated_ends l h (suc n) =
-    let last = suc n * l.size in
-    let start = n * l.size in
-    let more : last ≡ start + l.size = omega arith in
-    All-append (EndsWithin last) (repeated l n) (map (moved start) l.leaves) (All-weaker (EndsWithin start) (EndsWithin last) (λ leaf ends. omega (arith, more, ends)) (repeated l n) (repeated_ends l h n)) (All-map (EndsWithin last) (moved start) l.leaves (All-weaker (EndsWithin l.size) (λ leaf. EndsWithin last (moved start leaf)) (λ leaf ends. omega (arith, more, ends)) l.leaves h))
-
--- each leaf lies within its type
-mutual
-  pub leaves_end_within : (t : Tree) → All (EndsWithin (size_of t)) (leaves_of t)
-  leaves_end_within void = All-nil (EndsWithin 0)
-  leaves_end_within (scalar s) =
-      All-cons (EndsWithin (scalar_room s)) (record { at = 0; kind = s }) [] (omega (arith, scalar_size-room s)) (All-nil (EndsWithin (scalar_room s)))
-  leaves_end_within (left_out k) = All-nil (EndsWithin 0)
-  leaves_end_within (structure ts) =
-      let es = layouts ts in
-      let last = end_before es (length es) in
-      let above = least_multiple-above (align_before es (length es)) last in
-      All-weaker (EndsWithin last) (EndsWithin (size_of (structure ts))) (λ leaf ends. omega arith) (leaves_before es (length es)) (ends_before es (all_end_within ts) (length es))
-  leaves_end_within (array ts n) = repeated_ends (element (layouts ts) 0) (all_end_within ts 0) n
-
-  all_end_within : (ts : Trees) (k : ℕ) → All (EndsWithin (element (layouts ts) k).size) (element (layouts ts) k).leaves
-  all_end_within no_trees k = All-nil (EndsWithin 0)
-  all_end_within (tree t ts) zero = leaves_end_within t
-  all_end_within (tree t ts) (suc k) = all_end_within ts k
+-- each leaf of a layout that keeps the laws lies within it
+ends_within : (l : Layout) → IsWell l → All (EndsWithin l.size) l.leaves
+ends_within l well k d below = (rising-inside 0 l.leaves l.size k d below well.rising).1
 
 -- the two have the same bytes at the leaf
 abbrev SameAt : List ℕ → List ℕ → Leaf → Type 0
@@ -135,7 +104,7 @@ mutual
   same_in_leaves (array ts n) a b m k e =
       let l = element (layouts ts) 0 in
       let values = struct_values (repeated_values (first_value_in ts) l.size 0 n a) (repeated_values (first_value_in ts) l.size 0 n b) e in
-      repeated_same (first_value_in ts) l (all_end_within ts 0) (first_same ts) a b n n values (omega arith) (omega arith) (omega arith)
+      repeated_same (first_value_in ts) l (ends_within l (trees_well ts 0)) (first_same ts) a b n n values (omega arith) (omega arith) (omega arith)
 
   first_same : (ts : Trees) (a b : List ℕ) → length a ≡ (element (layouts ts) 0).size → length b ≡ (element (layouts ts) 0).size → first_value_in ts a ≡ first_value_in ts b → All (SameAt a b) (element (layouts ts) 0).leaves
   first_same no_trees a b n m e = All-nil (SameAt a b)
@@ -150,7 +119,7 @@ mutual
       let room : start + size ≤ length a = subst (λ j. start_of es j + size ≤ length a) (sym at_zero) (within 0 (omega arith)) in
       let first = first_value (value_in t (part a start size)) (value_in t (part b start size)) (values_in us es (i + 1) a) (values_in us es (i + 1) b) e in
       let inner = same_in_leaves t (part a start size) (part b start size) (length_part a start size room) (length_part b start size (omega arith)) first in
-      let whole : All (λ leaf. SameAt a b (moved start leaf)) (leaves_of t) = λ k d below. same_in_whole a b start size _ (leaves_end_within t k d below) (inner k d below) in
+      let whole : All (λ leaf. SameAt a b (moved start leaf)) (leaves_of t) = λ k d below. same_in_whole a b start size _ (ends_within (layout t) (tree_well t) k d below) (inner k d below) in
       subst (λ j. All (λ leaf. SameAt a b (moved (start_of es j) leaf)) (leaves_of t)) at_zero whole
   all_same (tree t us) es i a b n within e (suc k) =
       let along : i + 1 + k ≡ i + suc k = omega arith in

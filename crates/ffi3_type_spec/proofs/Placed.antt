@@ -1,14 +1,14 @@
 -- What calls on the machine ask of a signature is what places ask of it, and that it has no long double of 16 bytes: so of all other signatures the two notions are one.
-use Rattle.std.proofs.Common.{◌≡◌, ℕ, ◌<◌, ◌≤◌, inl, inr, Bool, true, false, List, [], ◌∷◌, Some, length, refl, sym, subst}
+use Rattle.std.proofs.Common.{◌≡◌, ℕ, ◌<◌, ◌≤◌, inl, inr, Bool, true, false, List, [], ◌∷◌, Some, length, refl, sym, subst, arith}
 use Rattle.std.proofs.lemmas.Bool.{cases_lt, eqb-true}
 use Rattle.ffi3_type_spec.specs.declared.limits.TheConstants.{MOST_ARGUMENTS}
 use Rattle.ffi3_type_spec.specs.declared.Role.{Role}
 use Rattle.ffi3_type_spec.specs.declared.Role.TheVariants.{AsResult, AsArgument, PlacedResult, PlacedArgument}
-use Rattle.ffi3_type_spec.specs.Tree.{Tree, void, scalar, left_out, structure, array, Trees, no_trees, tree, tree_at, long_double, x87, is_complex}
+use Rattle.ffi3_type_spec.specs.Tree.{Tree, scalar, left_out, array, Trees, no_trees, tree, tree_at, long_double, x87, is_complex}
 use Rattle.ffi3_type_spec.specs.Layout.{has_long_double}
-use Rattle.ffi3_type_spec.specs.Fault.{Fault, left_out_type, HasNoFault, IsLaidOut, IsFault, node_at, role_at, takes, out_of_place, left_out_kind, nested_deep, misshapen, over_limit}
+use Rattle.ffi3_type_spec.specs.Fault.{left_out_type, HasNoFault, IsLaidOut, node_at, role_at, takes}
 use Rattle.ffi3_type_spec.specs.Signature.{Signature, bad_type, bad_fixed, bad_argument_type, too_many, at_result, at_argument, over_most, in_result, in_argument, fixed_outside, promoted, of_type, of_long_double, SignatureHasNoFault, SignatureIsPlaced, HasNoLongDouble}
-use Rattle.ffi3_type_spec.proofs.Faults.{TakesMore, right_with_more, right_anywhere}
+use Rattle.ffi3_type_spec.proofs.Faults.{TakesMore, fault_along, right_with_more, right_anywhere}
 use Rattle.ffi3_type_spec.proofs.Right.{result_is_right, argument_is_right, right_without_first}
 
 false_if : (b : Bool) → (b ≡ true → ⊥) → b ≡ false
@@ -16,18 +16,12 @@ false_if true h = absurd (h refl)
 false_if false h = refl
 
 placed_result_takes_more : TakesMore PlacedResult AsResult
-placed_result_takes_more void e = e
-placed_result_takes_more (scalar s) e = e
-placed_result_takes_more (left_out k) e = e
-placed_result_takes_more (structure ts) e = e
 placed_result_takes_more (array ts n) e = refl
+placed_result_takes_more _ e = e
 
 placed_argument_takes_more : TakesMore PlacedArgument AsArgument
-placed_argument_takes_more void e = e
-placed_argument_takes_more (scalar s) e = e
-placed_argument_takes_more (left_out k) e = e
-placed_argument_takes_more (structure ts) e = e
 placed_argument_takes_more (array ts n) e = refl
+placed_argument_takes_more _ e = e
 
 module _ (s : Signature) (right : SignatureHasNoFault s) where
   -- NO LONG DOUBLE OF 16 BYTES IS PASSED ON THE MACHINE
@@ -63,18 +57,12 @@ plain_array ts n plain =
     false_if (is_complex ts n) (λ complex. let long : has_long_double (array ts n) ≡ true = complex_is_long ts n complex in cc)
 
 result_alike : (t : Tree) → has_long_double t ≡ false → takes AsResult t ≡ false → takes PlacedResult t ≡ false
-result_alike void plain e = e
-result_alike (scalar s) plain e = e
-result_alike (left_out k) plain e = e
-result_alike (structure ts) plain e = e
 result_alike (array ts n) plain e = plain_array ts n plain
+result_alike _ plain e = e
 
 argument_alike : (t : Tree) → has_long_double t ≡ false → takes AsArgument t ≡ false → takes PlacedArgument t ≡ false
-argument_alike void plain e = e
-argument_alike (scalar s) plain e = e
-argument_alike (left_out k) plain e = e
-argument_alike (structure ts) plain e = e
 argument_alike (array ts n) plain e = plain_array ts n plain
+argument_alike _ plain e = e
 
 -- roles that take the same at the root take the same
 module _ (role other : Role) (t : Tree) (alike : takes role t ≡ false → takes other t ≡ false) where
@@ -84,15 +72,8 @@ module _ (role other : Role) (t : Tree) (alike : takes role t ≡ false → take
       subst (λ x. takes other x ≡ false) same (alike (subst (λ x. takes role x ≡ false) (sym same) e))
   at_node (i ∷ path) u is e = e
 
-  fault_at_root : (path : List ℕ) (f : Fault) → IsFault 0 role t path f → IsFault 0 other t path f
-  fault_at_root path f (out_of_place {node = u} is bad) = out_of_place is (at_node path u is bad)
-  fault_at_root path f (left_out_kind is) = left_out_kind is
-  fault_at_root path f (nested_deep is parts deep) = nested_deep is parts deep
-  fault_at_root path f (misshapen is bad) = misshapen is bad
-  fault_at_root path f (over_limit is parts large) = over_limit is parts large
-
   right_at_root : HasNoFault 0 other t → HasNoFault 0 role t
-  right_at_root right path f fault = right path f (fault_at_root path f fault)
+  right_at_root right path f fault = right path f (fault_along t path f (omega arith) (at_node path) fault)
 
 module _ (s : Signature) (placed : SignatureIsPlaced s) where
   placed_result : HasNoFault 0 PlacedResult s.result_type

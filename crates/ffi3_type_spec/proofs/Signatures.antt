@@ -28,10 +28,7 @@ module _ {purpose : Purpose} (s : Signature) where
       where
         go : (g : SignatureFault) → IsFaultFor purpose s g → ¬ SignatureFaultBefore g (bad_type at_result path f)
         go g (over_most over) before = omega arith
-        go g (in_result other) before = elim before [ inl less ↦ omega arith | inr less ↦ omega arith ]
-        go g (in_argument below other) before = elim before [ inl less ↦ omega arith | inr less ↦ omega arith ]
-        go g (fixed_outside is outside) before = elim before [ inl less ↦ omega arith | inr less ↦ omega arith ]
-        go g (promoted is from below right) before = elim before [ inl less ↦ omega arith | inr less ↦ omega arith ]
+        go g _ before = elim before [ inl less ↦ omega arith | inr less ↦ omega arith ]
 
     module _ (result_right : IsSuited purpose (result_role purpose) s.result_type) where
       pub first_in_argument : (i : ℕ) (path : List ℕ) (f : Fault) → i < length s.arguments → ((j : ℕ) → j < i → IsSuited purpose (argument_role purpose) (tree_at s.arguments j)) → IsFoundFault purpose (argument_role purpose) (tree_at s.arguments i) path f → IsFirstFaultFor purpose s (bad_type (at_argument i) path f)
@@ -41,8 +38,7 @@ module _ {purpose : Purpose} (s : Signature) where
           go g (over_most over) before = omega arith
           go g (in_result {path = p} {fault = h} other) before = suited_has_none result_right p h other
           go g (in_argument {i = j} {path = p} {fault = h} inside other) before = elim before [ inl less ↦ omega arith | inr less ↦ suited_has_none (right j less.1) p h other ]
-          go g (fixed_outside is outside) before = elim before [ inl less ↦ omega arith | inr less ↦ omega arith ]
-          go g (promoted is from inside right') before = elim before [ inl less ↦ omega arith | inr less ↦ omega arith ]
+          go g _ before = elim before [ inl less ↦ omega arith | inr less ↦ omega arith ]
 
       module _ (right : (j : ℕ) → j < length s.arguments → IsSuited purpose (argument_role purpose) (tree_at s.arguments j)) where
         pub first_bad_fixed : (n : ℕ) → s.fixed ≡ Some n → (n ≡ 0) ⊎ (length s.arguments < n) → IsFirstFaultFor purpose s (bad_fixed n (length s.arguments))
@@ -52,8 +48,7 @@ module _ {purpose : Purpose} (s : Signature) where
             go g (over_most over) before = omega arith
             go g (in_result {path = p} {fault = h} other) before = suited_has_none result_right p h other
             go g (in_argument {i = j} {path = p} {fault = h} inside other) before = suited_has_none (right j inside) p h other
-            go g (fixed_outside is' outside') before = elim before [ inl less ↦ omega arith | inr less ↦ omega arith ]
-            go g (promoted is' from inside right') before = elim before [ inl less ↦ omega arith | inr less ↦ omega arith ]
+            go g _ before = elim before [ inl less ↦ omega arith | inr less ↦ omega arith ]
 
         pub right_with_no_fixed : s.fixed ≡ None → HasNoFaultFor purpose s
         right_with_no_fixed none g (over_most over) = omega arith

@@ -2,7 +2,7 @@
 use Rattle.std.proofs.Common.{◌≡◌, ℕ, List, length, take, sym, ap, ◌∙◌, subst, arith, refl}
 use Rattle.std.proofs.Math.Seq.{take-length}
 use Rattle.std.proofs.lemmas.List.{length-take-le}
-use Rattle.ffi3_type_spec.specs.Tree.{Scalar, u8, s8, u16, s16, u32, s32, u64, s64, u128, s128, float, double, pointer, x87, binary128}
+use Rattle.ffi3_type_spec.specs.Tree.{Scalar, u8, s8, u16, s16, u32, s32, u128, s128, float, x87, binary128}
 use Rattle.ffi3_type_spec.specs.Layout.{scalar_size, scalar_room}
 use Rattle.ffi3_type_spec.specs.Value.{significant}
 use Rattle.ffi3_type_spec.proofs.Layouts.{scalar_size-room}
@@ -19,15 +19,12 @@ significant_first u16 bytes h = all_taken 2 bytes h
 significant_first s16 bytes h = all_taken 2 bytes h
 significant_first u32 bytes h = all_taken 4 bytes h
 significant_first s32 bytes h = all_taken 4 bytes h
-significant_first u64 bytes h = all_taken 8 bytes h
-significant_first s64 bytes h = all_taken 8 bytes h
 significant_first u128 bytes h = all_taken 16 bytes h
 significant_first s128 bytes h = all_taken 16 bytes h
 significant_first float bytes h = all_taken 4 bytes h
-significant_first double bytes h = all_taken 8 bytes h
-significant_first pointer bytes h = all_taken 8 bytes h
 significant_first x87 bytes h = refl
 significant_first binary128 bytes h = all_taken 16 bytes h
+significant_first _ bytes h = all_taken 8 bytes h
 
 pub length-significant : (s : Scalar) (bytes : List ℕ) → length bytes ≡ scalar_room s → length (significant s bytes) ≡ scalar_size s
 length-significant s bytes h =

@@ -2,7 +2,7 @@
 use Rattle.std.proofs.Common.{◌≡◌, ℕ, zero, suc, ◌+◌, ◌*◌, ◌<◌, ◌≤◌, inl, inr, List, length, refl, ap, sym, ◌∙◌, subst, arith}
 use Rattle.std.proofs.lemmas.Bool.{cases_lt}
 use Rattle.std.proofs.lemmas.Nat.Gcd.{mod-eq-zero_of_dvd}
-use Rattle.ffi3_type_spec.specs.Tree.{Tree, void, scalar, left_out, structure, array, Trees, no_trees, tree, tree_at, list_of, elements_of, first_of}
+use Rattle.ffi3_type_spec.specs.Tree.{Tree, void, structure, array, Trees, no_trees, tree, tree_at, list_of, elements_of, first_of}
 use Rattle.ffi3_type_spec.specs.Layout.{Layout, IsLeastMultiple, layout, layouts, element, end_before, start_of, align_before, size_of, align_of, offset_of}
 use Rattle.ffi3_type_spec.specs.LayoutLaws.{end_of_previous, IsGreatestAlignment}
 use Rattle.ffi3_type_spec.proofs.Layouts.{align_positive}
@@ -15,7 +15,7 @@ element_is no_trees i = refl
 element_is (tree t ts) zero = refl
 element_is (tree t ts) (suc i) = element_is ts i
 
-length_is : (ts : Trees) → length (layouts ts) ≡ length (list_of ts)
+pub length_is : (ts : Trees) → length (layouts ts) ≡ length (list_of ts)
 length_is no_trees = refl
 length_is (tree t ts) = ap suc (length_is ts)
 
@@ -81,9 +81,6 @@ module _ (ts : Trees) (n : ℕ) where
       subst (λ m. IsLeastMultiple m (end_of_previous (array ts n) (length (elements_of (array ts n)))) (size_of (array ts n))) (sym array_align) all
 
 pub element_placed : (t : Tree) (i : ℕ) → i < length (elements_of t) → IsLeastMultiple (align_of (tree_at (elements_of t) i)) (end_of_previous t i) (offset_of t i)
-element_placed void i h = absurd (omega arith)
-element_placed (scalar s) i h = absurd (omega arith)
-element_placed (left_out k) i h = absurd (omega arith)
 element_placed (structure ts) i h =
     let es = layouts ts in
     let here = is_least_multiple (element es i).align (end_before es i) (omega (arith, element_positive ts i)) in
@@ -91,6 +88,7 @@ element_placed (structure ts) i h =
     subst (λ a. IsLeastMultiple a (end_of_previous (structure ts) i) (start_of es i)) (element_align ts i) ends
 element_placed (array ts n) i h =
     array_placed ts n i (omega (arith, length_of_equal n (first_of ts)))
+element_placed _ i h = absurd (omega arith)
 
 -- the greatest alignment of the first elements is that of one of them, and none is greater
 reached_before : (es : List Layout) → ((k : ℕ) → 1 ≤ (element es k).align) → (n : ℕ) → (k : ℕ) × (k < suc n) × ((element es k).align ≡ align_before es (suc n))
@@ -124,18 +122,13 @@ greatest_of ts (suc n) e h =
     }
 
 pub greatest_alignment : (t : Tree) → 0 < length (elements_of t) → IsGreatestAlignment (elements_of t) (align_of t)
-greatest_alignment void h = absurd (omega arith)
-greatest_alignment (scalar s) h = absurd (omega arith)
-greatest_alignment (left_out k) h = absurd (omega arith)
 greatest_alignment (structure ts) h =
     greatest_of ts (length (layouts ts)) (length_is ts) (omega (arith, length_is ts))
 greatest_alignment (array ts n) h =
     array_greatest ts n (omega (arith, length_of_equal n (first_of ts)))
+greatest_alignment _ h = absurd (omega arith)
 
 pub least_size : (t : Tree) → 0 < length (elements_of t) → IsLeastMultiple (align_of t) (end_of_previous t (length (elements_of t))) (size_of t)
-least_size void h = absurd (omega arith)
-least_size (scalar s) h = absurd (omega arith)
-least_size (left_out k) h = absurd (omega arith)
 least_size (structure ts) h =
     let n = length (layouts ts) in
     let end = end_before (layouts ts) n in
@@ -144,3 +137,4 @@ least_size (structure ts) h =
     let ends = subst (λ m. IsLeastMultiple (align_of (structure ts)) m size) (previous_is ts n) here in
     subst (λ m. IsLeastMultiple (align_of (structure ts)) (end_of_previous (structure ts) m) size) (length_is ts) ends
 least_size (array ts n) h = array_least ts n
+least_size _ h = absurd (omega arith)

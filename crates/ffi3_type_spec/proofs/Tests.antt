@@ -38,20 +38,7 @@ scalar_numbered n =
 
 numbered_back : (s : Scalar) → scalar_numbered (scalar_number s) ≡ s
 numbered_back u8 = refl
-numbered_back s8 = refl
-numbered_back u16 = refl
-numbered_back s16 = refl
-numbered_back u32 = refl
-numbered_back s32 = refl
-numbered_back u64 = refl
-numbered_back s64 = refl
-numbered_back u128 = refl
-numbered_back s128 = refl
-numbered_back float = refl
-numbered_back double = refl
-numbered_back pointer = refl
-numbered_back x87 = refl
-numbered_back binary128 = refl
+numbered_back _ = refl
 
 -- two scalars of one number are one
 pub scalars_of_number : (r s : Scalar) → (scalar_number r == scalar_number s) ≡ true → r ≡ s

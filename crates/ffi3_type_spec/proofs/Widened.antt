@@ -158,13 +158,10 @@ module _ (bs : List ℕ) (small : (k : ℕ) → get_or bs k 0 < 256) where
   extended s32 h = extended_32 (from_le_bytes w32 bs) (from_bytes_below_32 bs small)
   extended u64 h = whole_64
   extended s64 h = extended_64 (from_le_bytes w64 bs) (from_bytes_below_64 bs small)
-  extended u128 h = absurd (omega arith)
-  extended s128 h = absurd (omega arith)
   extended float h = whole_32
   extended double h = whole_64
   extended pointer h = whole_64
-  extended x87 h = absurd (omega arith)
-  extended binary128 h = absurd (omega arith)
+  extended _ h = absurd (omega arith)
 
   unsigned_8_from_32 : (widened_from_32 u8 bs % 2 ^ 8 ≡ from_le_bytes w8 bs) × (widened_from_32 u8 bs < 2 ^ 64)
   unsigned_8_from_32 =
@@ -186,15 +183,8 @@ module _ (bs : List ℕ) (small : (k : ℕ) → get_or bs k 0 < 256) where
   extended_from_32 s16 h = extended_16_from_32 (from_le_bytes w16 bs) (from_bytes_below_16 bs small)
   extended_from_32 u32 h = unsigned_from_32 (from_le_bytes w32 bs) (from_bytes_below_32 bs small)
   extended_from_32 s32 h = extended_32_from_32 (from_le_bytes w32 bs) (from_bytes_below_32 bs small)
-  extended_from_32 u64 h = absurd (omega arith)
-  extended_from_32 s64 h = absurd (omega arith)
-  extended_from_32 u128 h = absurd (omega arith)
-  extended_from_32 s128 h = absurd (omega arith)
   extended_from_32 float h = unsigned_from_32 (from_le_bytes w32 bs) (from_bytes_below_32 bs small)
-  extended_from_32 double h = absurd (omega arith)
-  extended_from_32 pointer h = absurd (omega arith)
-  extended_from_32 x87 h = absurd (omega arith)
-  extended_from_32 binary128 h = absurd (omega arith)
+  extended_from_32 _ h = absurd (omega arith)
 
   -- the lower bytes of what is congruent to the number
   pub low_bytes : (s : Scalar) (m : ℕ) → scalar_size s ≤ 8 → (m % 2 ^ bit_count (width_of s) ≡ from_le_bytes (width_of s) bs) × (m < 2 ^ 64) → length bs ≡ scalar_size s → take (scalar_size s) (to_le_bytes w64 m) ≡ bs
@@ -204,15 +194,12 @@ module _ (bs : List ℕ) (small : (k : ℕ) → get_or bs k 0 < 256) where
   low_bytes s16 m h e l = low_bytes_of_16 m e.0 l
   low_bytes u32 m h e l = low_bytes_of_32 m e.0 l
   low_bytes s32 m h e l = low_bytes_of_32 m e.0 l
-  low_bytes u64 m h e l = low_bytes_of_64 m e.1 e.0 l
-  low_bytes s64 m h e l = low_bytes_of_64 m e.1 e.0 l
   low_bytes u128 m h e l = absurd (omega arith)
   low_bytes s128 m h e l = absurd (omega arith)
   low_bytes float m h e l = low_bytes_of_32 m e.0 l
-  low_bytes double m h e l = low_bytes_of_64 m e.1 e.0 l
-  low_bytes pointer m h e l = low_bytes_of_64 m e.1 e.0 l
   low_bytes x87 m h e l = absurd (omega arith)
   low_bytes binary128 m h e l = absurd (omega arith)
+  low_bytes _ m h e l = low_bytes_of_64 m e.1 e.0 l
 
   pub widened-below : (s : Scalar) → scalar_size s ≤ 8 → widened s bs < 2 ^ 64
   widened-below s few = (extended s few).1
@@ -262,18 +249,8 @@ All-bytes_of_number s z =
     All-to_le_bytes (width_of s) (modulo (bit_count (width_of s)) z)
 
 pub length-bytes_of_number : (s : Scalar) (z : ℤ) → is_number s ≡ true → length (bytes_of_number s z) ≡ scalar_size s
-length-bytes_of_number u8 z h = refl
-length-bytes_of_number s8 z h = refl
-length-bytes_of_number u16 z h = refl
-length-bytes_of_number s16 z h = refl
-length-bytes_of_number u32 z h = refl
-length-bytes_of_number s32 z h = refl
-length-bytes_of_number u64 z h = refl
-length-bytes_of_number s64 z h = refl
-length-bytes_of_number u128 z h = refl
-length-bytes_of_number s128 z h = refl
 length-bytes_of_number float z h = cc
 length-bytes_of_number double z h = cc
-length-bytes_of_number pointer z h = refl
 length-bytes_of_number x87 z h = cc
 length-bytes_of_number binary128 z h = cc
+length-bytes_of_number _ z h = refl

@@ -4,7 +4,7 @@ use Rattle.std.specs.Prelude.{slice_index, slice_index_or}
 use Rattle.std.proofs.lemmas.Bool.{cases_lt, eqb-true}
 use Rattle.std.proofs.Math.Seq.{take-append_seam}
 use Rattle.std.proofs.lemmas.List.{get_or_default, ext_get_or, get_or-append_right, get_or-drop}
-use Rattle.ffi3_type_spec.specs.Tree.{Scalar, Tree, void, scalar, left_out, structure, array, no_trees, tree, tree_at, trees_of, struct_of, u8}
+use Rattle.ffi3_type_spec.specs.Tree.{Scalar, Tree, scalar, array, no_trees, tree_at, trees_of, struct_of, u8}
 use Rattle.ffi3_type_spec.specs.Layout.{Leaf, layouts, element, size_of, start_of, end_before, leaves_of, leaves_before, leaf_at, moved, scalar_size, scalar_room}
 use Rattle.ffi3_type_spec.specs.Value.{ValueTree, leaf_value, struct_value, fits, values_of, value_in, part, IsPadding, IsWritten, is_leaf_of}
 use Rattle.ffi3_type_spec.proofs.Layouts.{length-layouts, end_before-le, element-layouts, least_multiple-above, scalar_size-room}
@@ -125,13 +125,10 @@ same_length : (n : ℕ) (bytes : List ℕ) → is_leaf_of n (leaf_value bytes) �
 same_length n bytes h = eqb-true (length bytes) n h
 
 pub leaf_written : (t : Tree) (bytes old new : List ℕ) → fits t (leaf_value bytes) ≡ true → length old ≡ size_of t → new ≡ bytes ++ drop (length bytes) old → IsWritten t (leaf_value bytes) old new
-leaf_written void bytes old new fit n e = cc
 leaf_written (scalar s) bytes old new fit n e =
     scalar_written s bytes old new (same_length (scalar_size s) bytes fit) n e
-leaf_written (left_out k) bytes old new fit n e = cc
-leaf_written (structure ts) bytes old new fit n e = cc
 leaf_written (array no_trees k) bytes old new fit n e = cc
-leaf_written (array (tree t ts) k) bytes old new fit n e = cc
+leaf_written _ bytes old new fit n e = cc
 
 -- all elements are written
 pub all_written : (ts : List Tree) (vs : List ValueTree) (old new : List ℕ) (i : ℕ) → length vs ≡ length ts → i ≡ length ts → IsWrittenBefore ts vs old new i → IsWritten (struct_of ts) (struct_value (values_of vs)) old new

@@ -1,4 +1,4 @@
-//! The definitions that the contracts of the crates above cite, and the rounding that they share.
+//! Definitions of types, layouts, signatures, values and their texts; and rounding up.
 #![tactic(auto)]
 
 ghost use Rattle.std.specs.Prelude.{◌≡◌, ◌+◌, ◌<◌, ◌^◌};
