@@ -18,16 +18,17 @@ pub start_alike : (end : ℕ) (t u : Tree) → AreAlike t u → start end t ≡ 
 start_alike end t u same_type = refl
 start_alike end t u (same_layout e) = ap (λ l. least_multiple (max 8 l.align) end) e
 
--- sums are taken from the left
-from_alike : (ts us : List Tree) → AllAlike ts us → (n : ℕ) → fold (λ (a : ℕ) (t : Tree). a + round8 (size_of t)) n ts ≡ fold (λ (a : ℕ) (t : Tree). a + round8 (size_of t)) n us
-from_alike [] [] h n = refl
-from_alike [] (u ∷ us) h n = absurd h
-from_alike (t ∷ ts) [] h n = absurd h
-from_alike (t ∷ ts) (u ∷ us) h n =
-    ap (λ k. fold (λ (a : ℕ) (v : Tree). a + round8 (size_of v)) (n + round8 k) ts) (size_alike t u h.0) ∙ from_alike ts us h.1 (n + round8 (size_of u))
+-- a function over a list of types is the same of lists that are alike, if one type more at the head makes no difference
+pub all_alike : {X R : Type 0} (F : List Tree → X → R) → ((t u : Tree) (ts us : List Tree) → AreAlike t u → ((x : X) → F ts x ≡ F us x) → (x : X) → F (t ∷ ts) x ≡ F (u ∷ us) x) → (ts us : List Tree) → AllAlike ts us → (x : X) → F ts x ≡ F us x
+all_alike F step [] [] h x = refl
+all_alike F step [] (u ∷ us) h x = absurd h
+all_alike F step (t ∷ ts) [] h x = absurd h
+all_alike F step (t ∷ ts) (u ∷ us) h x = step t u ts us h.0 (all_alike F step ts us h.1) x
 
 pub sizes_alike : (ts us : List Tree) → AllAlike ts us → sum_by (λ t. round8 (size_of t)) ts ≡ sum_by (λ t. round8 (size_of t)) us
-sizes_alike ts us h = from_alike ts us h 0
+sizes_alike ts us h =
+    all_alike (λ (vs : List Tree) (n : ℕ). fold (λ (a : ℕ) (t : Tree). a + round8 (size_of t)) n vs)
+    (λ t u ts us here rest n. ap (λ k. fold (λ (a : ℕ) (v : Tree). a + round8 (size_of v)) (n + round8 k) ts) (size_alike t u here) ∙ rest (n + round8 (size_of u))) ts us h 0
 
 module _ (start : ℕ → Tree → ℕ) (starts : (end : ℕ) (t u : Tree) → AreAlike t u → start end t ≡ start end u) where
   place_alike : (end : ℕ) (t u : Tree) → AreAlike t u → (s : Spot) → place_at start end t s ≡ place_at start end u s
@@ -40,20 +41,20 @@ module _ (start : ℕ → Tree → ℕ) (starts : (end : ℕ) (t u : Tree) → A
       ap (λ n. n + round8 (size_of t)) (starts end t u h) ∙ ap (λ n. start end u + round8 n) (size_alike t u h)
 
   places_alike : (ts us : List Tree) → AllAlike ts us → (end : ℕ) (ss : List Spot) → places_from start end ts ss ≡ places_from start end us ss
-  places_alike [] [] h end ss = refl
-  places_alike [] (u ∷ us) h end ss = absurd h
-  places_alike (t ∷ ts) [] h end ss = absurd h
-  places_alike (t ∷ ts) (u ∷ us) h end [] = refl
-  places_alike (t ∷ ts) (u ∷ us) h end (s ∷ ss) =
-      ap (λ p. p ∷ places_from start (copy_end start end t s) ts ss) (place_alike end t u h.0 s) ∙ ap (λ e. place_at start end u s ∷ places_from start e ts ss) (end_alike end t u h.0 s) ∙ ap (λ ps. place_at start end u s ∷ ps) (places_alike ts us h.1 (copy_end start end u s) ss)
+  places_alike ts us h end ss = all_alike (λ (vs : List Tree) (x : ℕ × List Spot). places_from start x.0 vs x.1) step ts us h (end, ss)
+    where
+      step : (t u : Tree) (ts us : List Tree) → AreAlike t u → ((x : ℕ × List Spot) → places_from start x.0 ts x.1 ≡ places_from start x.0 us x.1) → (x : ℕ × List Spot) → places_from start x.0 (t ∷ ts) x.1 ≡ places_from start x.0 (u ∷ us) x.1
+      step t u ts us here rest (end, []) = refl
+      step t u ts us here rest (end, s ∷ ss) =
+          ap (λ p. p ∷ places_from start (copy_end start end t s) ts ss) (place_alike end t u here s) ∙ ap (λ e. place_at start end u s ∷ places_from start e ts ss) (end_alike end t u here s) ∙ ap (λ ps. place_at start end u s ∷ ps) (rest (copy_end start end u s, ss))
 
   ends_alike : (ts us : List Tree) → AllAlike ts us → (end : ℕ) (ss : List Spot) → copies_end start end ts ss ≡ copies_end start end us ss
-  ends_alike [] [] h end ss = refl
-  ends_alike [] (u ∷ us) h end ss = absurd h
-  ends_alike (t ∷ ts) [] h end ss = absurd h
-  ends_alike (t ∷ ts) (u ∷ us) h end [] = refl
-  ends_alike (t ∷ ts) (u ∷ us) h end (s ∷ ss) =
-      ap (λ e. copies_end start e ts ss) (end_alike end t u h.0 s) ∙ ends_alike ts us h.1 (copy_end start end u s) ss
+  ends_alike ts us h end ss = all_alike (λ (vs : List Tree) (x : ℕ × List Spot). copies_end start x.0 vs x.1) step ts us h (end, ss)
+    where
+      step : (t u : Tree) (ts us : List Tree) → AreAlike t u → ((x : ℕ × List Spot) → copies_end start x.0 ts x.1 ≡ copies_end start x.0 us x.1) → (x : ℕ × List Spot) → copies_end start x.0 (t ∷ ts) x.1 ≡ copies_end start x.0 (u ∷ us) x.1
+      step t u ts us here rest (end, []) = refl
+      step t u ts us here rest (end, s ∷ ss) =
+          ap (λ e. copies_end start e ts ss) (end_alike end t u here s) ∙ rest (copy_end start end u s, ss)
 
   result_alike : (end : ℕ) (t u : Tree) → AreAlike t u → (s : ResultSpot) → result_at start end t s ≡ result_at start end u s
   result_alike end t u h no_result = refl

@@ -62,93 +62,74 @@ module _ (general floating : ℕ → ℕ) (generals floatings : ℕ) where
   chain_end a [] b h = h
   chain_end a (l ∷ ls) b h = at_most_via a h.0 b h.3 (chain_end h.0 ls b h.4)
 
-  pub chain_from : (a : Taken) (ls : List Loc) (b : Taken) → Chain a ls b → AllByRecursion (From a) ls
-  chain_from a [] b h = tt
-  chain_from a (l ∷ ls) b h = (h.1, weaker ls (chain_from h.0 ls b h.4))
-    where
-      weaker : (ms : List Loc) → AllByRecursion (From h.0) ms → AllByRecursion (From a) ms
-      weaker [] k = tt
-      weaker (n ∷ ms) k = (from_less a h.0 n h.3 k.0, weaker ms k.1)
+  until_more : (a b : Taken) (l : Loc) → AtMost a b → Until a l → Until b l
+  until_more a b (G r) h u = (u.0, u.1, omega (arith, h.general, u.2))
+  until_more a b (F r) h u = (u.0, u.1, omega (arith, h.vector, u.2))
+  until_more a b (S n w) h u = (omega (arith, h.stack, u.0), u.1, u.2)
+
+  -- each place of a chain is none of those taken before it, and one of those taken after it
+  pub chain_each : (P : Loc → Type 0) (a : Taken) (ls : List Loc) (b : Taken) → Chain a ls b → ((m : Loc) → From a m → Until b m → P m) → AllByRecursion P ls
+  chain_each P a [] b h each = tt
+  chain_each P a (l ∷ ls) b h each =
+      (each l h.1 (until_more h.0 b l (chain_end h.0 ls b h.4) h.2), chain_each P h.0 ls b h.4 (λ m from until. each m (from_less a h.0 m h.3 from) until))
 
   module _ (registers : Registers general floating generals floatings) where
     pub until_from : (a : Taken) (l m : Loc) → Until a l → From a m → Apart l m
     until_from a (G r) (G q) u f = λ e. registers.general_apart u.0 f.0 (omega (arith, u.2, f.2)) f.3 (sym u.1 ∙ e ∙ f.1)
     until_from a (F r) (F q) u f = λ e. registers.floating_apart u.0 f.0 (omega (arith, u.2, f.2)) f.3 (sym u.1 ∙ e ∙ f.1)
     until_from a (S n v) (S k w) u f = inl (omega (arith, u.0, f))
-    until_from a (G r) (F q) u f = tt
-    until_from a (G r) (S n w) u f = tt
-    until_from a (F r) (G q) u f = tt
-    until_from a (F r) (S n w) u f = tt
-    until_from a (S n w) (G q) u f = tt
-    until_from a (S n w) (F q) u f = tt
+    until_from a _ _ u f = tt
 
     pub chain_apart : (a : Taken) (ls : List Loc) (b : Taken) → Chain a ls b → AreApart ls
     chain_apart a [] b h = tt
-    chain_apart a (l ∷ ls) b h = (each ls (chain_from h.0 ls b h.4), chain_apart h.0 ls b h.4)
-      where
-        each : (ms : List Loc) → AllByRecursion (From h.0) ms → AllByRecursion (Apart l) ms
-        each [] k = tt
-        each (n ∷ ms) k = (until_from h.0 l n h.2 k.0, each ms k.1)
+    chain_apart a (l ∷ ls) b h =
+        (chain_each (Apart l) h.0 ls b h.4 (λ m from until. until_from h.0 l m h.2 from), chain_apart h.0 ls b h.4)
 
   module _ (never : List Loc) (in_general : (k : ℕ) → k < generals → IsNoneOf never (G (general k))) (in_floating : (k : ℕ) → k < floatings → IsNoneOf never (F (floating k))) (on_stack : (n w : ℕ) → IsNoneOf never (S n w)) where
     pub chain_allowed : (a : Taken) (ls : List Loc) (b : Taken) → Chain a ls b → AllByRecursion (IsNoneOf never) ls
-    chain_allowed a [] b h = tt
-    chain_allowed a (l ∷ ls) b h = (one l h.1, chain_allowed h.0 ls b h.4)
+    chain_allowed a ls b h = chain_each (IsNoneOf never) a ls b h one
       where
-        one : (m : Loc) → From a m → IsNoneOf never m
-        one (G r) f = subst (λ q. IsNoneOf never (G q)) (sym f.1) (in_general f.0 f.3)
-        one (F r) f = subst (λ q. IsNoneOf never (F q)) (sym f.1) (in_floating f.0 f.3)
-        one (S n w) f = on_stack n w
+        one : (m : Loc) → From a m → Until b m → IsNoneOf never m
+        one (G r) f u = subst (λ q. IsNoneOf never (G q)) (sym f.1) (in_general f.0 f.3)
+        one (F r) f u = subst (λ q. IsNoneOf never (F q)) (sym f.1) (in_floating f.0 f.3)
+        one (S n w) f u = on_stack n w
 
   module _ (registers : List Loc) (in_general : (k : ℕ) → k < generals → IsOneOf registers (G (general k))) (in_floating : (k : ℕ) → k < floatings → IsOneOf registers (F (floating k))) where
     pub chain_passed : (a : Taken) (ls : List Loc) (b : Taken) → Chain a ls b → AllByRecursion (IsOnStackOrIn registers) ls
-    chain_passed a [] b h = tt
-    chain_passed a (l ∷ ls) b h = (one l h.1, chain_passed h.0 ls b h.4)
+    chain_passed a ls b h = chain_each (IsOnStackOrIn registers) a ls b h one
       where
-        one : (m : Loc) → From a m → IsOnStackOrIn registers m
-        one (G r) f = subst (λ q. IsOneOf registers (G q)) (sym f.1) (in_general f.0 f.3)
-        one (F r) f = subst (λ q. IsOneOf registers (F q)) (sym f.1) (in_floating f.0 f.3)
-        one (S n w) f = tt
+        one : (m : Loc) → From a m → Until b m → IsOnStackOrIn registers m
+        one (G r) f u = subst (λ q. IsOneOf registers (G q)) (sym f.1) (in_general f.0 f.3)
+        one (F r) f u = subst (λ q. IsOneOf registers (F q)) (sym f.1) (in_floating f.0 f.3)
+        one (S n w) f u = tt
 
   -- places of a chain that ends with no stack taken
   module _ (registers : List Loc) (b : Taken) (no_stack : b.stack ≡ 0) (in_general : (k : ℕ) → k < b.general → IsOneOf registers (G (general k))) (in_floating : (k : ℕ) → k < b.vector → IsOneOf registers (F (floating k))) where
     pub chain_in : (a : Taken) (ls : List Loc) → Chain a ls b → AllByRecursion (IsOneOf registers) ls
-    chain_in a [] h = tt
-    chain_in a (l ∷ ls) h = (one l h.2, chain_in h.0 ls h.4)
+    chain_in a ls h = chain_each (IsOneOf registers) a ls b h one
       where
-        rest : AtMost h.0 b
-        rest = chain_end h.0 ls b h.4
-
-        one : (m : Loc) → Until h.0 m → IsOneOf registers m
-        one (G r) u = subst (λ q. IsOneOf registers (G q)) (sym u.1) (in_general u.0 (omega (arith, u.2, rest.general)))
-        one (F r) u = subst (λ q. IsOneOf registers (F q)) (sym u.1) (in_floating u.0 (omega (arith, u.2, rest.vector)))
-        one (S n w) u = absurd (omega (arith, u.0, u.1, rest.stack, no_stack))
+        one : (m : Loc) → From a m → Until b m → IsOneOf registers m
+        one (G r) f u = subst (λ q. IsOneOf registers (G q)) (sym u.1) (in_general u.0 u.2)
+        one (F r) f u = subst (λ q. IsOneOf registers (F q)) (sym u.1) (in_floating u.0 u.2)
+        one (S n w) f u = absurd (omega (arith, u.0, u.1, no_stack))
 
   -- each place stands in the machine, where each register of the lists does
   module _ (isa : Isa) (in_general : (k : ℕ) → k < generals → general k < general_registers isa) (in_floating : (k : ℕ) → k < floatings → StandsIn isa 0 (F (floating k))) where
     pub chain_stands_in : (a : Taken) (ls : List Loc) (b : Taken) (stack : ℕ) → b.stack ≤ stack → Chain a ls b → AllByRecursion (StandsIn isa stack) ls
-    chain_stands_in a [] b stack room h = tt
-    chain_stands_in a (l ∷ ls) b stack room h = (one l h.1 h.2, chain_stands_in h.0 ls b stack room h.4)
+    chain_stands_in a ls b stack room h = chain_each (StandsIn isa stack) a ls b h one
       where
-        rest : AtMost h.0 b
-        rest = chain_end h.0 ls b h.4
-
-        one : (m : Loc) → From a m → Until h.0 m → StandsIn isa stack m
+        one : (m : Loc) → From a m → Until b m → StandsIn isa stack m
         one (G r) f u = inl (subst (λ q. q < general_registers isa) (sym f.1) (in_general f.0 f.3))
         one (F r) f u = subst (λ q. StandsIn isa 0 (F q)) (sym f.1) (in_floating f.0 f.3)
-        one (S n w) f u = inl (omega (arith, u.0, rest.stack, room), u.1, u.2)
+        one (S n w) f u = inl (omega (arith, u.0, room), u.1, u.2)
 
   pub chain_lies_in : (isa : Isa) → ((k : ℕ) → k < generals → general k < general_registers isa) → ((k : ℕ) → k < floatings → floating k < floating_registers isa) → (a : Taken) (ls : List Loc) (b : Taken) (stack : ℕ) → b.stack ≤ stack → Chain a ls b → AllByRecursion (LiesIn isa stack) ls
-  chain_lies_in isa gs fs a [] b stack room h = tt
-  chain_lies_in isa gs fs a (l ∷ ls) b stack room h = (one l h.1 h.2, chain_lies_in isa gs fs h.0 ls b stack room h.4)
+  chain_lies_in isa gs fs a ls b stack room h = chain_each (LiesIn isa stack) a ls b h one
     where
-      rest : AtMost h.0 b
-      rest = chain_end h.0 ls b h.4
-
-      one : (m : Loc) → From a m → Until h.0 m → LiesIn isa stack m
+      one : (m : Loc) → From a m → Until b m → LiesIn isa stack m
       one (G r) f u = subst (λ q. q < general_registers isa) (sym f.1) (gs f.0 f.3)
       one (F r) f u = subst (λ q. q < floating_registers isa) (sym f.1) (fs f.0 f.3)
-      one (S n w) f u = (omega (arith, u.0, rest.stack, room), u.1, u.2)
+      one (S n w) f u = (omega (arith, u.0, room), u.1, u.2)
 
 -- copies and buffers, which take stack alone
 pub slots_chain : (general floating : ℕ → ℕ) (generals floatings : ℕ) (a : Taken) (at n : ℕ) (b : Taken) → a.stack ≤ at → at + 8 * n ≤ b.stack → a.general ≤ b.general → a.vector ≤ b.vector → Chain general floating generals floatings a (stack_words at n) b

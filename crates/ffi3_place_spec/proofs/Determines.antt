@@ -3,7 +3,7 @@ use Rattle.std.proofs.Common.{◌≡◌, ℕ, zero, suc, ◌+◌, ◌-◌, ◌<�
 use Rattle.std.specs.List.{AllByRecursion}
 use Rattle.std.proofs.lemmas.List.{ext_get_or}
 use Rattle.std.proofs.lemmas.Bool.Decides.{nat_tests}
-use Rattle.ffi3_type_spec.specs.Tree.{Tree, void, scalar, left_out, structure, array, Trees, no_trees, tree, trees_of}
+use Rattle.ffi3_type_spec.specs.Tree.{Tree, void, scalar, structure, array, Trees, no_trees, tree, trees_of}
 use Rattle.ffi3_type_spec.specs.Layout.{Leaf, Layout, layouts, element, start_of, leaves_before, moved, leaves_of, scalar_size}
 use Rattle.ffi3_type_spec.specs.Signature.{Signature}
 use Rattle.ffi3_type_spec.specs.Value.{ValueTree, void_value, leaf_value, struct_value, ValueTrees, no_values, value, fits, all_fit}
@@ -24,44 +24,24 @@ use Rattle.ffi3_place_spec.proofs.Tests.{and_left, and_right, each_at}
 mutual
   bytes_determine : (t : Tree) (v w : ValueTree) (xs ys : List (List ℕ)) → fits t v ≡ true → fits t w ≡ true → leaf_bytes v ++ xs ≡ leaf_bytes w ++ ys → (v ≡ w) × (xs ≡ ys)
   bytes_determine void void_value void_value xs ys fv fw e = (refl, e)
-  bytes_determine void void_value (leaf_value c) xs ys fv fw e = cc
-  bytes_determine void void_value (struct_value ws) xs ys fv fw e = cc
-  bytes_determine void (leaf_value b) w xs ys fv fw e = cc
-  bytes_determine void (struct_value vs) w xs ys fv fw e = cc
-  bytes_determine (scalar s) void_value w xs ys fv fw e = cc
-  bytes_determine (scalar s) (leaf_value b) void_value xs ys fv fw e = cc
   bytes_determine (scalar s) (leaf_value b) (leaf_value c) xs ys fv fw e = (cc, cc)
-  bytes_determine (scalar s) (leaf_value b) (struct_value ws) xs ys fv fw e = cc
-  bytes_determine (scalar s) (struct_value vs) w xs ys fv fw e = cc
-  bytes_determine (left_out k) v w xs ys fv fw e = cc
-  bytes_determine (structure ts) void_value w xs ys fv fw e = cc
-  bytes_determine (structure ts) (leaf_value b) w xs ys fv fw e = cc
-  bytes_determine (structure ts) (struct_value vs) void_value xs ys fv fw e = cc
-  bytes_determine (structure ts) (struct_value vs) (leaf_value c) xs ys fv fw e = cc
   bytes_determine (structure ts) (struct_value vs) (struct_value ws) xs ys fv fw e =
       let both = all_bytes_determine ts vs ws xs ys fv fw e in
       (ap struct_value both.0, both.1)
-  bytes_determine (array no_trees n) v w xs ys fv fw e = cc
-  bytes_determine (array (tree t ts) n) void_value w xs ys fv fw e = cc
-  bytes_determine (array (tree t ts) n) (leaf_value b) w xs ys fv fw e = cc
-  bytes_determine (array (tree t ts) n) (struct_value vs) void_value xs ys fv fw e = cc
-  bytes_determine (array (tree t ts) n) (struct_value vs) (leaf_value c) xs ys fv fw e = cc
   bytes_determine (array (tree t ts) n) (struct_value vs) (struct_value ws) xs ys fv fw e =
       let both = all_bytes_determine (trees_of (replicate n t)) vs ws xs ys fv fw e in
       (ap struct_value both.0, both.1)
+  bytes_determine _ _ _ xs ys fv fw e = cc
 
   all_bytes_determine : (ts : Trees) (vs ws : ValueTrees) (xs ys : List (List ℕ)) → all_fit ts vs ≡ true → all_fit ts ws ≡ true → all_leaf_bytes vs ++ xs ≡ all_leaf_bytes ws ++ ys → (vs ≡ ws) × (xs ≡ ys)
   all_bytes_determine no_trees no_values no_values xs ys fv fw e = (refl, e)
-  all_bytes_determine no_trees no_values (value w ws) xs ys fv fw e = cc
-  all_bytes_determine no_trees (value v vs) ws xs ys fv fw e = cc
-  all_bytes_determine (tree t ts) no_values ws xs ys fv fw e = cc
-  all_bytes_determine (tree t ts) (value v vs) no_values xs ys fv fw e = cc
   all_bytes_determine (tree t ts) (value v vs) (value w ws) xs ys fv fw e =
       let regrouped = sym (append_assoc (leaf_bytes v) (all_leaf_bytes vs) xs) ∙ e ∙ append_assoc (leaf_bytes w) (all_leaf_bytes ws) ys in
       let first = bytes_determine t v w (all_leaf_bytes vs ++ xs) (all_leaf_bytes ws ++ ys) (and_left (fits t v) (all_fit ts vs) fv) (and_left (fits t w) (all_fit ts ws) fw) regrouped in
       let others = all_bytes_determine ts vs ws xs ys (and_right (fits t v) (all_fit ts vs) fv) (and_right (fits t w) (all_fit ts ws) fw) first.1 in
       let same : value v vs ≡ value w ws = ap (λ u. value u vs) first.0 ∙ ap (λ us. value w us) others.0 in
       (same, others.1)
+  all_bytes_determine _ _ _ xs ys fv fw e = cc
 
 pub same_bytes : (t : Tree) (v w : ValueTree) → fits t v ≡ true → fits t w ≡ true → leaf_bytes v ≡ leaf_bytes w → v ≡ w
 same_bytes t v w fv fw e = (bytes_determine t v w [] [] fv fw (ap (λ b. b ++ []) e)).0
@@ -103,32 +83,22 @@ lengths_append (x ∷ xs) ys = ap (λ ns. length x ∷ ns) (lengths_append xs ys
 mutual
   pub lengths_fit : (t : Tree) (v : ValueTree) → fits t v ≡ true → map length (leaf_bytes v) ≡ sizes (leaves_of t)
   lengths_fit void void_value f = refl
-  lengths_fit void (leaf_value b) f = cc
-  lengths_fit void (struct_value vs) f = cc
-  lengths_fit (scalar s) void_value f = cc
   lengths_fit (scalar s) (leaf_value b) f =
       let same : length b ≡ scalar_size s = grind (arith, nat_tests, f) in
       ap (λ n. n ∷ []) same
-  lengths_fit (scalar s) (struct_value vs) f = cc
-  lengths_fit (left_out k) v f = cc
-  lengths_fit (structure ts) void_value f = cc
-  lengths_fit (structure ts) (leaf_value b) f = cc
   lengths_fit (structure ts) (struct_value vs) f = all_lengths_fit ts vs f ∙ sym (sizes_of_all (layouts ts))
-  lengths_fit (array no_trees n) v f = cc
-  lengths_fit (array (tree t ts) n) void_value f = cc
-  lengths_fit (array (tree t ts) n) (leaf_value b) f = cc
   lengths_fit (array (tree t ts) n) (struct_value vs) f =
       let us = trees_of (replicate n t) in
       all_lengths_fit us vs f ∙ sym (sizes_of_all (layouts us)) ∙ ap sizes (sym (array_leaves (tree t ts) n))
+  lengths_fit _ _ f = cc
 
   all_lengths_fit : (ts : Trees) (vs : ValueTrees) → all_fit ts vs ≡ true → map length (all_leaf_bytes vs) ≡ all_sizes (layouts ts)
   all_lengths_fit no_trees no_values f = refl
-  all_lengths_fit no_trees (value v vs) f = cc
-  all_lengths_fit (tree t ts) no_values f = cc
   all_lengths_fit (tree t ts) (value v vs) f =
       let first = lengths_fit t v (and_left (fits t v) (all_fit ts vs) f) in
       let others = all_lengths_fit ts vs (and_right (fits t v) (all_fit ts vs) f) in
       lengths_append (leaf_bytes v) (all_leaf_bytes vs) ∙ ap (λ ns. ns ++ map length (all_leaf_bytes vs)) first ∙ ap (λ ns. sizes (leaves_of t) ++ ns) others
+  all_lengths_fit _ _ f = cc
 
 -- ---- pieces
 

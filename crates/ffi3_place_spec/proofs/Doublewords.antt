@@ -2,7 +2,7 @@
 use Rattle.std.proofs.Common.{◌≡◌, ℕ, zero, suc, ◌+◌, ◌-◌, ◌*◌, ◌/◌, ◌<◌, ◌≤◌, true, List, [], ◌∷◌, ◌++◌, ap, sym, ◌∙◌, refl, arith, subst, append_assoc, ⊎_elim}
 use Rattle.std.specs.List.{AllByRecursion, Any}
 use Rattle.std.proofs.lemmas.Bool.{cases_lt}
-use Rattle.ffi3_type_spec.specs.Tree.{Tree, void, scalar, left_out, structure, Scalar, u8, s8, u16, s16, u32, s32, array}
+use Rattle.ffi3_type_spec.specs.Tree.{Tree, scalar, Scalar, u8, s8, u16, s16, u32, s32}
 use Rattle.ffi3_type_spec.specs.Layout.{Leaf, size_of, scalar_size, least_multiple}
 use Rattle.ffi3_place_spec.specs.declared.Loc.{Loc}
 use Rattle.ffi3_place_spec.specs.declared.Loc.TheVariants.{S}
@@ -40,11 +40,8 @@ filled_scalar e suits _ l j whole h = tt
 
 -- only a lone integer is filled, and it is one doubleword
 pub filling_suits : (e : Ext) → SuitsNarrow e → (t : Tree) → SuitsDoublewords t (filling e t)
-filling_suits e suits void l j whole h = tt
 filling_suits e suits (scalar s) l j whole h = filled_scalar e suits s l j whole h
-filling_suits e suits (left_out k) l j whole h = tt
-filling_suits e suits (structure ts) l j whole h = tt
-filling_suits e suits (array ts n) l j whole h = tt
+filling_suits e suits _ l j whole h = tt
 
 pub widening_suits : (t : Tree) → SuitsDoublewords t (widening t)
 widening_suits t = filling_suits Widen (λ u p h. h) t

@@ -1,10 +1,9 @@
 -- Where one thing begins after another is never before it, and near behind it; and ends behind more things are no less.
-use Rattle.std.proofs.Common.{◌≡◌, ℕ, zero, suc, ◌+◌, ◌≤◌, max, Bool, true, false, cond, subst, sym, inl, inr, arith}
-use Rattle.std.proofs.lemmas.Bool.{cases_lt}
+use Rattle.std.proofs.Common.{ℕ, ◌+◌, ◌≤◌, max, Bool, true, false, cond, arith}
 use Rattle.ffi3_type_spec.specs.declared.limits.TheConstants.{LARGEST_GAP}
 use Rattle.ffi3_type_spec.specs.Tree.{Tree}
 use Rattle.ffi3_type_spec.specs.Layout.{align_of, least_multiple}
-use Rattle.ffi3_type_spec.proofs.Layouts.{least_multiple-above, least_multiple-below, align_bounded}
+use Rattle.ffi3_type_spec.proofs.Layouts.{rises, least_multiple-above, least_multiple-below, align_bounded}
 use Rattle.ffi3_place_spec.specs.Standard.{start}
 use Rattle.ffi3_place_spec.specs.Sums.{end_below}
 
@@ -30,12 +29,4 @@ even-near false end = omega arith
 -- ---- ends behind more things
 
 pub ends_rise : (step : ℕ → ℕ → ℕ) (from : ℕ) → ((i end : ℕ) → end ≤ step i end) → (i j : ℕ) → i ≤ j → end_below step from i ≤ end_below step from j
-ends_rise step from behind i zero h =
-    let same : i ≡ 0 = omega arith in
-    subst (λ k. end_below step from k ≤ from) (sym same) (omega arith)
-ends_rise step from behind i (suc j) h =
-    elim (cases_lt i (suc j)) [
-      | inl below ↦ omega (arith, ends_rise step from behind i j (omega arith), behind j (end_below step from j))
-      | inr at_least ↦ let same : i ≡ suc j = omega arith in
-          subst (λ k. end_below step from k ≤ end_below step from (suc j)) (sym same) (omega arith)
-    ]
+ends_rise step from behind = rises (end_below step from) (λ i. behind i (end_below step from i))

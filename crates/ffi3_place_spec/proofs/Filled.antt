@@ -1,7 +1,7 @@
 -- Pieces that are filled as the standard says: doublewords of one value, and references.
 use Rattle.std.proofs.Common.{◌≡◌, ℕ, zero, suc, ◌+◌, ◌<◌, true, false, refl, arith}
 use Rattle.std.specs.List.{AllByRecursion}
-use Rattle.ffi3_type_spec.specs.Tree.{Tree, void, scalar, left_out, structure, u8, s8, u16, s16, u32, s32, u64, s64, u128, s128, float, double, pointer, x87, binary128, array}
+use Rattle.ffi3_type_spec.specs.Tree.{Tree, scalar, u8, s8, u16, s16, u32, s32}
 use Rattle.ffi3_type_spec.specs.Layout.{size_of}
 use Rattle.ffi3_place_spec.specs.declared.Loc.{Loc}
 use Rattle.ffi3_place_spec.specs.declared.Ext.{Ext}
@@ -11,25 +11,13 @@ use Rattle.ffi3_place_spec.specs.Sound.{is_narrow_integer, is_floating_place, Is
 
 -- a lone narrow integer's filling is the one given
 pub narrow_filling : (e : Ext) (t : Tree) → is_narrow_integer t ≡ true → filling e t ≡ e
-narrow_filling e void h = cc
-narrow_filling e (left_out k) h = cc
-narrow_filling e (structure ts) h = cc
-narrow_filling e (array ts n) h = cc
 narrow_filling e (scalar u8) h = refl
 narrow_filling e (scalar s8) h = refl
 narrow_filling e (scalar u16) h = refl
 narrow_filling e (scalar s16) h = refl
 narrow_filling e (scalar u32) h = refl
 narrow_filling e (scalar s32) h = refl
-narrow_filling e (scalar u64) h = cc
-narrow_filling e (scalar s64) h = cc
-narrow_filling e (scalar u128) h = cc
-narrow_filling e (scalar s128) h = cc
-narrow_filling e (scalar float) h = cc
-narrow_filling e (scalar double) h = cc
-narrow_filling e (scalar pointer) h = cc
-narrow_filling e (scalar x87) h = cc
-narrow_filling e (scalar binary128) h = cc
+narrow_filling e _ h = cc
 
 -- a place of eight bytes is no narrower one
 pub no_narrow_place : {n : ℕ} (l : Loc) → IsWhole l → place_size l < 8 → n ≡ place_size l

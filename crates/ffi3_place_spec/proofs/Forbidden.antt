@@ -56,12 +56,7 @@ same_is (G q) (G r) h = ap G (same_number q r h)
 same_is (F q) (F r) h = ap F (same_number q r h)
 same_is (S q v) (S r w) h =
     ap (λ n. S n v) (same_number q r (and_left (eqb q r) (eqb v w) h)) ∙ ap (S r) (same_number v w (and_right (eqb q r) (eqb v w) h))
-same_is (G q) (F r) h = cc
-same_is (G q) (S r w) h = cc
-same_is (F q) (G r) h = cc
-same_is (F q) (S r w) h = cc
-same_is (S q w) (G r) h = cc
-same_is (S q w) (F r) h = cc
+same_is _ _ h = cc
 
 abbrev pub is_one_of : List Loc → Loc → Bool
 is_one_of [] l = false

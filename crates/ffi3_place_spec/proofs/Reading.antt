@@ -148,27 +148,17 @@ mutual
 mutual
   pub reads : (t : Tree) (v : ValueTree) (out : List ℕ) → fits t v ≡ true → length out ≡ size_of t → LeavesRead out (leaves_of t) (leaf_bytes v) → value_in t out ≡ v
   reads void void_value out f sized r = refl
-  reads void (leaf_value b) out f sized r = cc
-  reads void (struct_value vs) out f sized r = cc
-  reads (scalar s) void_value out f sized r = cc
   reads (scalar s) (leaf_value b) out f sized r =
       let many : length b ≡ scalar_size s = grind (arith, nat_tests, f) in
       let kept : length (significant s out) ≡ scalar_size s = length-significant s out sized in
       ap leaf_value (ext_get_or 0 (significant s out) b (kept ∙ sym many) (λ k h. let n : k ≡ 0 + k = omega arith in
       let below : k < scalar_size s = omega (arith, kept, h) in
       sym (significant_same s out k below) ∙ ap (λ i. get_or out i 0) n ∙ r.0 k below))
-  reads (scalar s) (struct_value vs) out f sized r = cc
-  reads (left_out k) v out f sized r = cc
-  reads (structure ts) void_value out f sized r = cc
-  reads (structure ts) (leaf_value b) out f sized r = cc
   reads (structure ts) (struct_value vs) out f sized r =
       let es = layouts ts in
       let room : (k : ℕ) → k < length es → start_of es (0 + k) + (element es (0 + k)).size ≤ length out = λ k below. let n : 0 + k ≡ k = omega arith in
       subst (λ i. start_of es i + (element es i).size ≤ length out) (sym n) (omega (arith, sized, element_ends es k (end_before es (length es)) below refl, least_multiple-above (align_before es (length es)) (end_before es (length es)))) in
       ap struct_value (all_read es ts vs 0 out f (λ k. let n : 0 + k ≡ k = omega arith in ap (element es) n) room (subst (λ ls. LeavesRead out ls (all_leaf_bytes vs)) (sym (leaves_of_struct es)) r))
-  reads (array no_trees n) v out f sized r = cc
-  reads (array (tree t ts) n) void_value out f sized r = cc
-  reads (array (tree t ts) n) (leaf_value b) out f sized r = cc
   reads (array (tree t ts) n) (struct_value vs) out f sized r =
       let us = trees_of (replicate n t) in
       let es = layouts us in
@@ -177,11 +167,10 @@ mutual
       subst (λ i. start_of es i + (element es i).size ≤ length out) (sym m) (omega (arith, whole, element_ends es k (end_before es (length es)) below refl, least_multiple-above (align_before es (length es)) (end_before es (length es)))) in
       let read = subst (λ ls. LeavesRead out ls (all_leaf_bytes vs)) (sym (leaves_of_struct es)) (subst (λ ls. LeavesRead out ls (all_leaf_bytes vs)) (array_leaves (tree t ts) n) r) in
       array_value (tree t ts) n out ∙ ap struct_value (all_read es us vs 0 out f (λ k. let m : 0 + k ≡ k = omega arith in ap (element es) m) room read)
+  reads _ _ out f sized r = cc
 
   all_read : (es : List Layout) (us : Trees) (vs : ValueTrees) (i : ℕ) (out : List ℕ) → all_fit us vs ≡ true → ((k : ℕ) → element es (i + k) ≡ element (layouts us) k) → ((k : ℕ) → k < length (layouts us) → start_of es (i + k) + (element es (i + k)).size ≤ length out) → LeavesRead out (leaves_from es i (layouts us)) (all_leaf_bytes vs) → values_in us es i out ≡ vs
   all_read es no_trees no_values i out f same room r = refl
-  all_read es no_trees (value v vs) i out f same room r = cc
-  all_read es (tree t us) no_values i out f same room r = cc
   all_read es (tree t us) (value v vs) i out f same room r =
       let start : i + 0 ≡ i = omega arith in
       let here : element es i ≡ layout t = ap (element es) (sym start) ∙ same 0 in
@@ -197,3 +186,4 @@ mutual
       let one_more : i + 1 ≡ suc i = omega arith in
       let others = ap (λ n. values_in us es n out) one_more ∙ all_read es us vs (suc i) out others_fit next later both.1 in
       ap (λ w. value w (values_in us es (i + 1) out)) first ∙ ap (value v) others
+  all_read es _ _ i out f same room r = cc

@@ -17,9 +17,11 @@ saved_register (Register at) = at ∷ []
 saved_register Hidden = []
 saved_register Spare = []
 
+-- the registers that the words of a save area hold
 abbrev pub saved_registers : List SaveWord → List Loc
 saved_registers words = flat_map saved_register words
 
+-- the word holds a hidden result's address
 abbrev pub is_hidden_word : SaveWord → Bool
 is_hidden_word (Register at) = false
 is_hidden_word Hidden = true

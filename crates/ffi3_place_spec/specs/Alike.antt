@@ -10,11 +10,13 @@ pub data AreAlike : Tree → Tree → Type 0 where
   same_type : {t : Tree} → AreAlike t t
   same_layout : {ts us : Trees} → layout (structure ts) ≡ layout (structure us) → AreAlike (structure ts) (structure us)
 
+-- two lists of types, alike one by one
 abbrev pub AllAlike : List Tree → List Tree → Type 0
 AllAlike [] [] = ⊤
 AllAlike (t ∷ ts) (u ∷ us) = AreAlike t u × AllAlike ts us
 AllAlike _ _ = ⊥
 
+-- two signatures whose types are alike one by one
 pub record SignaturesAreAlike (s r : Signature) : Type 0 where
   pub result_type : AreAlike s.result_type r.result_type
   pub arguments : AllAlike s.arguments r.arguments
@@ -41,11 +43,13 @@ pub data AreAlikeButForArrays : Tree → Tree → Type 0 where
   elements_for_array : {ts us : Trees} → HasElementsForArray (structure ts) (structure us)
       → AreAlikeButForArrays (structure ts) (structure us)
 
+-- two lists of types that differ in that alone, one by one
 abbrev pub AllAlikeButForArrays : List Tree → List Tree → Type 0
 AllAlikeButForArrays [] [] = ⊤
 AllAlikeButForArrays (t ∷ ts) (u ∷ us) = AreAlikeButForArrays t u × AllAlikeButForArrays ts us
 AllAlikeButForArrays _ _ = ⊥
 
+-- two signatures whose types differ in that alone
 pub record DifferInArrays (s r : Signature) : Type 0 where
   pub result_type : AreAlikeButForArrays s.result_type r.result_type
   pub arguments : AllAlikeButForArrays s.arguments r.arguments

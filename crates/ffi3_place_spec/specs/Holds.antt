@@ -40,6 +40,7 @@ StandsInPieces m base pieces l bytes =
     (k : ℕ) → k < scalar_size l.kind
     → AllByRecursion (λ p. Carries (l.at + k) p → byte_at m base p.loc (l.at + k - p.off) ≡ get_or bytes k 0) pieces
 
+-- each leaf of a value stands in the pieces
 abbrev pub LeavesStand : Image → ℕ → List Piece → List Leaf → List (List ℕ) → Type 0
 LeavesStand m base pieces [] [] = ⊤
 LeavesStand m base pieces [] (_ ∷ _) = ⊥
@@ -60,11 +61,13 @@ OwnsArgument m base t (Direct pieces) v =
 OwnsArgument m base t (ByRef at copy) v =
     (fits t v ≡ true) × (word_at m base at ≡ m.sp + base + copy) × StandsInMemory m base copy t v
 
+-- one value for each argument, at the argument's place: the first value at the first place, and so on
 abbrev pub OwnsArguments : Image → ℕ → List Tree → List Place → List ValueTree → Type 0
 OwnsArguments m base [] [] [] = ⊤
 OwnsArguments m base (t ∷ ts) (p ∷ ps) (v ∷ vs) = OwnsArgument m base t p v × OwnsArguments m base ts ps vs
 OwnsArguments m base _ _ _ = ⊥
 
+-- the address of a hidden result's buffer stands at its place
 abbrev pub OwnsHidden : Image → ℕ → Res → Type 0
 OwnsHidden m base (Hidden at buffer) = word_at m base at ≡ m.sp + base + buffer
 OwnsHidden m base _ = ⊤
@@ -86,14 +89,17 @@ FillsAs Widen word _ _ = ⊤
 FillsAs Riscv word (scalar s) (leaf_value bytes) = word ≡ widened_from_32 s bytes
 FillsAs Riscv word _ _ = ⊤
 
+-- the place of each piece is filled so
 abbrev pub FillPieces : Image → ℕ → Tree → List Piece → ValueTree → Type 0
 FillPieces m base t pieces v =
     AllByRecursion (λ p. FillsAs p.ext (word_at m base p.loc) t v) pieces
 
+-- an argument's places are filled so; the place of an address is full
 abbrev pub FillsArgument : Image → ℕ → Tree → Place → ValueTree → Type 0
 FillsArgument m base t (Direct pieces) v = FillPieces m base t pieces v
 FillsArgument m base t (ByRef at copy) v = ⊤
 
+-- the places of all arguments are filled so
 abbrev pub FillArguments : Image → ℕ → List Tree → List Place → List ValueTree → Type 0
 FillArguments m base [] [] [] = ⊤
 FillArguments m base (t ∷ ts) (p ∷ ps) (v ∷ vs) = FillsArgument m base t p v × FillArguments m base ts ps vs
@@ -112,16 +118,19 @@ pub record Holds (std : Standard) (s : Signature) (values : List ValueTree) (m :
 
 -- ---- results; what was the frame's start at the call is sp at the return
 
+-- a result's leaves stand in its pieces, or in the buffer
 abbrev pub OwnsResult : Image → Tree → Res → ValueTree → Type 0
 OwnsResult m t Nothing v = ⊤
 OwnsResult m t (DirectRes pieces) v = LeavesStand m 0 pieces (leaves_of t) (leaf_bytes v)
 OwnsResult m t (Hidden at buffer) v = StandsInMemory m 0 buffer t v
 
+-- the value fits the type of the result and stands at its place; the image reaches over the whole frame
 pub record OwnResult (std : Standard) (s : Signature) (v : ValueTree) (m : Image) : Type 0 where
   pub reaches : frame_of std s ≤ length m.stack
   pub fitting : fits s.result_type v ≡ true
   pub stands : OwnsResult m s.result_type (plan_of std s).res v
 
+-- a result's places are filled so; the address of a hidden result stands where the standard returns it
 abbrev pub FillsResult : Standard → Image → Tree → Res → ValueTree → Type 0
 FillsResult std m t Nothing v = ⊤
 FillsResult std m t (DirectRes pieces) v = FillPieces m 0 t pieces v

@@ -16,9 +16,11 @@ place_size (S n w) = w
 abbrev pub IsWhole : Loc → Type 0
 IsWhole l = place_size l ≡ 8
 
+-- the places of pieces
 abbrev pub piece_locs : List Piece → List Loc
 piece_locs pieces = map (λ p. p.loc) pieces
 
+-- an argument's places: those of its pieces, or the one of the address of its copy
 abbrev pub place_locs : Place → List Loc
 place_locs (Direct pieces) = piece_locs pieces
 place_locs (ByRef at copy) = at ∷ []

@@ -66,10 +66,12 @@ IsOneOf places l = Any (λ at. at ≡ l) places
 
 -- ---- the places of a call
 
+-- the place of a hidden result's address
 abbrev pub hidden_locs : Res → List Loc
 hidden_locs (Hidden at buffer) = at ∷ []
 hidden_locs _ = []
 
+-- the places of a result that is passed in registers
 abbrev pub result_locs : Res → List Loc
 result_locs (DirectRes pieces) = piece_locs pieces
 result_locs _ = []
@@ -83,6 +85,7 @@ abbrev pub stack_words : ℕ → ℕ → List Loc
 stack_words at zero = []
 stack_words at (suc n) = S at 8 ∷ stack_words (at + 8) n
 
+-- as many of them as a value of this type takes
 abbrev pub stack_words_for : ℕ → Tree → List Loc
 stack_words_for at t = stack_words at ((size_of t + 7) / 8)
 
@@ -128,6 +131,7 @@ abbrev pub is_narrow_integer : Tree → Bool
 is_narrow_integer (scalar s) = is_integer s && nat_lt (scalar_size s) 8
 is_narrow_integer _ = false
 
+-- a floating register
 abbrev pub is_floating_place : Loc → Bool
 is_floating_place (F r) = true
 is_floating_place (G r) = false
@@ -157,15 +161,18 @@ pub record IsFilled (std : Standard) (t : Tree) (p : Piece) : Type 0 where
   pub single : is_floating_place p.loc ≡ true → p.len ≡ 4 → p.ext ≡ std.single
   pub narrow_place : place_size p.loc < 8 → p.len ≡ place_size p.loc
 
+-- each piece of an argument is filled so; the address of a copy is a whole word
 abbrev pub PlaceIsFilled : Standard → Tree → Place → Type 0
 PlaceIsFilled std t (Direct pieces) = AllByRecursion (IsFilled std t) pieces
 PlaceIsFilled std t (ByRef at copy) = ⊤
 
+-- the same of all arguments
 abbrev pub PlacesAreFilled : Standard → List Tree → List Place → Type 0
 PlacesAreFilled std [] [] = ⊤
 PlacesAreFilled std (t ∷ ts) (p ∷ ps) = PlaceIsFilled std t p × PlacesAreFilled std ts ps
 PlacesAreFilled std _ _ = ⊥
 
+-- the same of a result
 abbrev pub ResultIsFilled : Standard → Tree → Res → Type 0
 ResultIsFilled std t (DirectRes pieces) = AllByRecursion (IsFilled std t) pieces
 ResultIsFilled std t Nothing = ⊤
@@ -176,6 +183,7 @@ pub record HaveAll (t : Tree) (pieces : List Piece) : Type 0 where
   pub each : AllByRecursion (IsPieceOf t) pieces
   pub covered : AllByRecursion (CoversLeaf pieces) (leaves_of t)
 
+-- an argument is in pieces that have all of it, or its address has a whole word
 abbrev pub PlaceHasAll : Tree → Place → Type 0
 PlaceHasAll t (Direct pieces) = HaveAll t pieces
 PlaceHasAll t (ByRef at copy) = IsWhole at
@@ -199,6 +207,7 @@ abbrev pub StandsAbove : List Piece → Piece → Option ℕ → Type 0
 StandsAbove pieces p (Some r) = Any (λ q. (q.loc ≡ F r) × (q.len ≡ 8) × (q.off + 8 ≡ p.off)) pieces
 StandsAbove pieces p None = ⊤
 
+-- the word of the same register below a place, if the place is an upper word
 abbrev pub word_below_place : Isa → Loc → Option ℕ
 word_below_place isa (F r) = word_below isa r
 word_below_place isa (G r) = None
@@ -209,10 +218,12 @@ abbrev pub HaveLowerWords : Isa → List Piece → Type 0
 HaveLowerWords isa pieces =
     AllByRecursion (λ p. StandsAbove pieces p (word_below_place isa p.loc)) pieces
 
+-- the same of an argument
 abbrev pub PlaceHasLowerWords : Isa → Place → Type 0
 PlaceHasLowerWords isa (Direct pieces) = HaveLowerWords isa pieces
 PlaceHasLowerWords isa (ByRef at copy) = ⊤
 
+-- the same of a result
 abbrev pub ResultHasLowerWords : Isa → Res → Type 0
 ResultHasLowerWords isa (DirectRes pieces) = HaveLowerWords isa pieces
 ResultHasLowerWords isa Nothing = ⊤
@@ -230,6 +241,7 @@ abbrev pub AreRising : List Piece → Type 0
 AreRising [] = ⊤
 AreRising (p ∷ ps) = AllByRecursion (RisesTo p) ps × AreRising ps
 
+-- the same of an argument
 abbrev pub PlaceRises : Place → Type 0
 PlaceRises (Direct pieces) = AreRising pieces
 PlaceRises (ByRef at copy) = ⊤

@@ -37,34 +37,44 @@ pub record Placing : Type 0 where
 
 -- What a standard names of the machine of its target (`link`, `stack_pointer`, `reserved`, `link_register`, `trampoline_registers`) is what the machine has; `AgreesWithMachine` is that law.
 pub record Standard : Type 0 where
+  -- the target whose calls it places
   pub target : Target
-  -- bytes of the return address on the stack at entry, and of the callee's save area
+  -- how many bytes of the stack the return address has at entry: 0 where it is in a register
   pub link : ℕ
+  -- how many bytes the callee's save area has
   pub save : ℕ
+  -- the register that holds the stack pointer
   pub stack_pointer : Loc
-  -- the callee-saved registers; those that neither side of a call writes; the one that holds the return address
+  -- the callee-saved registers: at the return they are what they were at the entry
   pub callee_saved : List Loc
+  -- the registers that neither side of a call writes
   pub reserved : List Loc
+  -- the register that holds the return address at entry, if there is one
   pub link_register : Option Loc
   -- the registers in which arguments and the address of a hidden result are passed
   pub argument_registers : List Loc
   -- the words of a callee's save area, from its lowest address
   pub save_area : List SaveWord
-  -- the register that holds the closure's address at entry, and all that a trampoline writes
+  -- the registers that a trampoline writes, that of the closure's address among them
   pub trampoline_registers : List Loc
-  -- the register that tells at a call how many vector registers the arguments use, and the one in which a hidden result's address is returned
+  -- the register that tells at a call how many vector registers the arguments use, if there is one
   pub vector_count : Option Loc
+  -- the register in which the address of a hidden result is returned, if there is one
   pub returned_address : Option Loc
-  -- how a lone integer of fewer than eight bytes fills its place, and how a float fills a floating register
+  -- how a lone integer of fewer than eight bytes fills its place
   pub narrow : Ext
+  -- how a float fills a floating register
   pub single : Ext
   -- where a copy or a buffer of a type begins, after the end of what stands before it in the frame
   pub copy_start : ℕ → Tree → ℕ
+  -- where it places the arguments and the result of a signature
   pub placing : Signature → Placing
 
+-- n, rounded up to a multiple of eight
 abbrev pub round8 : ℕ → ℕ
 round8 n = least_multiple 8 n
 
+-- n, rounded up to a multiple of sixteen
 abbrev pub round16 : ℕ → ℕ
 round16 n = least_multiple 16 n
 
@@ -90,20 +100,24 @@ abbrev pub copy_end : (ℕ → Tree → ℕ) → ℕ → Tree → Spot → ℕ
 copy_end begin end t (in_pieces pieces) = end
 copy_end begin end t (by_reference at) = begin end t + round8 (size_of t)
 
+-- all arguments' places
 abbrev pub places_from : (ℕ → Tree → ℕ) → ℕ → List Tree → List Spot → List Place
 places_from begin end (t ∷ ts) (s ∷ ss) =
     place_at begin end t s ∷ places_from begin (copy_end begin end t s) ts ss
 places_from begin end _ _ = []
 
+-- where the copies of all arguments end
 abbrev pub copies_end : (ℕ → Tree → ℕ) → ℕ → List Tree → List Spot → ℕ
 copies_end begin end (t ∷ ts) (s ∷ ss) = copies_end begin (copy_end begin end t s) ts ss
 copies_end begin end _ _ = end
 
+-- a result's place, where what stands before its buffer ends at `end`
 abbrev pub result_at : (ℕ → Tree → ℕ) → ℕ → Tree → ResultSpot → Res
 result_at begin end t no_result = Nothing
 result_at begin end t (in_result_pieces pieces) = DirectRes pieces
 result_at begin end t (in_buffer at) = Hidden at (begin end t)
 
+-- where its buffer ends, if it has one
 abbrev pub buffer_end : (ℕ → Tree → ℕ) → ℕ → Tree → ResultSpot → ℕ
 buffer_end begin end t no_result = end
 buffer_end begin end t (in_result_pieces pieces) = end
@@ -114,10 +128,12 @@ abbrev pub copies_start : Placing → ℕ
 copies_start p = round16 p.stack_bytes
 
 module _ (std : Standard) (s : Signature) where
+  -- where the copies of all arguments end in the frame
   abbrev pub frame_copies_end : ℕ
   frame_copies_end =
       copies_end std.copy_start (copies_start (std.placing s)) s.arguments (std.placing s).arguments
 
+  -- the bytes of a call's frame: up to the end of its copies and of the buffer of a hidden result, at a multiple of 16
   abbrev pub frame_of : ℕ
   frame_of =
       round16 (buffer_end std.copy_start frame_copies_end s.result_type (std.placing s).result_spot)

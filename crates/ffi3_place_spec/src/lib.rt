@@ -1,4 +1,4 @@
-//! The words in which the definitions of `specs/` speak of places: plain data, with no code of its own but lists.
+//! Data types for argument locations: registers, stack offsets, the plan of a call. The only code is that of lists.
 #![tactic(auto)]
 
 mod listed;
