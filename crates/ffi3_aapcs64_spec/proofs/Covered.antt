@@ -4,7 +4,7 @@ use Rattle.std.specs.Prelude.{Option, Some, None, is_some}
 use Rattle.std.specs.List.{AllByRecursion, Any, list_all}
 use Rattle.std.proofs.lemmas.Bool.{cases_lt, ltb-false, leb-true}
 use Rattle.std.proofs.lemmas.Bool.Decides.{nat_tests}
-use Rattle.ffi3_type_spec.specs.Tree.{Tree, void, scalar, left_out, structure, Scalar, u8, s8, u16, s16, u32, s32, u64, s64, u128, s128, float, double, pointer, x87, binary128, array}
+use Rattle.ffi3_type_spec.specs.Tree.{Tree, void, scalar, left_out, structure, Scalar, u8, float, double, pointer, binary128, array}
 use Rattle.ffi3_type_spec.specs.Layout.{Leaf, leaves_of, size_of, align_of, scalar_size, least_multiple}
 use Rattle.ffi3_type_spec.proofs.Layouts.{scalar_room-bounds}
 use Rattle.ffi3_place_spec.specs.declared.Loc.{Loc}
@@ -32,11 +32,9 @@ abbrev pub IsFloating : Leaf → Type 0
 IsFloating l = is_some (kind_of l.kind) ≡ true
 
 floating_small : (s : Scalar) → is_some (kind_of s) ≡ true → is_of Quad s ≡ false → scalar_size s ≤ 8
-floating_small u128 e n = cc
-floating_small s128 e n = cc
-floating_small x87 e n = cc
-floating_small binary128 e n = cc
-floating_small _ e n = omega arith
+floating_small float e n = omega arith
+floating_small double e n = omega arith
+floating_small _ e n = cc
 
 quad_size : (s : Scalar) → is_of Quad s ≡ true → scalar_size s ≡ 16
 quad_size binary128 e = refl
@@ -44,10 +42,9 @@ quad_size u8 e = cc
 quad_size _ e = cc
 
 kind_there : (kind : Kind) (k : Option Kind) → is_kind kind k ≡ true → is_some k ≡ true
-kind_there Float None e = cc
-kind_there Double None e = cc
-kind_there Quad None e = cc
 kind_there kind (Some k) e = refl
+kind_there Float None e = cc
+kind_there _ None e = cc
 
 all_floating : (kind : Kind) (ls : List Leaf) → list_all (is_member kind) ls ≡ true → AllByRecursion IsFloating ls
 all_floating kind [] e = tt
@@ -131,24 +128,8 @@ registers_have_all first t = registers_have_all_if first t (in_vectors t) refl
 -- a narrow integer takes no vector registers
 not_narrow : (t : Tree) → in_vectors t ≡ true → is_narrow_integer t ≡ true → ⊥
 not_narrow void v h = cc
-not_narrow (left_out k) v h = cc
-not_narrow (structure ts) v h = cc
-not_narrow (array ts n) v h = cc
-not_narrow (scalar float) v h = cc
-not_narrow (scalar double) v h = cc
 not_narrow (scalar u8) v h = cc
-not_narrow (scalar s8) v h = cc
-not_narrow (scalar u16) v h = cc
-not_narrow (scalar s16) v h = cc
-not_narrow (scalar u32) v h = cc
-not_narrow (scalar s32) v h = cc
-not_narrow (scalar u64) v h = cc
-not_narrow (scalar s64) v h = cc
-not_narrow (scalar u128) v h = cc
-not_narrow (scalar s128) v h = cc
-not_narrow (scalar pointer) v h = cc
-not_narrow (scalar x87) v h = cc
-not_narrow (scalar binary128) v h = cc
+not_narrow _ v h = cc
 
 member_filled : (t : Tree) → in_vectors t ≡ true → (v : ℕ) (l : Leaf) (quad : Bool) → AllByRecursion (IsFilled aapcs64 t) (MemberBy quad v l)
 member_filled t e v l true = (
@@ -224,12 +205,10 @@ few_members_if n false some e h = cc
 
 -- a homogeneous aggregate has at most four members
 pub few_members : (t : Tree) → in_vectors t ≡ true → length (leaves_of t) ≤ 4
-few_members void e = cc
 few_members (scalar s) e = omega arith
-few_members (left_out k) e = cc
 few_members (structure ts) e =
     few_members_if (length (leaves_of (structure ts))) (ltb 0 (length (leaves_of (structure ts))) && leb (length (leaves_of (structure ts))) 4) _ refl e
-few_members (array ts n) e = cc
+few_members _ e = cc
 
 small_if : (v b : Bool) → v ≡ false → (not v && b) ≡ false → b ≡ false
 small_if true b ev e = cc

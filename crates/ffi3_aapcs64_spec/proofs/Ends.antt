@@ -3,7 +3,7 @@ use Rattle.std.proofs.Common.{◌≡◌, ℕ, zero, suc, ◌+◌, ◌<◌, ◌�
 use Rattle.std.specs.Prelude.{Some, slice_get}
 use Rattle.std.proofs.lemmas.Bool.{cases_lt}
 use Rattle.std.proofs.lemmas.Bool.Decides.{nat_tests}
-use Rattle.ffi3_type_spec.specs.Tree.{Tree, void, scalar, left_out, structure, array, tree_at}
+use Rattle.ffi3_type_spec.specs.Tree.{Tree, void, tree_at}
 use Rattle.ffi3_type_spec.specs.Signature.{Signature}
 use Rattle.ffi3_place_spec.specs.declared.Loc.TheVariants.{G, S}
 use Rattle.ffi3_place_spec.specs.declared.Plan.{Plan}
@@ -92,14 +92,7 @@ kind_rises false true v g w k e hv hg = cc
 
 pub result_when : (P : ResultSpot → Type 0) (t : Tree) → (t ≡ void → P no_result) → (is_copied t ≡ true → P (in_buffer (G 8))) → (¬ (t ≡ void) → is_copied t ≡ false → P (in_result_pieces (register_pieces 0 t))) → P (result_spot_of t)
 result_when P void none hidden direct = none refl
-result_when P (scalar k) none hidden direct =
-    result_cases P (scalar k) none hidden (direct (λ e. cc))
-result_when P (left_out k) none hidden direct =
-    result_cases P (left_out k) none hidden (direct (λ e. cc))
-result_when P (structure ts) none hidden direct =
-    result_cases P (structure ts) none hidden (direct (λ e. cc))
-result_when P (array ts n) none hidden direct =
-    result_cases P (array ts n) none hidden (direct (λ e. cc))
+result_when P t none hidden direct = result_cases P t none hidden (direct (λ e. cc))
 
 pub spot_of_copied : (t : Tree) → is_copied t ≡ true → result_spot_of t ≡ in_buffer (G 8)
 spot_of_copied t copied =
@@ -124,9 +117,8 @@ SpotIf copied inside first at t =
 
 copy_ends : (copied inside : Bool) (first at end : ℕ) (t : Tree) → copy_end start end t (SpotIf copied inside first at t) ≡ cond copied (start end t + round8 (size_of t)) end
 copy_ends true true first at end t = refl
-copy_ends true false first at end t = refl
 copy_ends false true first at end t = refl
-copy_ends false false first at end t = refl
+copy_ends _ _ first at end t = refl
 
 -- ---- all of a call
 

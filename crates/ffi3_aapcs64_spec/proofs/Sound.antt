@@ -2,7 +2,10 @@
 use Rattle.std.proofs.Common.{◌≡◌, ℕ, zero, suc, ◌+◌, ◌*◌, ◌<◌, ◌≤◌, inl, Bool, true, false, cond, leb, List, [], ◌∷◌, ◌++◌, subst, ap, sym, ◌∙◌, refl, arith}
 use Rattle.std.specs.List.{AllByRecursion, flat_map}
 use Rattle.ffi3_type_spec.specs.declared.Isa.TheVariants.{Aarch64}
-use Rattle.ffi3_type_spec.specs.Tree.{Tree, void, scalar, left_out, structure, pointer, array}
+use Rattle.ffi3_type_spec.specs.declared.Target.{Target}
+use Rattle.ffi3_type_spec.specs.declared.Target.TheVariants as target
+use Rattle.ffi3_type_spec.specs.TargetIsa.{isa_of}
+use Rattle.ffi3_type_spec.specs.Tree.{Tree, void, scalar, pointer}
 use Rattle.ffi3_type_spec.specs.Layout.{Leaf, leaves_of, size_of, align_of, has_long_double}
 use Rattle.ffi3_type_spec.specs.Signature.{Signature, HasNoLongDouble}
 use Rattle.std.specs.Prelude.{length}
@@ -13,9 +16,9 @@ use Rattle.ffi3_place_spec.specs.declared.Piece.{Piece}
 use Rattle.ffi3_place_spec.specs.declared.Taken.{Taken}
 use Rattle.ffi3_place_spec.specs.MachineRegisters.{further_arguments}
 use Rattle.ffi3_place_spec.specs.StubRegisters.{result_loads}
-use Rattle.ffi3_place_spec.specs.Standard.{Spot, in_pieces, by_reference, ResultSpot, no_result as not_passed, in_result_pieces, in_buffer, place_at, places_from, copy_end, result_at, copies_start, frame_copies_end, frame_of, plan_of, round8}
+use Rattle.ffi3_place_spec.specs.Standard.{Standard, start, Spot, in_pieces, by_reference, ResultSpot, no_result as not_passed, in_result_pieces, in_buffer, place_at, places_from, copy_end, result_at, copies_start, frame_copies_end, frame_of, plan_of, round8}
 use Rattle.ffi3_place_spec.specs.Doublewords.{doublewords, doublewords_at, widening, stack_pieces}
-use Rattle.ffi3_place_spec.specs.Sound.{Apart, AreApart, IsWhole, IsOnStackOrIn, piece_locs, place_locs, hidden_locs, result_locs, argument_locs, IsNoneOf, IsOneOf, IsFurther, StandsIn, copy_locs, buffer_locs, call_locs, closed_to_arguments, closed_to_results, PlaceHasLowerWords, ResultHasAll, ResultIsFilled, ResultHasLowerWords, IsSound, IsDetermined}
+use Rattle.ffi3_place_spec.specs.Sound.{Apart, AreApart, IsWhole, IsOnStackOrIn, piece_locs, place_locs, hidden_locs, result_locs, argument_locs, IsNoneOf, IsOneOf, IsFurther, StandsIn, copy_locs, buffer_locs, call_locs, closed_to_arguments, closed_to_results, PlaceRises, PlacesHaveAll, IsFilled, PlacesAreFilled, PlaceHasLowerWords, ResultHasAll, ResultIsFilled, ResultHasLowerWords, IsSound, IsDetermined}
 use Rattle.ffi3_place_spec.proofs.Chain.{AtMost, at_most_self, Chain, chain_append, chain_apart, chain_allowed, chain_passed, chain_in, chain_stands_in}
 use Rattle.ffi3_place_spec.proofs.Frame.{up_to, value_chain, frame_chain}
 use Rattle.ffi3_place_spec.proofs.Ends.{start-behind, even-behind}
@@ -146,28 +149,6 @@ module _ (start : ℕ → Tree → ℕ) where
       chain_append numbered halves 8 16 (doubled a) (place_locs (place_at start end t (spot_after a t))) (doubled (taken_with a t)) _ _
       (argument_chain end a t) (places_chain (copy_end start end t (spot_after a t)) (taken_with a t) ts)
 
--- ---- the whole signature, but for the hidden result's address
-
-abbrev taken_by_all : Signature → Taken
-taken_by_all s = taken_after untouched s.arguments
-
-abbrev pieces_and_references : Signature → List Loc
-pieces_and_references s = flat_map place_locs (plan_of aapcs64 s).places
-
-pieces_chain : (s : Signature) → PlacesChain untouched (pieces_and_references s) (taken_by_all s)
-pieces_chain s = places_chain aapcs64.copy_start (copies_start (placing_of s)) untouched s.arguments
-
-abbrev framed : Signature → Taken
-framed s = up_to (taken_by_all s) (frame_of aapcs64 s)
-
-abbrev copies_and_buffer : Signature → List Loc
-copies_and_buffer s =
-    copy_locs s.arguments (plan_of aapcs64 s).places ++ buffer_locs s.result_type (plan_of aapcs64 s).res
-
-call_chain : (s : Signature) → PlacesChain untouched (pieces_and_references s ++ copies_and_buffer s) (framed s)
-call_chain s =
-    chain_append numbered halves 8 16 (doubled untouched) (pieces_and_references s) (doubled (taken_by_all s)) _ (doubled (framed s)) (pieces_chain s) (frame_chain numbered halves 8 16 aapcs64 start-behind s (doubled (taken_by_all s)) (omega arith))
-
 -- ---- where a result stands
 
 -- a first argument is in registers, from number 0 on
@@ -175,62 +156,20 @@ as_first : (t : Tree) → result_from (spot_after untouched t) ≡ result_from (
 as_first t =
     ap (λ b. result_from (cond b (register_spot (register_start untouched t) t) (stack_spot (stack_start 0 (passed t)) t))) (first_fits t) ∙ ap (λ n. result_from (register_spot n t)) (first_at_zero t)
 
+by_copied : (P : ResultSpot → Type 0) (t : Tree) (b : Bool) → is_copied t ≡ b → (is_copied t ≡ true → P (in_buffer (G 8))) → (is_copied t ≡ false → P (in_result_pieces (register_pieces 0 t))) → P (result_from (cond b (by_reference (G 0)) (in_pieces (register_pieces 0 t))))
+by_copied P t true e hidden direct = hidden e
+by_copied P t false e hidden direct = direct e
+
 -- cases on where a result stands
 pub result_cases : (P : ResultSpot → Type 0) (t : Tree) → (t ≡ void → P not_passed) → (is_copied t ≡ true → P (in_buffer (G 8))) → (is_copied t ≡ false → P (in_result_pieces (register_pieces 0 t))) → P (result_spot_of t)
-result_cases P t none hidden direct = cases t none hidden direct
-  where
-    by_copied : (u : Tree) (b : Bool) → is_copied u ≡ b → (is_copied u ≡ true → P (in_buffer (G 8))) → (is_copied u ≡ false → P (in_result_pieces (register_pieces 0 u))) → P (result_from (cond b (by_reference (G 0)) (in_pieces (register_pieces 0 u))))
-    by_copied u true e hidden direct = hidden e
-    by_copied u false e hidden direct = direct e
+result_cases P void none hidden direct = none refl
+result_cases P t none hidden direct =
+    subst P (sym (as_first t)) (by_copied P t (is_copied t) refl hidden direct)
 
-    placed : (u : Tree) → (is_copied u ≡ true → P (in_buffer (G 8))) → (is_copied u ≡ false → P (in_result_pieces (register_pieces 0 u))) → P (result_from (spot_after untouched u))
-    placed u hidden direct =
-        subst P (sym (as_first u)) (by_copied u (is_copied u) refl hidden direct)
-
-    cases : (u : Tree) → (u ≡ void → P not_passed) → (is_copied u ≡ true → P (in_buffer (G 8))) → (is_copied u ≡ false → P (in_result_pieces (register_pieces 0 u))) → P (result_spot_of u)
-    cases void none hidden direct = none refl
-    cases (scalar k) none hidden direct = placed (scalar k) hidden direct
-    cases (left_out k) none hidden direct = placed (left_out k) hidden direct
-    cases (structure ts) none hidden direct = placed (structure ts) hidden direct
-    cases (array ts n) none hidden direct = placed (array ts n) hidden direct
-
--- ---- the hidden result's address, in x8
-
-hidden_cases : (P : List Loc → Type 0) → P [] → P (G 8 ∷ []) → (s : Signature) → P (hidden_locs (plan_of aapcs64 s).res)
-hidden_cases P none there s =
-    result_cases (λ spot. P (hidden_locs (result_at aapcs64.copy_start (frame_copies_end aapcs64 s) s.result_type spot))) s.result_type (λ e. none) (λ e. there) (λ e. none)
-
-pub apart_from_hidden : (l : Loc) → IsNoneOf (G 8 ∷ []) l → Apart (G 8) l
+apart_from_hidden : (l : Loc) → IsNoneOf (G 8 ∷ []) l → Apart (G 8) l
 apart_from_hidden (G r) h = λ e. h.0 (sym e)
 apart_from_hidden (F r) h = tt
 apart_from_hidden (S n w) h = tt
-
-plan_apart : (s : Signature) → AreApart (call_locs s (plan_of aapcs64 s))
-plan_apart s =
-    let others = chain_apart numbered halves 8 16 all_registers (doubled untouched) _ _ (call_chain s) in
-    let none = chain_allowed numbered halves 8 16 (G 8 ∷ []) argument_not_hidden (λ k h. (tt, tt)) (λ n w. (tt, tt)) (doubled untouched) _ _ (call_chain s) in
-    let from_hidden = each_weaker (IsNoneOf (G 8 ∷ [])) (Apart (G 8)) apart_from_hidden _ none in
-    hidden_cases (λ hs. AreApart ((hs ++ pieces_and_references s) ++ copies_and_buffer s)) others (from_hidden, others) s
-
-plan_in_frame : (s : Signature) → AllByRecursion (StandsIn Aarch64 (frame_of aapcs64 s)) (call_locs s (plan_of aapcs64 s))
-plan_in_frame s =
-    let others = chain_stands_in numbered halves 8 16 Aarch64 (λ k h. omega arith) halves_stand (doubled untouched) _ (doubled (framed s)) (frame_of aapcs64 s) (omega arith) (call_chain s) in
-    hidden_cases (λ hs. AllByRecursion (StandsIn Aarch64 (frame_of aapcs64 s)) ((hs ++ pieces_and_references s) ++ copies_and_buffer s)) others (inl (omega arith), others) s
-
-plan_on_stack : (s : Signature) → AllByRecursion (StandsIn Aarch64 (placing_of s).stack_bytes) (argument_locs (plan_of aapcs64 s))
-plan_on_stack s =
-    let others = chain_stands_in numbered halves 8 16 Aarch64 (λ k h. omega arith) halves_stand (doubled untouched) _ (doubled (taken_by_all s)) (placing_of s).stack_bytes (omega arith) (pieces_chain s) in
-    hidden_cases (λ hs. AllByRecursion (StandsIn Aarch64 (placing_of s).stack_bytes) (hs ++ pieces_and_references s)) others (inl (omega arith), others) s
-
-plan_allowed : (s : Signature) → AllByRecursion (IsNoneOf (closed_to_arguments aapcs64)) (argument_locs (plan_of aapcs64 s))
-plan_allowed s =
-    let others = chain_allowed numbered halves 8 16 (closed_to_arguments aapcs64) argument_allowed vector_allowed stack_allowed (doubled untouched) _ _ (pieces_chain s) in
-    hidden_cases (λ hs. AllByRecursion (IsNoneOf (closed_to_arguments aapcs64)) (hs ++ pieces_and_references s)) others (hidden_allowed, others) s
-
-plan_passed : (s : Signature) → AllByRecursion (IsOnStackOrIn (aapcs64.argument_registers ++ further_arguments Aarch64)) (argument_locs (plan_of aapcs64 s))
-plan_passed s =
-    let others = chain_passed numbered halves 8 16 (aapcs64.argument_registers ++ further_arguments Aarch64) argument_passes vector_passes (doubled untouched) _ _ (pieces_chain s) in
-    hidden_cases (λ hs. AllByRecursion (IsOnStackOrIn (aapcs64.argument_registers ++ further_arguments Aarch64)) (hs ++ pieces_and_references s)) others (hidden_passes, others) s
 
 -- ---- upper halves
 
@@ -276,108 +215,41 @@ arguments_not_further start end before (t ∷ ts) short =
     (spot_not_further_if start end (register_start before t) (stack_start before.stack (passed t)) t (in_registers before t) (members_fit before t) short.0)
     (arguments_not_further start (copy_end start end t (spot_after before t)) (taken_with before t) ts short.1)
 
-call_not_further : (s : Signature) → HasNoLongDouble s → AllByRecursion (IsNotFurther Aarch64) (call_locs s (plan_of aapcs64 s))
-call_not_further s plain =
-    let among = arguments_not_further aapcs64.copy_start (copies_start (placing_of s)) untouched s.arguments (each_without s.arguments plain.arguments) in
-    let frame = frame_not_further Aarch64 s.arguments (plan_of aapcs64 s).places s.result_type (plan_of aapcs64 s).res in
-    hidden_cases (λ hs. AllByRecursion (IsNotFurther Aarch64) ((hs ++ pieces_and_references s) ++ copies_and_buffer s)) (each_of_all (IsNotFurther Aarch64) (pieces_and_references s) (copies_and_buffer s) among frame) ((λ f. f), each_of_all (IsNotFurther Aarch64) (pieces_and_references s) (copies_and_buffer s) among frame) s
-
 -- ---- the result
 
-abbrev pub all_taken : Taken
-all_taken = record { general = 8; vector = 8; stack = 0 }
+abbrev results_taken : Taken
+results_taken = record { general = 2; vector = 4; stack = 0 }
+
+result_chain_if : (t : Tree) (vector : Bool) → is_copied t ≡ false → in_vectors t ≡ vector → PlacesChain untouched (piece_locs (cond vector (member_pieces 0 (leaves_of t)) (general_pieces 0 t))) results_taken
+result_chain_if t true ec ev =
+    members_chain (doubled untouched) 0 (leaves_of t) (doubled results_taken) (omega arith) (omega (arith, few_members t ev)) (omega arith) (omega (arith, few_members t ev)) (omega arith)
+result_chain_if t false ec ev =
+    generals_chain (doubled untouched) 0 (size_of t) (widening t) 0 (doublewords t) (doubled results_taken) (omega arith) (omega (arith, few_doublewords t ev ec)) (omega (arith, few_doublewords t ev ec)) (omega arith) (omega arith)
 
 -- the places of a result that isn't in memory
-result_chain_if : (t : Tree) (vector : Bool) → is_copied t ≡ false → in_vectors t ≡ vector → PlacesChain untouched (piece_locs (cond vector (member_pieces 0 (leaves_of t)) (general_pieces 0 t))) all_taken
-result_chain_if t true ec ev =
-    members_chain (doubled untouched) 0 (leaves_of t) (doubled all_taken) (omega arith) (omega (arith, few_members t ev)) (omega arith) (omega (arith, few_members t ev)) (omega arith)
-result_chain_if t false ec ev =
-    generals_chain (doubled untouched) 0 (size_of t) (widening t) 0 (doublewords t) (doubled all_taken) (omega arith) (omega (arith, few_doublewords t ev ec)) (omega (arith, few_doublewords t ev ec)) (omega arith) (omega arith)
-
-pub result_chain : (t : Tree) → is_copied t ≡ false → PlacesChain untouched (piece_locs (register_pieces 0 t)) all_taken
+result_chain : (t : Tree) → is_copied t ≡ false → PlacesChain untouched (piece_locs (register_pieces 0 t)) results_taken
 result_chain t ec = result_chain_if t (in_vectors t) ec refl
 
 -- a result has at most four members
-pub result_fits : (t : Tree) → in_vectors t ≡ true → 0 + length (leaves_of t) ≤ 8
+result_fits : (t : Tree) → in_vectors t ≡ true → 0 + length (leaves_of t) ≤ 8
 result_fits t ev = omega (arith, few_members t ev)
 
--- what holds of no places, and of those in registers, holds of a result's
-result_by : (P : List Loc → Type 0) → P [] → (s : Signature) → (is_copied s.result_type ≡ false → P (piece_locs (register_pieces 0 s.result_type))) → P (result_locs (plan_of aapcs64 s).res)
-result_by P none s direct =
-    result_cases (λ spot. P (result_locs (result_at aapcs64.copy_start (frame_copies_end aapcs64 s) s.result_type spot))) s.result_type (λ e. none) (λ e. none) direct
+-- ---- the registers of a result, by the stubs
 
-result_has_all : (s : Signature) → ResultHasAll s.result_type (plan_of aapcs64 s).res
-result_has_all s =
-    result_cases (λ spot. ResultHasAll s.result_type (result_at aapcs64.copy_start (frame_copies_end aapcs64 s) s.result_type spot)) s.result_type (λ e. e) (λ e. tt) (λ e. registers_have_all 0 s.result_type)
-
-result_filled : (s : Signature) → ResultIsFilled aapcs64 s.result_type (plan_of aapcs64 s).res
-result_filled s =
-    result_cases (λ spot. ResultIsFilled aapcs64 s.result_type (result_at aapcs64.copy_start (frame_copies_end aapcs64 s) s.result_type spot)) s.result_type (λ e. tt) (λ e. tt) (λ e. registers_filled 0 s.result_type)
-
-result_lower_words : (s : Signature) → ResultHasLowerWords Aarch64 (plan_of aapcs64 s).res
-result_lower_words s =
-    result_cases (λ spot. ResultHasLowerWords Aarch64 (result_at aapcs64.copy_start (frame_copies_end aapcs64 s) s.result_type spot)) s.result_type (λ e. tt) (λ e. tt) (λ e. registers_lower 0 s.result_type (result_fits s.result_type))
-
-result_stands : (s : Signature) → AllByRecursion (StandsIn Aarch64 0) (result_locs (plan_of aapcs64 s).res)
-result_stands s =
-    result_by (AllByRecursion (StandsIn Aarch64 0)) tt s (λ e. chain_stands_in numbered halves 8 16 Aarch64 (λ k h. omega arith) halves_stand (doubled untouched) _ (doubled all_taken) 0 (omega arith) (result_chain s.result_type e))
-
-result_not_further : (s : Signature) → HasNoLongDouble s → AllByRecursion (IsNotFurther Aarch64) (result_locs (plan_of aapcs64 s).res)
-result_not_further s plain =
-    result_by (AllByRecursion (IsNotFurther Aarch64)) tt s (λ e. registers_not_further 0 s.result_type (result_fits s.result_type) plain.result_type)
-
--- every law of the places
-pub sound : (s : Signature) → IsSound aapcs64 s
-sound s = record {
-  apart = plan_apart s;
-  in_frame = plan_in_frame s;
-  on_stack = plan_on_stack s;
-  allowed = plan_allowed s;
-  passed = plan_passed s;
-  lower_words = arguments_lower aapcs64.copy_start (copies_start (placing_of s)) untouched s.arguments;
-  has_all = arguments_have_all aapcs64.copy_start (copies_start (placing_of s)) untouched s.arguments;
-  address = hidden_cases (AllByRecursion IsWhole) tt (refl, tt) s;
-  filled = arguments_filled aapcs64.copy_start (copies_start (placing_of s)) untouched s.arguments;
-  rising = arguments_rise aapcs64.copy_start (copies_start (placing_of s)) untouched s.arguments;
-  result_apart = result_by AreApart tt s (λ e. chain_apart numbered halves 8 16 all_registers (doubled untouched) _ _ (result_chain s.result_type e));
-  result_in_registers = result_stands s;
-  result_lower_words = result_lower_words s;
-  result_allowed = result_by (AllByRecursion (IsNoneOf (closed_to_results aapcs64))) tt s (λ e. chain_allowed numbered halves 8 16 (closed_to_results aapcs64) result_allowed_general result_allowed_vector result_allowed_stack (doubled untouched) _ _ (result_chain s.result_type e));
-  result_has_all = result_has_all s;
-  result_filled = result_filled s;
-  frame_aligned = frame_is_aligned aapcs64 s;
-  need_aligned = need_is_aligned aapcs64 s refl;
-  on_machine = λ plain. on_machine_without aapcs64 s (plan_in_frame s) (plan_on_stack s) (plan_passed s) (result_stands s) (call_not_further s plain) (result_not_further s plain);
-}
-
-pub determines : (s : Signature) → IsDetermined aapcs64 s
-determines s = determined aapcs64 s (sound s).has_all (sound s).result_has_all
-
--- ---- the result, by the stubs
-
-abbrev pub results_taken : Taken
-results_taken = record { general = 2; vector = 4; stack = 0 }
-
-pub in_results : (k : ℕ) → k < 2 → IsOneOf (result_loads Aarch64) (G (numbered k))
+in_results : (k : ℕ) → k < 2 → IsOneOf (result_loads Aarch64) (G (numbered k))
 in_results k h =
     one_of (result_loads Aarch64) (G k) (each_of_two (λ j. is_one_of (result_loads Aarch64) (G j) ≡ true) refl refl k h)
 
 -- the upper halves of v0 to v3, which no stub moves
-abbrev pub upper_results : List Loc
+abbrev upper_results : List Loc
 upper_results = F 32 ∷ F 33 ∷ F 34 ∷ F 35 ∷ []
 
-pub in_results_or_upper : (k : ℕ) → k < 2 → IsOneOf (result_loads Aarch64 ++ upper_results) (G (numbered k))
+in_results_or_upper : (k : ℕ) → k < 2 → IsOneOf (result_loads Aarch64 ++ upper_results) (G (numbered k))
 in_results_or_upper k h = one_of_more (result_loads Aarch64) upper_results (G k) (in_results k h)
 
-pub in_vector_results : (k : ℕ) → k < 8 → IsOneOf (result_loads Aarch64 ++ upper_results) (F (halves k))
+in_vector_results : (k : ℕ) → k < 8 → IsOneOf (result_loads Aarch64 ++ upper_results) (F (halves k))
 in_vector_results k h =
     one_of (result_loads Aarch64 ++ upper_results) (F (halves k)) (each_of_eight (λ j. is_one_of (result_loads Aarch64 ++ upper_results) (F (halves j)) ≡ true) refl refl refl refl refl refl refl refl k h)
-
-pub few_chain_if : (t : Tree) (vector : Bool) → is_copied t ≡ false → in_vectors t ≡ vector → PlacesChain untouched (piece_locs (cond vector (member_pieces 0 (leaves_of t)) (general_pieces 0 t))) results_taken
-few_chain_if t true ec ev =
-    members_chain (doubled untouched) 0 (leaves_of t) (doubled results_taken) (omega arith) (omega (arith, few_members t ev)) (omega arith) (omega (arith, few_members t ev)) (omega arith)
-few_chain_if t false ec ev =
-    generals_chain (doubled untouched) 0 (size_of t) (widening t) 0 (doublewords t) (doubled results_taken) (omega arith) (omega (arith, few_doublewords t ev ec)) (omega (arith, few_doublewords t ev ec)) (omega arith) (omega arith)
 
 -- what is none of these is loaded and stored
 all_upper_further : AllByRecursion (IsFurther Aarch64) upper_results
@@ -387,14 +259,174 @@ upper_is_further : (l : Loc) → IsOneOf upper_results l → IsFurther Aarch64 l
 upper_is_further l a =
     subst (IsFurther Aarch64) a.4 (each_at (IsFurther Aarch64) upper_results a.0 a.1 a.2 a.3 all_upper_further)
 
-pub results_without_upper : (ls : List Loc) → AllByRecursion (IsOneOf (result_loads Aarch64 ++ upper_results)) ls → AllByRecursion (IsNotFurther Aarch64) ls → AllByRecursion (IsOneOf (result_loads Aarch64)) ls
+results_without_upper : (ls : List Loc) → AllByRecursion (IsOneOf (result_loads Aarch64 ++ upper_results)) ls → AllByRecursion (IsNotFurther Aarch64) ls → AllByRecursion (IsOneOf (result_loads Aarch64)) ls
 results_without_upper ls h k =
     each_both (IsOneOf (result_loads Aarch64 ++ upper_results)) (IsNotFurther Aarch64) (IsOneOf (result_loads Aarch64)) (λ l a none. one_of_fewer (result_loads Aarch64) upper_results l a (λ b. none (upper_is_further l b))) ls h k
 
+-- ---- the laws of a standard that has the registers of this one, and returns results as this one does
+
+-- the standard that places the arguments so
+abbrev pub with_arguments : Target → (Signature → List Spot) → (Signature → Taken) → Standard
+with_arguments target spots taken = record aapcs64 {
+  target = target;
+  placing = λ s. record { arguments = spots s; result_spot = result_spot_of s.result_type; stack_bytes = (taken s).stack; vector_registers = 0 };
+}
+
+-- what is shown of the arguments alone
+pub record ArgumentsAreSound (std : Standard) (s : Signature) (taken : Taken) : Type 0 where
+  pub chain : PlacesChain untouched (flat_map place_locs (plan_of std s).places) taken
+  pub lower_words : AllByRecursion (PlaceHasLowerWords Aarch64) (plan_of std s).places
+  pub has_all : PlacesHaveAll s.arguments (plan_of std s).places
+  pub filled : PlacesAreFilled std s.arguments (plan_of std s).places
+  pub rising : AllByRecursion PlaceRises (plan_of std s).places
+  pub not_further : HasNoLongDouble s → AllByRecursion (IsNotFurther Aarch64) (flat_map place_locs (plan_of std s).places)
+
+-- registers are filled as by AAPCS64
+pub filled_here : (target : Target) (spots : Signature → List Spot) (taken : Signature → Taken) (t : Tree) (ps : List Piece) → AllByRecursion (IsFilled aapcs64 t) ps → AllByRecursion (IsFilled (with_arguments target spots taken) t) ps
+filled_here target spots taken t [] h = tt
+filled_here target spots taken t (p ∷ ps) h =
+    (record { narrow = h.0.narrow; single = h.0.single; narrow_place = h.0.narrow_place }, filled_here target spots taken t ps h.1)
+
+module _ (target : Target) (spots : Signature → List Spot) (taken : Signature → Taken) (s : Signature) where
+  abbrev std : Standard
+  std = with_arguments target spots taken
+
+  abbrev pieces_and_references : List Loc
+  pieces_and_references = flat_map place_locs (plan_of std s).places
+
+  abbrev copies_and_buffer : List Loc
+  copies_and_buffer =
+      copy_locs s.arguments (plan_of std s).places ++ buffer_locs s.result_type (plan_of std s).res
+
+  abbrev framed : Taken
+  framed = up_to (taken s) (frame_of std s)
+
+  -- the hidden result's address is in x8
+  hidden_cases : (P : List Loc → Type 0) → P [] → P (G 8 ∷ []) → P (hidden_locs (plan_of std s).res)
+  hidden_cases P none there =
+      result_cases (λ spot. P (hidden_locs (result_at start (frame_copies_end std s) s.result_type spot))) s.result_type (λ e. none) (λ e. there) (λ e. none)
+
+  -- what holds of no places, and of those in registers, holds of a result's
+  result_by : (P : List Loc → Type 0) → P [] → (is_copied s.result_type ≡ false → P (piece_locs (register_pieces 0 s.result_type))) → P (result_locs (plan_of std s).res)
+  result_by P none direct =
+      result_cases (λ spot. P (result_locs (result_at start (frame_copies_end std s) s.result_type spot))) s.result_type (λ e. none) (λ e. none) direct
+
+  result_stands : AllByRecursion (StandsIn Aarch64 0) (result_locs (plan_of std s).res)
+  result_stands =
+      result_by (AllByRecursion (StandsIn Aarch64 0)) tt (λ e. chain_stands_in numbered halves 8 16 Aarch64 (λ k h. omega arith) halves_stand (doubled untouched) _ (doubled results_taken) 0 (omega arith) (result_chain s.result_type e))
+
+  result_not_further : HasNoLongDouble s → AllByRecursion (IsNotFurther Aarch64) (result_locs (plan_of std s).res)
+  result_not_further plain =
+      result_by (AllByRecursion (IsNotFurther Aarch64)) tt (λ e. registers_not_further 0 s.result_type (result_fits s.result_type) plain.result_type)
+
+  -- what the stubs load and save
+  pub loaded : HasNoLongDouble s → AllByRecursion (IsOneOf (result_loads Aarch64)) (result_locs (plan_of std s).res)
+  loaded plain =
+      let among = result_by (AllByRecursion (IsOneOf (result_loads Aarch64 ++ upper_results))) tt (λ e. chain_in numbered halves 8 16 (result_loads Aarch64 ++ upper_results) (doubled results_taken) refl in_results_or_upper in_vector_results (doubled untouched) _ (result_chain s.result_type e)) in
+      results_without_upper (result_locs (plan_of std s).res) among (result_not_further plain)
+
+  pub address_saved : AllByRecursion (IsOneOf (G 8 ∷ [])) (hidden_locs (plan_of std s).res)
+  address_saved = hidden_cases (AllByRecursion (IsOneOf (G 8 ∷ []))) tt (one_of (G 8 ∷ []) (G 8) refl, tt)
+
+  module _ (isa : Aarch64 ≡ isa_of target) (arguments : ArgumentsAreSound std s (taken s)) where
+    call_chain : PlacesChain untouched (pieces_and_references ++ copies_and_buffer) framed
+    call_chain =
+        chain_append numbered halves 8 16 (doubled untouched) pieces_and_references (doubled (taken s)) _ (doubled framed) arguments.chain (frame_chain numbered halves 8 16 std start-behind s (doubled (taken s)) (omega arith))
+
+    plan_apart : AreApart (call_locs s (plan_of std s))
+    plan_apart =
+        let others = chain_apart numbered halves 8 16 all_registers (doubled untouched) _ _ call_chain in
+        let none = chain_allowed numbered halves 8 16 (G 8 ∷ []) argument_not_hidden (λ k h. (tt, tt)) (λ n w. (tt, tt)) (doubled untouched) _ _ call_chain in
+        let from_hidden = each_weaker (IsNoneOf (G 8 ∷ [])) (Apart (G 8)) apart_from_hidden _ none in
+        hidden_cases (λ hs. AreApart ((hs ++ pieces_and_references) ++ copies_and_buffer)) others (from_hidden, others)
+
+    plan_in_frame : AllByRecursion (StandsIn (isa_of target) (frame_of std s)) (call_locs s (plan_of std s))
+    plan_in_frame =
+        let others = chain_stands_in numbered halves 8 16 Aarch64 (λ k h. omega arith) halves_stand (doubled untouched) _ (doubled framed) (frame_of std s) (omega arith) call_chain in
+        subst (λ i. AllByRecursion (StandsIn i (frame_of std s)) (call_locs s (plan_of std s))) isa
+        (hidden_cases (λ hs. AllByRecursion (StandsIn Aarch64 (frame_of std s)) ((hs ++ pieces_and_references) ++ copies_and_buffer)) others (inl (omega arith), others))
+
+    plan_on_stack : AllByRecursion (StandsIn (isa_of target) (taken s).stack) (argument_locs (plan_of std s))
+    plan_on_stack =
+        let others = chain_stands_in numbered halves 8 16 Aarch64 (λ k h. omega arith) halves_stand (doubled untouched) _ (doubled (taken s)) (taken s).stack (omega arith) arguments.chain in
+        subst (λ i. AllByRecursion (StandsIn i (taken s).stack) (argument_locs (plan_of std s))) isa
+        (hidden_cases (λ hs. AllByRecursion (StandsIn Aarch64 (taken s).stack) (hs ++ pieces_and_references)) others (inl (omega arith), others))
+
+    plan_allowed : AllByRecursion (IsNoneOf (closed_to_arguments std)) (argument_locs (plan_of std s))
+    plan_allowed =
+        let others = chain_allowed numbered halves 8 16 (closed_to_arguments std) argument_allowed vector_allowed stack_allowed (doubled untouched) _ _ arguments.chain in
+        hidden_cases (λ hs. AllByRecursion (IsNoneOf (closed_to_arguments std)) (hs ++ pieces_and_references)) others (hidden_allowed, others)
+
+    plan_passed : AllByRecursion (IsOnStackOrIn (std.argument_registers ++ further_arguments (isa_of target))) (argument_locs (plan_of std s))
+    plan_passed =
+        let others = chain_passed numbered halves 8 16 (std.argument_registers ++ further_arguments Aarch64) argument_passes vector_passes (doubled untouched) _ _ arguments.chain in
+        subst (λ i. AllByRecursion (IsOnStackOrIn (std.argument_registers ++ further_arguments i)) (argument_locs (plan_of std s))) isa
+        (hidden_cases (λ hs. AllByRecursion (IsOnStackOrIn (std.argument_registers ++ further_arguments Aarch64)) (hs ++ pieces_and_references)) others (hidden_passes, others))
+
+    result_in_registers : AllByRecursion (StandsIn (isa_of target) 0) (result_locs (plan_of std s).res)
+    result_in_registers = subst (λ i. AllByRecursion (StandsIn i 0) (result_locs (plan_of std s).res)) isa result_stands
+
+    result_lower_words : ResultHasLowerWords (isa_of target) (plan_of std s).res
+    result_lower_words =
+        subst (λ i. ResultHasLowerWords i (plan_of std s).res) isa
+        (result_cases (λ spot. ResultHasLowerWords Aarch64 (result_at start (frame_copies_end std s) s.result_type spot)) s.result_type (λ e. tt) (λ e. tt) (λ e. registers_lower 0 s.result_type (result_fits s.result_type)))
+
+    call_not_further : HasNoLongDouble s → AllByRecursion (IsNotFurther (isa_of target)) (call_locs s (plan_of std s))
+    call_not_further plain =
+        let frame = frame_not_further Aarch64 s.arguments (plan_of std s).places s.result_type (plan_of std s).res in
+        let others = each_of_all (IsNotFurther Aarch64) pieces_and_references copies_and_buffer (arguments.not_further plain) frame in
+        subst (λ i. AllByRecursion (IsNotFurther i) (call_locs s (plan_of std s))) isa
+        (hidden_cases (λ hs. AllByRecursion (IsNotFurther Aarch64) ((hs ++ pieces_and_references) ++ copies_and_buffer)) others ((λ f. f), others))
+
+    -- every law of the places
+    pub every_law : IsSound std s
+    every_law = record {
+      apart = plan_apart;
+      in_frame = plan_in_frame;
+      on_stack = plan_on_stack;
+      allowed = plan_allowed;
+      passed = plan_passed;
+      lower_words = subst (λ i. AllByRecursion (PlaceHasLowerWords i) (plan_of std s).places) isa arguments.lower_words;
+      has_all = arguments.has_all;
+      address = hidden_cases (AllByRecursion IsWhole) tt (refl, tt);
+      filled = arguments.filled;
+      rising = arguments.rising;
+      result_apart = result_by AreApart tt (λ e. chain_apart numbered halves 8 16 all_registers (doubled untouched) _ _ (result_chain s.result_type e));
+      result_in_registers = result_in_registers;
+      result_lower_words = result_lower_words;
+      result_allowed = result_by (AllByRecursion (IsNoneOf (closed_to_results std))) tt (λ e. chain_allowed numbered halves 8 16 (closed_to_results std) result_allowed_general result_allowed_vector result_allowed_stack (doubled untouched) _ _ (result_chain s.result_type e));
+      result_has_all = result_cases (λ spot. ResultHasAll s.result_type (result_at start (frame_copies_end std s) s.result_type spot)) s.result_type (λ e. e) (λ e. tt) (λ e. registers_have_all 0 s.result_type);
+      result_filled = result_cases (λ spot. ResultIsFilled std s.result_type (result_at start (frame_copies_end std s) s.result_type spot)) s.result_type (λ e. tt) (λ e. tt) (λ e. filled_here target spots taken s.result_type (register_pieces 0 s.result_type) (registers_filled 0 s.result_type));
+      frame_aligned = frame_is_aligned std s;
+      need_aligned = need_is_aligned std s refl;
+      on_machine = λ plain. on_machine_without std s plan_in_frame plan_on_stack plan_passed result_in_registers (call_not_further plain) (subst (λ i. AllByRecursion (IsNotFurther i) (result_locs (plan_of std s).res)) isa (result_not_further plain));
+    }
+
+-- ---- this standard
+
+abbrev spots : Signature → List Spot
+spots s = spots_after untouched s.arguments
+
+abbrev taken_by_all : Signature → Taken
+taken_by_all s = taken_after untouched s.arguments
+
+pub sound : (s : Signature) → IsSound aapcs64 s
+sound s =
+    let copies = copies_start (placing_of s) in
+    every_law target.Aapcs64 spots taken_by_all s refl (record {
+      chain = places_chain start copies untouched s.arguments;
+      lower_words = arguments_lower start copies untouched s.arguments;
+      has_all = arguments_have_all start copies untouched s.arguments;
+      filled = arguments_filled start copies untouched s.arguments;
+      rising = arguments_rise start copies untouched s.arguments;
+      not_further = λ plain. arguments_not_further start copies untouched s.arguments (each_without s.arguments plain.arguments);
+    })
+
+pub determines : (s : Signature) → IsDetermined aapcs64 s
+determines s = determined aapcs64 s (sound s).has_all (sound s).result_has_all
+
 pub result_loaded : (s : Signature) → HasNoLongDouble s → AllByRecursion (IsOneOf (result_loads Aarch64)) (result_locs (plan_of aapcs64 s).res)
-result_loaded s plain =
-    let among = result_by (AllByRecursion (IsOneOf (result_loads Aarch64 ++ upper_results))) tt s (λ e. chain_in numbered halves 8 16 (result_loads Aarch64 ++ upper_results) (doubled results_taken) refl in_results_or_upper in_vector_results (doubled untouched) _ (few_chain_if s.result_type (in_vectors s.result_type) e refl)) in
-    results_without_upper (result_locs (plan_of aapcs64 s).res) among (result_not_further s plain)
+result_loaded s = loaded target.Aapcs64 spots taken_by_all s
 
 pub hidden_saved : (s : Signature) → AllByRecursion (IsOneOf (G 8 ∷ [])) (hidden_locs (plan_of aapcs64 s).res)
-hidden_saved s = hidden_cases (AllByRecursion (IsOneOf (G 8 ∷ []))) tt (one_of (G 8 ∷ []) (G 8) refl, tt) s
+hidden_saved s = address_saved target.Aapcs64 spots taken_by_all s
