@@ -33,7 +33,7 @@ module _ (c b : ℕ) (IsKept : Loc → Type 0) (old new : Image) (is : AreAlike 
   stack_same : (i : ℕ) → get_or new.stack (b + i) 0 ≡ get_or old.stack (c + i) 0
   stack_same i = sym (get_or-drop b new.stack i 0) ∙ ap (λ xs. get_or xs i 0) is.stack ∙ get_or-drop c old.stack i 0
 
-  byte_same : (l : Loc) (k : ℕ) → IsKept l → byte_at new b l k ≡ byte_at old c l k
+  pub byte_same : (l : Loc) (k : ℕ) → IsKept l → byte_at new b l k ≡ byte_at old c l k
   byte_same (G r) k kept = ap (λ n. get_or (to_le_bytes w64 n) k 0) (is.general r kept)
   byte_same (F r) k kept = ap (λ n. get_or (to_le_bytes w64 n) k 0) (is.floating r kept)
   byte_same (S n w) k kept =
@@ -41,7 +41,7 @@ module _ (c b : ℕ) (IsKept : Loc → Type 0) (old new : Image) (is : AreAlike 
       let here : c + (n + k) ≡ c + n + k = omega arith in
       ap (λ i. get_or new.stack i 0) there ∙ stack_same (n + k) ∙ ap (λ i. get_or old.stack i 0) here
 
-  word_same : (l : Loc) → IsKept l → word_at new b l ≡ word_at old c l
+  pub word_same : (l : Loc) → IsKept l → word_at new b l ≡ word_at old c l
   word_same (G r) kept = is.general r kept
   word_same (F r) kept = is.floating r kept
   word_same (S n w) kept =
@@ -53,12 +53,11 @@ module _ (c b : ℕ) (IsKept : Loc → Type 0) (old new : Image) (is : AreAlike 
   pieces_stand o x [] kept h = tt
   pieces_stand o x (p ∷ ps) kept h = (λ carries. byte_same p.loc (o - p.off) kept.0 ∙ h.0 carries, pieces_stand o x ps kept.1 h.1)
 
-  leaves_stand : (pieces : List Piece) (ls : List Leaf) (bs : List (List ℕ)) → AllByRecursion IsKept (piece_locs pieces) → LeavesStand old c pieces ls bs → LeavesStand new b pieces ls bs
+  pub leaves_stand : (pieces : List Piece) (ls : List Leaf) (bs : List (List ℕ)) → AllByRecursion IsKept (piece_locs pieces) → LeavesStand old c pieces ls bs → LeavesStand new b pieces ls bs
   leaves_stand pieces [] [] kept h = tt
-  leaves_stand pieces [] (x ∷ bs) kept h = absurd h
-  leaves_stand pieces (l ∷ ls) [] kept h = absurd h
   leaves_stand pieces (l ∷ ls) (x ∷ bs) kept h =
       (λ k below. pieces_stand (l.at + k) (get_or x k 0) pieces kept (h.0 k below), leaves_stand pieces ls bs kept h.1)
+  leaves_stand pieces _ _ kept h = absurd h
 
   argument_owned : (t : Tree) (p : Place) (v : ValueTree) → AllByRecursion IsKept (place_locs p) → OwnsArgument old c t p v → OwnsArgument new b t p v
   argument_owned t (Direct pieces) v kept own =
@@ -70,14 +69,11 @@ module _ (c b : ℕ) (IsKept : Loc → Type 0) (old new : Image) (is : AreAlike 
 
   pub arguments_owned : (ts : List Tree) (ps : List Place) (vs : List ValueTree) → AllByRecursion IsKept (flat_map place_locs ps) → OwnsArguments old c ts ps vs → OwnsArguments new b ts ps vs
   arguments_owned [] [] [] kept own = tt
-  arguments_owned [] [] (v ∷ vs) kept own = absurd own
-  arguments_owned [] (p ∷ ps) vs kept own = absurd own
-  arguments_owned (t ∷ ts) [] vs kept own = absurd own
-  arguments_owned (t ∷ ts) (p ∷ ps) [] kept own = absurd own
   arguments_owned (t ∷ ts) (p ∷ ps) (v ∷ vs) kept own =
       (argument_owned t p v (each_first IsKept (place_locs p) (flat_map place_locs ps) kept) own.0, arguments_owned ts ps vs (each_rest IsKept (place_locs p) (flat_map place_locs ps) kept) own.1)
+  arguments_owned _ _ _ kept own = absurd own
 
-  pieces_filled : (t : Tree) (v : ValueTree) (pieces : List Piece) → AllByRecursion IsKept (piece_locs pieces) → FillPieces old c t pieces v → FillPieces new b t pieces v
+  pub pieces_filled : (t : Tree) (v : ValueTree) (pieces : List Piece) → AllByRecursion IsKept (piece_locs pieces) → FillPieces old c t pieces v → FillPieces new b t pieces v
   pieces_filled t v [] kept h = tt
   pieces_filled t v (p ∷ ps) kept h =
       (subst (λ w. FillsAs p.ext w t v) (sym (word_same p.loc kept.0)) h.0, pieces_filled t v ps kept.1 h.1)
@@ -88,12 +84,9 @@ module _ (c b : ℕ) (IsKept : Loc → Type 0) (old new : Image) (is : AreAlike 
 
   pub arguments_filled : (ts : List Tree) (ps : List Place) (vs : List ValueTree) → AllByRecursion IsKept (flat_map place_locs ps) → FillArguments old c ts ps vs → FillArguments new b ts ps vs
   arguments_filled [] [] [] kept h = tt
-  arguments_filled [] [] (v ∷ vs) kept h = absurd h
-  arguments_filled [] (p ∷ ps) vs kept h = absurd h
-  arguments_filled (t ∷ ts) [] vs kept h = absurd h
-  arguments_filled (t ∷ ts) (p ∷ ps) [] kept h = absurd h
   arguments_filled (t ∷ ts) (p ∷ ps) (v ∷ vs) kept h =
       (argument_filled t p v (each_first IsKept (place_locs p) (flat_map place_locs ps) kept) h.0, arguments_filled ts ps vs (each_rest IsKept (place_locs p) (flat_map place_locs ps) kept) h.1)
+  arguments_filled _ _ _ kept h = absurd h
 
   -- ---- the hidden result's address, and the number of vector registers
 

@@ -21,24 +21,20 @@ use Rattle.ffi3_machine_transfer.proofs.Copying.{place_keeps_after, place_keeps_
 
 pub all_stay : (base : ℕ) (target : Target) (room : ℕ) (ls : List Loc) (a b : State) (ts : List Tree) (ps : List Place) (vs : List ValueTree) → STACK ≤ base → AreReady target room ts ps → AllByRecursion (IsNoneOf ls) (all_uses ts ps) → Stays base ls a b → AllStand base a ts ps vs → AllStand base b ts ps vs
 all_stay base target room ls a b [] [] [] low ready none s stand = tt
-all_stay base target room ls a b [] [] (v ∷ vs) low ready none s stand = absurd stand
-all_stay base target room ls a b [] (p ∷ ps) vs low ready none s stand = absurd ready
-all_stay base target room ls a b (t ∷ ts) [] vs low ready none s stand = absurd ready
-all_stay base target room ls a b (t ∷ ts) (p ∷ ps) [] low ready none s stand = absurd stand
 all_stay base target room ls a b (t ∷ ts) (p ∷ ps) (v ∷ vs) low ready none s stand = (
   place_stays base t v p ls a b low ready.0.has_all (each_first (IsNoneOf ls) (place_uses t p) (all_uses ts ps) none) s stand.0,
   all_stay base target room ls a b ts ps vs low ready.1 (each_rest (IsNoneOf ls) (place_uses t p) (all_uses ts ps) none) s stand.1,
 )
+all_stay base target room ls a b _ _ _ low ready none s stand = absurd stand
 
 -- what their places keep, with other places stored after
 pub all_keep_stay : (base : ℕ) (ls : List Loc) (a b c : State) (ts : List Tree) (ps : List Place) → AllByRecursion (IsNoneOf ls) (all_uses ts ps) → Stays base ls b c → AllKeepUnused base a b ts ps → AllKeepUnused base a c ts ps
 all_keep_stay base ls a b c [] [] none s keep = tt
-all_keep_stay base ls a b c [] (p ∷ ps) none s keep = absurd keep
-all_keep_stay base ls a b c (t ∷ ts) [] none s keep = absurd keep
 all_keep_stay base ls a b c (t ∷ ts) (p ∷ ps) none s keep = (
   place_keeps_then base t p ls a b c (each_first (IsNoneOf ls) (place_uses t p) (all_uses ts ps) none) s keep.0,
   all_keep_stay base ls a b c ts ps (each_rest (IsNoneOf ls) (place_uses t p) (all_uses ts ps) none) s keep.1,
 )
+all_keep_stay base ls a b c _ _ none s keep = absurd keep
 
 module _ (base : ℕ) (target : Target) (room : ℕ) (ts : List Tree) (ps : List Place) (vs : List ValueTree) where
   -- what is so before the argument at j - 1 is stored
@@ -80,6 +76,3 @@ module _ (base : ℕ) (target : Target) (room : ℕ) (ts : List Tree) (ps : List
 pub value_read : (ts : List Tree) (vs : List ValueTree) (j : ℕ) (v : ValueTree) → all_fit (trees_of ts) (values_of vs) ≡ true → j < length ts → v ≡ get_or vs j void_value → drop j vs ≡ v ∷ drop (j + 1) vs
 value_read ts vs j v fit below is =
     drop_more vs j void_value (omega (arith, below, fitting_lengths ts vs fit)) ∙ ap (λ w. w ∷ drop (j + 1) vs) (sym is)
-
-pub stored_at_end : (base : ℕ) (target : Target) (room : ℕ) (ts : List Tree) (ps : List Place) (vs : List ValueTree) (j : ℕ) (first m : State) → j ≡ 0 → AllStored base target room ts ps vs j first m → AllStored base target room ts ps vs 0 first m
-stored_at_end base target room ts ps vs j first m none stored = subst (λ i. AllStored base target room ts ps vs i first m) none stored

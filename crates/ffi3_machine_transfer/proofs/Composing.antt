@@ -1,13 +1,39 @@
 -- Stores one after another.
-use Rattle.std.proofs.Common.{◌≡◌, ◌⊎◌, inl, inr, ⊎_elim, ℕ, ◌<◌, ◌≤◌, List, [], ◌++◌, get_or, ◌∙◌, ap, refl, arith}
+use Rattle.std.proofs.Common.{◌≡◌, ◌⊎◌, inl, inr, ⊎_elim, ℕ, ◌+◌, ◌<◌, ◌≤◌, List, [], ◌++◌, get_or, length, ◌∙◌, ap, refl, arith}
 use Rattle.std.specs.Int.{w64, to_le_bytes}
 use Rattle.ffi3_place_spec.specs.declared.Loc.{Loc}
 use Rattle.ffi3_place_spec.specs.declared.Loc.TheVariants.{G, F, S}
+use Rattle.ffi3_place_spec.specs.Image.{register}
 use Rattle.ffi3_place_spec.specs.Sound.{place_size}
+use Rattle.ffi3_type_spec.specs.declared.limits.TheConstants.{STACK}
 use Rattle.ffi3_marshal.proofs.Composing.{none_append}
 pub use Rattle.ffi3_machine_transfer.specs.Lent.{wrote_nothing, wrote_then}
-use Rattle.ffi3_machine_spec.specs.State.{State}
-use Rattle.ffi3_machine_transfer.specs.Stored.{byte_of, SameAt, Stays, WroteOnly, WroteWithin}
+use Rattle.ffi3_machine_spec.specs.State.{State, image_of, with_sp}
+use Rattle.ffi3_machine_transfer.specs.Stored.{byte_of, IsPlace, SameAt, Stays, WroteOnly, WroteWithin, with_journal_of, word_in}
+
+-- ---- registers
+
+-- what holds of each register holds of a place that is not on the stack
+pub by_register : (P : Loc → Type 0) → ((r : ℕ) → r < 32 → P (G r)) → ((r : ℕ) → r < 32 → P (F r)) → (l : Loc) → IsPlace 0 l → P l
+by_register P general floating (G r) lies = general r lies
+by_register P general floating (F r) lies = floating r lies
+by_register P general floating (S n w) lies = absurd (omega (arith, lies.0, lies.1))
+
+-- a place lies in more of the stack too
+pub lie_more : (n k : ℕ) → n ≤ k → (l : Loc) → IsPlace n l → IsPlace k l
+lie_more n k h (S q w) lies = (omega (arith, h, lies.0), lies.1, lies.2)
+lie_more n k h _ lies = lies
+
+-- a register's word, wherever stack places count from
+pub word_same : (base from : ℕ) (l : Loc) (a b : State) → IsPlace 0 l → SameAt 0 l a b → word_in base b l ≡ word_in from a l
+word_same base from l a b lies = by_register (λ l. SameAt 0 l a b → word_in base b l ≡ word_in from a l) (λ r below h. h) (λ r below h. h) l lies
+
+pub same_word_at : (base : ℕ) (l : Loc) (a b : State) → IsPlace 0 l → word_in base b l ≡ word_in base a l → SameAt 0 l a b
+same_word_at base l a b lies = by_register (λ l. word_in base b l ≡ word_in base a l → SameAt 0 l a b) (λ r below h. h) (λ r below h. h) l lies
+
+-- a register of an image is the machine's
+pub register_is : (len base : ℕ) (m : State) (l : Loc) → IsPlace 0 l → register (image_of len m) l ≡ word_in base m l
+register_is len base m l lies = by_register (λ l. register (image_of len m) l ≡ word_in base m l) (λ r below. refl) (λ r below. refl) l lies
 
 -- ---- the same at a place
 
@@ -41,11 +67,11 @@ stays_then base ls ks a b c s t = record {
 
 -- ---- what is written
 
--- a wider stretch
-pub wrote_wider : (low high from to : ℕ) (a b : State) → from ≤ low → high ≤ to → WroteWithin low high a b → WroteWithin from to a b
-wrote_wider low high from to a b h k s = record {
+-- another stretch, from no higher on: what lies outside of it lies outside of the first
+pub rewritten : (low high from to : ℕ) (a b : State) → ((i : ℕ) → (STACK + i < from) ⊎ (to ≤ STACK + i) → (STACK + i < low) ⊎ (high ≤ STACK + i)) → from ≤ low → WroteWithin low high a b → WroteWithin from to a b
+rewritten low high from to a b outside h s = record {
   size = s.size;
-  outside = λ i far. s.outside i (⊎_elim (λ x. inl (omega (arith, h, x))) (λ x. inr (omega (arith, k, x))) far);
+  outside = λ i far. s.outside i (outside i far);
   mark = ⊎_elim (λ x. inl x) (λ x. inr (omega (arith, h, x))) s.mark;
   target = s.target;
   pc = s.pc;
@@ -55,6 +81,43 @@ wrote_wider low high from to a b h k s = record {
   spare_bytes = s.spare_bytes;
   exchange = s.exchange;
   steps = s.steps;
+}
+
+-- a wider stretch
+pub wrote_wider : (low high from to : ℕ) (a b : State) → from ≤ low → high ≤ to → WroteWithin low high a b → WroteWithin from to a b
+wrote_wider low high from to a b h k =
+    rewritten low high from to a b (λ i far. ⊎_elim (λ x. inl (omega (arith, h, x))) (λ x. inr (omega (arith, k, x))) far) h
+
+-- sp gets a value
+pub sp_moved : (sp low high : ℕ) (m : State) → WroteWithin low high m (with_sp sp m)
+sp_moved sp low high m = record {
+  size = refl;
+  outside = λ i far. refl;
+  mark = inl (omega arith);
+  target = refl;
+  pc = refl;
+  code = refl;
+  events = refl;
+  spare_events = refl;
+  spare_bytes = refl;
+  exchange = refl;
+  steps = refl;
+}
+
+-- what stands beside the stack is said to be the old machine's
+pub beside : (low high : ℕ) (a b : State) → length b.stack ≡ length a.stack → ((i : ℕ) → (STACK + i < low) ⊎ (high ≤ STACK + i) → get_or b.stack i 0 ≡ get_or a.stack i 0) → (a.mark ≤ b.mark) ⊎ (low ≤ b.mark) → b.target ≡ a.target → b.code ≡ a.code → WroteWithin low high a (with_journal_of a b)
+beside low high a b size outside mark target code = record {
+  size = size;
+  outside = outside;
+  mark = mark;
+  target = target;
+  pc = refl;
+  code = code;
+  events = refl;
+  spare_events = refl;
+  spare_bytes = refl;
+  exchange = refl;
+  steps = refl;
 }
 
 -- ---- writes to the stack alone

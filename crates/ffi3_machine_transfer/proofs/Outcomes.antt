@@ -1,78 +1,90 @@
 -- A result that an image owns or holds stays, where another has the same stack and sp, and the same numbers in the registers of results.
 use Rattle.std.specs.Prelude.{Option, Some, None}
-use Rattle.std.proofs.Common.{◌≡◌, ℕ, ◌+◌, ◌-◌, ◌≤◌, List, [], ◌∷◌, take, drop, get_or, length, ap, sym, ◌∙◌, subst, arith}
+use Rattle.std.proofs.Common.{◌≡◌, ℕ, ◌+◌, ◌≤◌, List, take, drop, length, ap, sym, ◌∙◌, subst, arith}
 use Rattle.std.specs.List.{AllByRecursion}
-use Rattle.std.specs.Int.{w64, to_le_bytes}
 use Rattle.ffi3_type_spec.specs.Tree.{Tree}
-use Rattle.ffi3_type_spec.specs.Layout.{Leaf, leaves_of, size_of}
+use Rattle.ffi3_type_spec.specs.Layout.{leaves_of, size_of}
 use Rattle.ffi3_type_spec.specs.Signature.{Signature}
 use Rattle.ffi3_type_spec.specs.Value.{ValueTree, value_in}
 use Rattle.ffi3_type_spec.specs.TargetIsa.{isa_of}
 use Rattle.ffi3_place_spec.specs.declared.Loc.{Loc}
-use Rattle.ffi3_place_spec.specs.declared.Loc.TheVariants.{G, F, S}
-use Rattle.ffi3_place_spec.specs.declared.Piece.{Piece}
+use Rattle.ffi3_place_spec.specs.declared.Loc.TheVariants.{G, F}
 use Rattle.ffi3_place_spec.specs.declared.Res.{Res}
 use Rattle.ffi3_place_spec.specs.declared.Res.TheVariants.{Nothing, Direct, Hidden}
-use Rattle.ffi3_place_spec.specs.Image.{Image, byte_at, register}
+use Rattle.ffi3_place_spec.specs.Image.{Image, register}
 use Rattle.ffi3_place_spec.specs.MachineRegisters.{to_list}
-use Rattle.ffi3_place_spec.specs.Standard.{Standard, frame_of, plan_of}
-use Rattle.ffi3_place_spec.specs.Holds.{leaf_bytes, Carries, FillPieces, FillsAs, FillsResult, HoldsResult, LeavesStand, OwnResult, OwnsResult, RegisterHolds}
-use Rattle.ffi3_place_spec.specs.Sound.{piece_locs, result_locs}
+use Rattle.ffi3_place_spec.specs.Standard.{Standard, ResultSpot, no_result, in_result_pieces, in_buffer, plan_of, frame_of, result_at, buffer_end, frame_copies_end, round8}
+use Rattle.ffi3_type_spec.proofs.Layouts.{least_multiple-above}
+use Rattle.ffi3_place_spec.specs.Holds.{leaf_bytes, FillsResult, HoldsResult, OwnResult, OwnsResult, RegisterHolds}
+use Rattle.ffi3_place_spec.specs.Sound.{result_locs}
 use Rattle.ffi3_place_spec.proofs.OnMachine.{IsSoundOnMachine}
 use Rattle.ffi3_machine_transfer.specs.Stored.{IsPlace}
+use Rattle.ffi3_machine_transfer.proofs.Alike.{AreAlike, leaves_stand, pieces_filled}
+use Rattle.ffi3_machine_transfer.proofs.Tables.{each_with}
 use Rattle.ffi3_marshal.proofs.Lawful.{machine_places}
 
 module _ (a b : Image) (IsKept : Loc → Type 0) (sp : b.sp ≡ a.sp) (stack : b.stack ≡ a.stack) (same : (l : Loc) → IsPlace 0 l → IsKept l → register b l ≡ register a l) where
-  byte_kept : (l : Loc) (k : ℕ) → IsPlace 0 l → IsKept l → byte_at b 0 l k ≡ byte_at a 0 l k
-  byte_kept (G r) k lies kept = ap (λ n. get_or (to_le_bytes w64 n) k 0) (same (G r) lies kept)
-  byte_kept (F r) k lies kept = ap (λ n. get_or (to_le_bytes w64 n) k 0) (same (F r) lies kept)
-  byte_kept (S n w) k lies kept = absurd (omega (arith, lies.0, lies.1))
+  abbrev IsSame : Loc → Type 0
+  IsSame l = IsPlace 0 l × IsKept l
 
-  pieces_kept : (o x : ℕ) (pieces : List Piece) → AllByRecursion (IsPlace 0) (piece_locs pieces) → AllByRecursion IsKept (piece_locs pieces) → AllByRecursion (λ p. Carries o p → byte_at a 0 p.loc (o - p.off) ≡ x) pieces → AllByRecursion (λ p. Carries o p → byte_at b 0 p.loc (o - p.off) ≡ x) pieces
-  pieces_kept o x [] lie kept h = tt
-  pieces_kept o x (p ∷ ps) lie kept h = (λ c. byte_kept p.loc (o - p.off) lie.0 kept.0 ∙ h.0 c, pieces_kept o x ps lie.1 kept.1 h.1)
+  both : (ls : List Loc) → AllByRecursion (IsPlace 0) ls → AllByRecursion IsKept ls → AllByRecursion IsSame ls
+  both = each_with (IsPlace 0) IsKept IsSame (λ l lies kept. (lies, kept))
 
-  leaves_kept : (pieces : List Piece) (leaves : List Leaf) (bs : List (List ℕ)) → AllByRecursion (IsPlace 0) (piece_locs pieces) → AllByRecursion IsKept (piece_locs pieces) → LeavesStand a 0 pieces leaves bs → LeavesStand b 0 pieces leaves bs
-  leaves_kept pieces [] [] lie kept h = tt
-  leaves_kept pieces [] (x ∷ bs) lie kept h = absurd h
-  leaves_kept pieces (l ∷ leaves) [] lie kept h = absurd h
-  leaves_kept pieces (l ∷ leaves) (x ∷ bs) lie kept h =
-      (λ k below. pieces_kept (l.at + k) (get_or x k 0) pieces lie kept (h.0 k below), leaves_kept pieces leaves bs lie kept h.1)
+  alike : AreAlike 0 0 IsSame a b
+  alike = record {
+    sp = ap (λ n. n + 0) sp;
+    stack = ap (drop 0) stack;
+    general = λ r kept. same (G r) kept.0 kept.1;
+    floating = λ r kept. same (F r) kept.0 kept.1;
+  }
 
-  fill_kept : (t : Tree) (v : ValueTree) (pieces : List Piece) → AllByRecursion (IsPlace 0) (piece_locs pieces) → AllByRecursion IsKept (piece_locs pieces) → FillPieces a 0 t pieces v → FillPieces b 0 t pieces v
-  fill_kept t v [] lie kept h = tt
-  fill_kept t v (p ∷ ps) lie kept h =
-      (subst (λ w. FillsAs p.ext w t v) (sym (same p.loc lie.0 kept.0)) h.0, fill_kept t v ps lie.1 kept.1 h.1)
-
-  owns_kept : (t : Tree) (v : ValueTree) (res : Res) → AllByRecursion (IsPlace 0) (result_locs res) → AllByRecursion IsKept (result_locs res) → OwnsResult a t res v → OwnsResult b t res v
-  owns_kept t v Nothing lie kept h = tt
-  owns_kept t v (Direct pieces) lie kept h = leaves_kept pieces (leaves_of t) (leaf_bytes v) lie kept h
-  owns_kept t v (Hidden at buffer) lie kept h =
+  owns_kept : (t : Tree) (v : ValueTree) (res : Res) → AllByRecursion IsSame (result_locs res) → OwnsResult a t res v → OwnsResult b t res v
+  owns_kept t v Nothing kept h = tt
+  owns_kept t v (Direct pieces) kept h =
+      leaves_stand 0 0 IsSame a b alike pieces (leaves_of t) (leaf_bytes v) kept h
+  owns_kept t v (Hidden at buffer) kept h =
       ap (λ xs. value_in t (take (size_of t) (drop (0 + buffer) xs))) stack ∙ h
 
-  tells_kept : (o : Option Loc) (n : ℕ) → AllByRecursion (IsPlace 0) (to_list o) → AllByRecursion IsKept (to_list o) → RegisterHolds a o n → RegisterHolds b o n
-  tells_kept (Some at) n lie kept h = same at lie.0 kept.0 ∙ h
-  tells_kept None n lie kept h = tt
+  tells_kept : (o : Option Loc) (n : ℕ) → AllByRecursion IsSame (to_list o) → RegisterHolds a o n → RegisterHolds b o n
+  tells_kept (Some at) n kept h = same at kept.0.0 kept.0.1 ∙ h
+  tells_kept None n kept h = tt
 
-  fills_kept : (std : Standard) (t : Tree) (v : ValueTree) (res : Res) → AllByRecursion (IsPlace 0) (result_locs res) → AllByRecursion IsKept (result_locs res) → AllByRecursion (IsPlace 0) (to_list std.returned_address) → AllByRecursion IsKept (to_list std.returned_address) → FillsResult std a t res v → FillsResult std b t res v
-  fills_kept std t v Nothing lie kept there clear h = tt
-  fills_kept std t v (Direct pieces) lie kept there clear h = fill_kept t v pieces lie kept h
-  fills_kept std t v (Hidden at buffer) lie kept there clear h =
-      subst (λ q. RegisterHolds b std.returned_address (q + buffer)) (sym sp) (tells_kept std.returned_address (a.sp + buffer) there clear h)
+  fills_kept : (std : Standard) (t : Tree) (v : ValueTree) (res : Res) → AllByRecursion IsSame (result_locs res) → AllByRecursion IsSame (to_list std.returned_address) → FillsResult std a t res v → FillsResult std b t res v
+  fills_kept std t v Nothing kept told h = tt
+  fills_kept std t v (Direct pieces) kept told h = pieces_filled 0 0 IsSame a b alike t v pieces kept h
+  fills_kept std t v (Hidden at buffer) kept told h =
+      subst (λ q. RegisterHolds b std.returned_address (q + buffer)) (sym sp) (tells_kept std.returned_address (a.sp + buffer) told h)
 
   pub own_result_kept : (std : Standard) (s : Signature) (v : ValueTree) → IsSoundOnMachine std s → AllByRecursion IsKept (result_locs (plan_of std s).res) → OwnResult std s v a → OwnResult std s v b
   own_result_kept std s v sound kept own =
-      let lie = machine_places (isa_of std.target) 0 (result_locs (plan_of std s).res) sound.result_in_registers in
+      let same_locs = both (result_locs (plan_of std s).res) (machine_places (isa_of std.target) 0 (result_locs (plan_of std s).res) sound.result_in_registers) kept in
       record {
         reaches = subst (λ xs. frame_of std s ≤ length xs) (sym stack) own.reaches;
         fitting = own.fitting;
-        stands = owns_kept s.result_type v (plan_of std s).res lie kept own.stands;
+        stands = owns_kept s.result_type v (plan_of std s).res same_locs own.stands;
       }
 
   pub result_kept : (std : Standard) (s : Signature) (v : ValueTree) → IsSoundOnMachine std s → AllByRecursion IsKept (result_locs (plan_of std s).res) → AllByRecursion (IsPlace 0) (to_list std.returned_address) → AllByRecursion IsKept (to_list std.returned_address) → HoldsResult std s v a → HoldsResult std s v b
   result_kept std s v sound kept there clear h =
-      let lie = machine_places (isa_of std.target) 0 (result_locs (plan_of std s).res) sound.result_in_registers in
+      let same_locs = both (result_locs (plan_of std s).res) (machine_places (isa_of std.target) 0 (result_locs (plan_of std s).res) sound.result_in_registers) kept in
       record {
         own = own_result_kept std s v sound kept h.own;
-        filled = fills_kept std s.result_type v (plan_of std s).res lie kept there clear h.filled;
+        filled = fills_kept std s.result_type v (plan_of std s).res same_locs (both (to_list std.returned_address) there clear) h.filled;
       }
+
+-- ---- a hidden result's buffer
+
+buffer_is : (start : ℕ → Tree → ℕ) (end : ℕ) (t : Tree) (spot : ResultSpot) (at : Loc) (buffer : ℕ) → result_at start end t spot ≡ Hidden at buffer → buffer_end start end t spot ≡ buffer + round8 (size_of t)
+buffer_is start end t no_result at buffer is = cc
+buffer_is start end t (in_result_pieces pieces) at buffer is = cc
+buffer_is start end t (in_buffer here) at buffer is =
+    let same : start end t ≡ buffer = cc in
+    ap (λ n. n + round8 (size_of t)) same
+
+-- it lies in the frame
+pub buffer_within : (std : Standard) (s : Signature) (at : Loc) (buffer : ℕ) → (plan_of std s).res ≡ Hidden at buffer → buffer + size_of s.result_type ≤ frame_of std s
+buffer_within std s at buffer is =
+    let p = std.placing s in
+    let t = s.result_type in
+    let ends = buffer_is std.copy_start (frame_copies_end std s) t p.result_spot at buffer is in
+    omega (arith, ends, least_multiple-above 8 (size_of t), least_multiple-above 16 (buffer_end std.copy_start (frame_copies_end std s) t p.result_spot))

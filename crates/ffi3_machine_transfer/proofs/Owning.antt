@@ -23,14 +23,12 @@ use Rattle.ffi3_machine_spec.specs.State.{State, image_of, stack_at}
 use Rattle.ffi3_machine_transfer.specs.Stored.{IsByteOf, IsPlace, byte_of, word_in, PieceStands}
 use Rattle.ffi3_machine_transfer.specs.Standing.{CopyStands, PlaceStands, AllStand, IsReady, AreReady}
 use Rattle.ffi3_place_spec.proofs.Reading.{counted}
+use Rattle.ffi3_marshal.proofs.Lawful.{each_map}
 
-part_of_frame : (xs : List ℕ) (n at size : ℕ) → at + size ≤ n → take size (drop at (take n xs)) ≡ take size (drop at xs)
+pub part_of_frame : (xs : List ℕ) (n at size : ℕ) → at + size ≤ n → take size (drop at (take n xs)) ≡ take size (drop at xs)
 part_of_frame xs n at size room =
     let whole : n ≡ at + (n - at) = omega (arith, room) in
-    ap (λ k. take size (drop at (take k xs))) whole ∙ ap (take size) (drop-take at (n - at) xs) ∙ take_less (drop at xs) size (n - at) (omega (arith, room))
-  where
-    take_less : (ys : List ℕ) (i j : ℕ) → i ≤ j → take i (take j ys) ≡ take i ys
-    take_less ys i j h = take-take i j ys h
+    ap (λ k. take size (drop at (take k xs))) whole ∙ ap (take size) (drop-take at (n - at) xs) ∙ take-take size (n - at) (drop at xs) (omega (arith, room))
 
 module _ (m : State) (len : ℕ) (low : STACK ≤ m.sp) where
   pub image_byte : (l : Loc) (k : ℕ) → IsPlace len l → k < place_size l → byte_at (image_of len m) 0 l k ≡ byte_of m.sp m l k
@@ -64,23 +62,13 @@ module _ (m : State) (len : ℕ) (low : STACK ≤ m.sp) where
             let fits = parts.0.fits in
             image_byte p.loc (l.at + k - p.off) lie.0 (omega (arith, c.0, c.1, fits)) ∙ (stand.0 (l.at + k - p.off) (omega (arith, c.0, c.1))).0 k h index
 
-    later_leaves : (l : Leaf) (b : List ℕ) (ls : List Leaf) (bs : List (List ℕ)) (pieces : List Piece) → AllByRecursion (HasEach (l ∷ ls) (b ∷ bs)) pieces → AllByRecursion (HasEach ls bs) pieces
-    later_leaves l b ls bs [] stand = tt
-    later_leaves l b ls bs (p ∷ pieces) stand =
-        (λ k h. (stand.0 k h).1, later_leaves l b ls bs pieces stand.1)
-
     owned_leaves : (pieces : List Piece) (ls : List Leaf) (bs : List (List ℕ)) → length bs ≡ length ls → AllByRecursion (IsPieceOf t) pieces → AllByRecursion (IsPlace len) (piece_locs pieces) → AllByRecursion (HasEach ls bs) pieces → LeavesStand (image_of len m) 0 pieces ls bs
     owned_leaves pieces [] [] n parts lie stand = tt
-    owned_leaves pieces [] (b ∷ bs) n parts lie stand = absurd (omega (arith, n))
-    owned_leaves pieces (l ∷ ls) [] n parts lie stand = absurd (omega (arith, n))
     owned_leaves pieces (l ∷ ls) (b ∷ bs) n parts lie stand =
-        (λ k h. owned_byte l b ls bs pieces k h parts lie stand, owned_leaves pieces ls bs (omega (arith, n)) parts lie (later_leaves l b ls bs pieces stand))
+        (λ k h. owned_byte l b ls bs pieces k h parts lie stand, owned_leaves pieces ls bs (omega (arith, n)) parts lie (each_map (HasEach (l ∷ ls) (b ∷ bs)) (HasEach ls bs) (λ p has k h. (has k h).1) pieces stand))
+    owned_leaves pieces _ _ n parts lie stand = absurd (omega (arith, n))
 
   module _ (t : Tree) (v : ValueTree) where
-    have_leaves : (pieces : List Piece) → AllByRecursion (PieceStands m.sp m t v) pieces → AllByRecursion (HasEach (leaves_of t) (leaf_bytes v)) pieces
-    have_leaves [] stand = tt
-    have_leaves (p ∷ pieces) stand = (stand.0.0, have_leaves pieces stand.1)
-
     filled_pieces : (pieces : List Piece) → AllByRecursion (IsPlace len) (piece_locs pieces) → AllByRecursion (PieceStands m.sp m t v) pieces → FillPieces (image_of len m) 0 t pieces v
     filled_pieces [] lie stand = tt
     filled_pieces (p ∷ pieces) lie stand =
@@ -98,7 +86,7 @@ module _ (m : State) (len : ℕ) (low : STACK ≤ m.sp) where
 
   argument_owned : (target : Target) (t : Tree) (v : ValueTree) (p : Place) → IsReady target len t p → fits t v ≡ true → PlaceStands m.sp m t v p → OwnsArgument (image_of len m) 0 t p v
   argument_owned target t v (Direct pieces) ready fit stands =
-      (fit, owned_leaves t pieces (leaves_of t) (leaf_bytes v) (counted t v fit) ready.has_all.each ready.lies (have_leaves t v pieces stands))
+      (fit, owned_leaves t pieces (leaves_of t) (leaf_bytes v) (counted t v fit) ready.has_all.each ready.lies (each_map (PieceStands m.sp m t v) (HasEach (leaves_of t) (leaf_bytes v)) (λ p has. has.0) pieces stands))
   argument_owned target t v (ByRef at copy) ready fit stands = copy_owned t v at copy ready.lies.0 ready.lies.1 fit stands
 
   argument_filled : (target : Target) (t : Tree) (v : ValueTree) (p : Place) → IsReady target len t p → PlaceStands m.sp m t v p → FillsArgument (image_of len m) 0 t p v
@@ -109,18 +97,12 @@ module _ (m : State) (len : ℕ) (low : STACK ≤ m.sp) where
 
   pub owned : (target : Target) (ts : List Tree) (ps : List Place) (vs : List ValueTree) → AreReady target len ts ps → all_fit (trees_of ts) (values_of vs) ≡ true → AllStand m.sp m ts ps vs → OwnsArguments (image_of len m) 0 ts ps vs
   owned target [] [] [] ready fit stand = tt
-  owned target [] [] (v ∷ vs) ready fit stand = absurd stand
-  owned target [] (p ∷ ps) vs ready fit stand = absurd ready
-  owned target (t ∷ ts) [] vs ready fit stand = absurd ready
-  owned target (t ∷ ts) (p ∷ ps) [] ready fit stand = absurd stand
   owned target (t ∷ ts) (p ∷ ps) (v ∷ vs) ready fit stand =
       (argument_owned target t v p ready.0 (and_left (fits t v) (all_fit (trees_of ts) (values_of vs)) fit) stand.0, owned target ts ps vs ready.1 (and_right (fits t v) (all_fit (trees_of ts) (values_of vs)) fit) stand.1)
+  owned target _ _ _ ready fit stand = absurd stand
 
   pub filled : (target : Target) (ts : List Tree) (ps : List Place) (vs : List ValueTree) → AreReady target len ts ps → AllStand m.sp m ts ps vs → FillArguments (image_of len m) 0 ts ps vs
   filled target [] [] [] ready stand = tt
-  filled target [] [] (v ∷ vs) ready stand = absurd stand
-  filled target [] (p ∷ ps) vs ready stand = absurd ready
-  filled target (t ∷ ts) [] vs ready stand = absurd ready
-  filled target (t ∷ ts) (p ∷ ps) [] ready stand = absurd stand
   filled target (t ∷ ts) (p ∷ ps) (v ∷ vs) ready stand =
       (argument_filled target t v p ready.0 stand.0, filled target ts ps vs ready.1 stand.1)
+  filled target _ _ _ ready stand = absurd stand

@@ -1,5 +1,5 @@
 -- Registers by the exchange region: a word that is written there is a register that is set.
-use Rattle.std.proofs.Common.{◌≡◌, ℕ, ◌+◌, ◌-◌, ◌*◌, ◌%◌, ◌^◌, ◌<◌, ◌≤◌, ◌⊎◌, inl, inr, Bool, true, false, if◌then◌else◌, List, ◌++◌, length, take, drop, get_or, set, refl, sym, ap, ◌∙◌, subst, arith, length-set, ◌∷◌, [], lit<}
+use Rattle.std.proofs.Common.{◌≡◌, ℕ, ◌+◌, ◌-◌, ◌*◌, ◌%◌, ◌^◌, ◌<◌, ◌≤◌, ◌⊎◌, inl, inr, Bool, true, false, if◌then◌else◌, List, ◌++◌, length, take, drop, get_or, set, refl, sym, ap, ◌∙◌, subst, arith, length-set}
 use Rattle.std.specs.Prelude.{slice_index, slice_set}
 use Rattle.std.specs.List.{replace_range}
 use Rattle.std.specs.Int.{w64, from_le_bytes}
@@ -14,6 +14,7 @@ use Rattle.ffi3_type_spec.specs.declared.Target.{Target}
 use Rattle.ffi3_type_spec.specs.TargetIsa.{isa_of}
 use Rattle.ffi3_place_spec.specs.MachineRegisters.{is_zero_register}
 use Rattle.ffi3_place_spec.specs.StubRegisters.{has_stubs}
+use Rattle.ffi3_place_spec.specs.Standard.{Standard}
 use Rattle.ffi3_machine_spec.specs.State.{State, x_of, with_x, with_general, with_floating}
 use Rattle.ffi3_place_spec.specs.declared.Loc.{Loc}
 use Rattle.ffi3_place_spec.specs.declared.Loc.TheVariants.{G, F, S}
@@ -22,13 +23,18 @@ use Rattle.ffi3_machine_spec.specs.Stubs.{exchanged_at}
 use Rattle.ffi3_marshal.proofs.Ranges.{range_length}
 use Rattle.ffi3_machine_transfer.specs.Stored.{IsPlace, SameAt, byte_of, word_in}
 use Rattle.ffi3_machine_transfer.specs.Passing.{by_exchange, words_at, passing_if, passing, steps_if}
+use Rattle.ffi3_place_spec.proofs.Words.{same_bytes}
+use Rattle.ffi3_machine_transfer.proofs.Composing.{by_register}
 use Rattle.ffi3_machine_transfer.proofs.Exchanged.{word_written, word_below, word_above, above_all}
-use Rattle.ffi3_machine_transfer.proofs.Putting.{word_there}
 
 -- calls that go by stubs have them
-pub stubs_there : (target : Target) → by_exchange target ≡ true → has_stubs target ≡ true
+stubs_there : (target : Target) → by_exchange target ≡ true → has_stubs target ≡ true
 unfolding by_exchange
 stubs_there target e = e
+
+-- what the laws of stubs say, where calls go by them
+pub laws_of : {L : Type 0} (std : Standard) (target : Target) → (has_stubs std.target ≡ true → L) → std.target ≡ target → by_exchange target ≡ true → L
+laws_of std target law same e = law (ap has_stubs same ∙ stubs_there target e)
 
 pub length-words_at : (from : ℕ) (xs : List ℕ) → length (words_at from xs) ≡ 32
 unfolding words_at
@@ -100,16 +106,6 @@ floating_passed b k v s e size below small =
     let P : Bool → Type 0 = λ c. passing_if c (with_x (256 + 8 * k) v s) ≡ with_floating k v (passing_if c s) in
     subst P (sym e) (λ i. record s { general = g i; floating = f i; exchange = s.general ++ (s.floating ++ x i) })
 
-pub general_own : (b : Bool) (k v : ℕ) (s : State) → b ≡ false → passing_if b (with_general k v s) ≡ with_general k v (passing_if b s)
-general_own b k v s e =
-    let P : Bool → Type 0 = λ c. passing_if c (with_general k v s) ≡ with_general k v (passing_if c s) in
-    subst P (sym e) refl
-
-pub floating_own : (b : Bool) (k v : ℕ) (s : State) → b ≡ false → passing_if b (with_floating k v s) ≡ with_floating k v (passing_if b s)
-floating_own b k v s e =
-    let P : Bool → Type 0 = λ c. passing_if c (with_floating k v s) ≡ with_floating k v (passing_if c s) in
-    subst P (sym e) refl
-
 -- reads
 pub general_read : (b : Bool) (k : ℕ) (s : State) → b ≡ true → k < 32 → x_of (8 * k) s ≡ slice_index (passing_if b s).general k
 general_read b k s e below =
@@ -121,16 +117,6 @@ pub floating_read : (b : Bool) (k : ℕ) (s : State) → b ≡ true → k < 32 �
 floating_read b k s e below =
     let P : Bool → Type 0 = λ c. x_of (256 + 8 * k) s ≡ slice_index (passing_if c s).floating k in
     subst P (sym e) (sym (get_or-words_at 256 s.exchange k below))
-
-pub general_own_read : (b : Bool) (k : ℕ) (s : State) → b ≡ false → slice_index s.general k ≡ slice_index (passing_if b s).general k
-general_own_read b k s e =
-    let P : Bool → Type 0 = λ c. slice_index s.general k ≡ slice_index (passing_if c s).general k in
-    subst P (sym e) refl
-
-pub floating_own_read : (b : Bool) (k : ℕ) (s : State) → b ≡ false → slice_index s.floating k ≡ slice_index (passing_if b s).floating k
-floating_own_read b k s e =
-    let P : Bool → Type 0 = λ c. slice_index s.floating k ≡ slice_index (passing_if c s).floating k in
-    subst P (sym e) refl
 
 -- the view has as many registers
 pub general_count : (b : Bool) (s : State) → length s.general ≡ 32 → length (passing_if b s).general ≡ 32
@@ -149,18 +135,19 @@ same_prefix xs ys us vs n e = (
   sym (drop_at xs us (length xs) refl) ∙ ap (drop (length xs)) e ∙ drop_at ys vs (length xs) (sym n),
 )
 
+-- the machine's own registers, and the exchange region behind the words
+pub behind_parts : (x y : State) → length x.general ≡ length y.general → length x.floating ≡ length y.floating → (passing_if true y).exchange ≡ (passing_if true x).exchange → (y.general ≡ x.general) × (y.floating ≡ x.floating) × (drop REGISTERS_END y.exchange ≡ drop REGISTERS_END x.exchange)
+behind_parts x y g f behind =
+    let parts = same_prefix y.general x.general (y.floating ++ drop REGISTERS_END y.exchange) (x.floating ++ drop REGISTERS_END x.exchange) (sym g) behind in
+    let rest = same_prefix y.floating x.floating (drop REGISTERS_END y.exchange) (drop REGISTERS_END x.exchange) (sym f) parts.1 in
+    (parts.0, rest.0, rest.1)
+
 -- A register that the view has alike in both, and what stands behind the view too, is the same.
 pub own_same : (b : Bool) (l : Loc) (x y : State) → IsPlace 0 l → length x.general ≡ length y.general → length x.floating ≡ length y.floating → SameAt 0 l (passing_if b x) (passing_if b y) → (passing_if b y).exchange ≡ (passing_if b x).exchange → SameAt 0 l x y
-own_same true (G r) x y h g f same behind =
-    let parts = same_prefix y.general x.general (y.floating ++ drop REGISTERS_END y.exchange) (x.floating ++ drop REGISTERS_END x.exchange) (sym g) behind in
-    ap (λ e. get_or e r 0) parts.0
-own_same true (F r) x y h g f same behind =
-    let parts = same_prefix y.general x.general (y.floating ++ drop REGISTERS_END y.exchange) (x.floating ++ drop REGISTERS_END x.exchange) (sym g) behind in
-    ap (λ e. get_or e r 0) (same_prefix y.floating x.floating (drop REGISTERS_END y.exchange) (drop REGISTERS_END x.exchange) (sym f) parts.1).0
+own_same true (G r) x y h g f same behind = ap (λ e. get_or e r 0) (behind_parts x y g f behind).0
+own_same true (F r) x y h g f same behind = ap (λ e. get_or e r 0) (behind_parts x y g f behind).1
 own_same true (S n w) x y h g f same behind = absurd (omega (arith, h.0, h.1))
-own_same false (G r) x y h g f same behind = same
-own_same false (F r) x y h g f same behind = same
-own_same false (S n w) x y h g f same behind = absurd (omega (arith, h.0, h.1))
+own_same false l x y h g f same behind = same
 
 -- the same of two states of one target
 pub own_register : (l : Loc) (x y : State) → IsPlace 0 l → y.target ≡ x.target → length x.general ≡ length y.general → length x.floating ≡ length y.floating → SameAt 0 l (passing x) (passing y) → (passing y).exchange ≡ (passing x).exchange → SameAt 0 l x y
@@ -169,10 +156,9 @@ own_register l x y h target g f same behind =
     own_same (by_exchange x.target) l x y h g f (subst (λ (b : Bool). SameAt 0 l (passing x) (passing_if b y)) t same) (subst (λ (b : Bool). (passing_if b y).exchange ≡ (passing x).exchange) t behind)
 
 -- a general register that is the machine's own
-pub own_general : (b : Bool) (x y : State) → length x.general ≡ length y.general → (passing_if b y).general ≡ (passing_if b x).general → (passing_if b y).exchange ≡ (passing_if b x).exchange → y.general ≡ x.general
-own_general true x y g same behind =
-    (same_prefix y.general x.general (y.floating ++ drop REGISTERS_END y.exchange) (x.floating ++ drop REGISTERS_END x.exchange) (sym g) behind).0
-own_general false x y g same behind = same
+pub own_general : (b : Bool) (x y : State) → length x.general ≡ length y.general → length x.floating ≡ length y.floating → (passing_if b y).general ≡ (passing_if b x).general → (passing_if b y).exchange ≡ (passing_if b x).exchange → y.general ≡ x.general
+own_general true x y g f same behind = (behind_parts x y g f behind).0
+own_general false x y g f same behind = same
 
 -- ---- a number beside the words that are passed
 
@@ -189,39 +175,23 @@ told_length at v s fits = range_length s.exchange (low_bytes 8 v) at (at + lengt
 
 -- a register that is passed is its word of the exchange region
 pub word_passed : (base : ℕ) (l : Loc) (s : State) → IsPlace 0 l → word_in base (passing_if true s) l ≡ x_of (exchanged_at l) s
-word_passed base (G r) s h = sym (general_read true r s refl h)
-word_passed base (F r) s h = sym (floating_read true r s refl h)
-word_passed base (S n w) s h = absurd (omega (arith, h.0, h.1))
+word_passed base l s lies = by_register (λ l. word_in base (passing_if true s) l ≡ x_of (exchanged_at l) s) (λ r below. sym (general_read true r s refl below)) (λ r below. sym (floating_read true r s refl below)) l lies
 
 -- below REGISTERS_END
 pub place_low : (l : Loc) → IsPlace 0 l → exchanged_at l + 8 ≤ REGISTERS_END
-place_low (G r) h = omega (arith, h)
-place_low (F r) h = omega (arith, h)
-place_low (S n w) h = absurd (omega (arith, h.0, h.1))
+place_low l lies = by_register (λ l. exchanged_at l + 8 ≤ REGISTERS_END) (λ r below. omega (arith, below)) (λ r below. omega (arith, below)) l lies
 
 pub number_stored : (at v : ℕ) (s : State) → take 8 (drop at s.exchange) ≡ low_bytes 8 v → v < 2 ^ 64 → x_of at s ≡ v
 number_stored at v s e small = ap (number_of 8) e ∙ number_low v small
 
-pub word_stored : (from n v : ℕ) (s : State) → STACK ≤ from → take 8 (drop (from + n - STACK) s.stack) ≡ low_bytes 8 v → v < 2 ^ 64 → word_in from s (S n 8) ≡ v
-word_stored from n v s low e small =
-    word_there from n v s small (λ k h.
-    let there : from + n + k - STACK ≡ from + n - STACK + k = omega (arith, low) in
-    ap (λ i. get_or s.stack i 0) there ∙ sym (index_part s.stack (from + n - STACK) 8 k h) ∙ ap (λ xs. get_or xs k 0) e)
-
 pub word_read : (from n : ℕ) (s : State) → STACK ≤ from → word_in from s (S n 8) ≡ number_of 8 (take 8 (drop (from + n - STACK) s.stack))
 word_read from n s low =
-    let part : List ℕ = take 8 (drop (from + n - STACK) s.stack) in
-    let e : (k : ℕ) → k < 8 → byte_of from s (S n 8) k ≡ get_or part k 0 = λ k h. let there : from + n + k - STACK ≡ from + n - STACK + k = omega (arith, low) in
-    ap (λ i. get_or s.stack i 0) there ∙ sym (index_part s.stack (from + n - STACK) 8 k h) in
-    let e0 = e 0 (lit< tt) in
-    let e1 = e 1 (lit< tt) in
-    let e2 = e 2 (lit< tt) in
-    let e3 = e 3 (lit< tt) in
-    let e4 = e 4 (lit< tt) in
-    let e5 = e 5 (lit< tt) in
-    let e6 = e 6 (lit< tt) in
-    let e7 = e 7 (lit< tt) in
-    λ i. from_le_bytes w64 (e0 i ∷ e1 i ∷ e2 i ∷ e3 i ∷ e4 i ∷ e5 i ∷ e6 i ∷ e7 i ∷ [])
+    ap (from_le_bytes w64) (same_bytes (byte_of from s (S n 8)) (λ k. get_or (take 8 (drop (from + n - STACK) s.stack)) k 0) 8 (λ k h.
+    let there : from + n + k - STACK ≡ from + n - STACK + k = omega (arith, low) in
+    ap (λ i. get_or s.stack i 0) there ∙ sym (index_part s.stack (from + n - STACK) 8 k h)))
+
+pub word_stored : (from n v : ℕ) (s : State) → STACK ≤ from → take 8 (drop (from + n - STACK) s.stack) ≡ low_bytes 8 v → v < 2 ^ 64 → word_in from s (S n 8) ≡ v
+word_stored from n v s low e small = word_read from n s low ∙ ap (number_of 8) e ∙ number_low v small
 
 -- ---- steps
 

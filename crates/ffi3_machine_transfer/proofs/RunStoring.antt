@@ -1,6 +1,6 @@
 -- Runs of a value's bytes, stored one after another.
 use Rattle.std.specs.Prelude.{true}
-use Rattle.std.proofs.Common.{◌≡◌, ◌⊎◌, inl, inr, ℕ, ◌+◌, ◌-◌, ◌<◌, ◌≤◌, List, [], ◌∷◌, ◌++◌, take, drop, get_or, length, length-append, length-take, length-drop, refl, ap, sym, ◌∙◌, subst, arith}
+use Rattle.std.proofs.Common.{◌≡◌, ◌⊎◌, inl, inr, ℕ, ◌+◌, ◌-◌, ◌<◌, ◌≤◌, List, ◌∷◌, ◌++◌, take, drop, get_or, length, length-append, length-take, length-drop, refl, ap, sym, ◌∙◌, subst, arith}
 use Rattle.std.specs.List.{AllByRecursion}
 use Rattle.std.specs.Int.{w64, to_le_bytes}
 use Rattle.std.proofs.lemmas.Bool.{cases_lt}
@@ -12,7 +12,7 @@ use Rattle.ffi3_type_spec.proofs.Parts.{index_part, inside_part, length_part}
 use Rattle.ffi3_place_spec.specs.declared.Loc.{Loc}
 use Rattle.ffi3_place_spec.specs.declared.Loc.TheVariants.{G, F, S}
 use Rattle.ffi3_place_spec.specs.declared.Ext.{Ext}
-use Rattle.ffi3_place_spec.specs.declared.Ext.TheVariants.{Free, Widen, Riscv, Boxed}
+use Rattle.ffi3_place_spec.specs.declared.Ext.TheVariants.{Free}
 use Rattle.ffi3_place_spec.specs.declared.Piece.{Piece}
 use Rattle.ffi3_place_spec.specs.Holds.{FillsAs, leaf_bytes}
 use Rattle.ffi3_place_spec.specs.Sound.{IsNoneOf, IsPieceOf, piece_locs, place_size}
@@ -21,28 +21,26 @@ use Rattle.ffi3_cif.specs.declared.runs.Run.{Run}
 use Rattle.ffi3_cif.specs.Runs.{AreRunsOf, Copies, Neighbours, OneCopies, Rises}
 use Rattle.ffi3_type_spec.specs.declared.limits.TheConstants.{STACK}
 use Rattle.ffi3_machine_spec.specs.State.{State, stack_at, stored}
-use Rattle.ffi3_machine_transfer.specs.Stored.{IsByteOf, IsPlace, IsStored, KeepsUnused, PieceStands, SameAt, Stays, WroteOnly, byte_of, stack_byte, word_in}
+use Rattle.ffi3_machine_transfer.specs.Stored.{IsByteOf, IsPlace, KeepsUnused, PieceStands, SameAt, Stays, WroteOnly, byte_of, stack_byte, word_in}
 use Rattle.ffi3_machine_transfer.specs.Runs.{AreRunsStored, IsRunStored, goes_by_run}
-use Rattle.ffi3_machine_transfer.proofs.Composing.{only_nothing, only_then, only_wider, same_itself, same_then, wrote_nothing}
+use Rattle.ffi3_machine_transfer.proofs.Composing.{only_nothing, only_then, only_wider, same_then}
 use Rattle.ffi3_machine_transfer.proofs.Putting.{only_stored, stored_inside}
 use Rattle.ffi3_machine_transfer.proofs.Reading.{value_byte}
+use Rattle.ffi3_marshal.proofs.Lawful.{each_map}
+use Rattle.ffi3_marshal.proofs.Stepping.{each_loc}
+use Rattle.ffi3_machine_transfer.proofs.Tables.{each_with}
 use Rattle.ffi3_machine_transfer.proofs.Runs.{IsClearAbove, IsRunCopied, clear_of_pieces, rises_to, rising_drop}
 
 -- ---- pieces that go by runs
 
 goes : (Q : Type 0) (l : Loc) (e : Ext) → goes_by_run l e ≡ true → ((n w : ℕ) → l ≡ S n w → e ≡ Free → Q) → Q
 goes Q (S n w) Free h f = f n w refl refl
-goes Q (S n w) Widen h f = cc
-goes Q (S n w) Riscv h f = cc
-goes Q (S n w) Boxed h f = cc
-goes Q (G r) e h f = cc
-goes Q (F r) e h f = cc
+goes Q _ _ h f = cc
 
 -- a register does not
 pub registers_given : (base : ℕ) (t : Tree) (v : ValueTree) (m : State) (ps : List Piece) → AllByRecursion (IsPlace 0) (piece_locs ps) → AllByRecursion (λ p. goes_by_run p.loc p.ext ≡ true → PieceStands base m t v p) ps
-registers_given base t v m [] lie = tt
-registers_given base t v m (p ∷ ps) lie =
-    (λ by. goes (PieceStands base m t v p) p.loc p.ext by (λ n w here free. absurd (no_stack n w (subst (IsPlace 0) here lie.0))), registers_given base t v m ps lie.1)
+registers_given base t v m ps lie =
+    each_map (λ p. IsPlace 0 p.loc) (λ p. goes_by_run p.loc p.ext ≡ true → PieceStands base m t v p) (λ p lies by. goes (PieceStands base m t v p) p.loc p.ext by (λ n w here free. absurd (no_stack n w (subst (IsPlace 0) here lies)))) ps (each_loc (IsPlace 0) ps lie)
   where
     no_stack : (n w : ℕ) → IsPlace 0 (S n w) → ⊥
     no_stack n w h = omega (arith, h.0, h.1)
@@ -147,9 +145,6 @@ module _ (base : ℕ) (t : Tree) (v : ValueTree) (low : STACK ≤ base) where
         only = λ room size all. only_nothing base (base + room) m;
       })
 
-  pub all_runs_stored : (runs : List Run) (i : ℕ) (first m : State) → i ≡ 0 → AreRunsStored base t v (drop i runs) first m → AreRunsStored base t v runs first m
-  all_runs_stored runs i first m none stored = subst (λ j. AreRunsStored base t v (drop j runs) first m) none stored
-
   -- ---- what runs do to the places of pieces
 
   module _ (runs : List Run) (top : ℕ) (first m : State) (is : AreRunsStored base t v runs first m) (only : WroteOnly base top first m) where
@@ -163,12 +158,8 @@ module _ (base : ℕ) (t : Tree) (v : ValueTree) (low : STACK ≤ base) where
       subst (λ e. FillsAs e (word_in base m p.loc) t v) (sym free) tt,
     )
 
-    piece_by_run : (p : Piece) → IsRunCopied runs p → goes_by_run p.loc p.ext ≡ true → PieceStands base m t v p
-    piece_by_run p copied by = goes (PieceStands base m t v p) p.loc p.ext by (λ n w here free. stands_at p n w copied here free)
-
     pub each_by_run : (ps : List Piece) → AllByRecursion (IsRunCopied runs) ps → AllByRecursion (λ p. goes_by_run p.loc p.ext ≡ true → PieceStands base m t v p) ps
-    each_by_run [] copied = tt
-    each_by_run (p ∷ ps) copied = (piece_by_run p copied.0, each_by_run ps copied.1)
+    each_by_run ps = each_map (IsRunCopied runs) (λ p. goes_by_run p.loc p.ext ≡ true → PieceStands base m t v p) (λ p copied by. goes (PieceStands base m t v p) p.loc p.ext by (λ n w here free. stands_at p n w copied here free)) ps
 
     -- by the place
     kept_at : (p : Piece) (l : Loc) → p.loc ≡ l → IsRunCopied runs p → IsClearAbove runs p → (k : ℕ) → k < place_size l → (k < p.len → IsPadding t (p.off + k)) → byte_of base m l k ≡ byte_of base first l k
@@ -182,8 +173,7 @@ module _ (base : ℕ) (t : Tree) (v : ValueTree) (low : STACK ≤ base) where
         ])
 
     pub each_kept : (ps : List Piece) → AllByRecursion (IsRunCopied runs) ps → AllByRecursion (IsClearAbove runs) ps → AllByRecursion (KeepsUnused base t first m) ps
-    each_kept [] copied clear = tt
-    each_kept (p ∷ ps) copied clear = (λ free k below none. kept_at p p.loc refl copied.0 clear.0 k below none, each_kept ps copied.1 clear.1)
+    each_kept ps = each_with (IsRunCopied runs) (IsClearAbove runs) (KeepsUnused base t first m) (λ p copied clear free k below none. kept_at p p.loc refl copied clear k below none) ps
 
   -- ---- all places apart from the pieces' stay
 
@@ -199,18 +189,9 @@ module _ (base : ℕ) (t : Tree) (v : ValueTree) (low : STACK ≤ base) where
 
 -- ---- runs first, then the other pieces
 
--- a piece that goes by a run is stored already
-pub stored_by_run : (base : ℕ) (t : Tree) (v : ValueTree) (p : Piece) (m : State) → PieceStands base m t v p → IsStored base t v p m m
-stored_by_run base t v p m stands = record {
-  stands = stands;
-  unused = λ free k below none. refl;
-  stays = record { sp = refl; size = refl; others = λ l none. same_itself base l m };
-  within = λ room lies. wrote_nothing base (base + room) m;
-}
-
 pub keeps_both : (base : ℕ) (t : Tree) (a b c : State) (ps : List Piece) → AllByRecursion (KeepsUnused base t a b) ps → AllByRecursion (KeepsUnused base t b c) ps → AllByRecursion (KeepsUnused base t a c) ps
-keeps_both base t a b c [] first second = tt
-keeps_both base t a b c (p ∷ ps) first second = (λ free k below none. second.0 free k below none ∙ first.0 free k below none, keeps_both base t a b c ps first.1 second.1)
+keeps_both base t a b c ps =
+    each_with (KeepsUnused base t a b) (KeepsUnused base t b c) (KeepsUnused base t a c) (λ p first second free k below none. second free k below none ∙ first free k below none) ps
 
 pub stays_twice : (base : ℕ) (ls : List Loc) (a b c : State) → Stays base ls a b → Stays base ls b c → Stays base ls a c
 stays_twice base ls a b c s u = record {

@@ -9,6 +9,7 @@ use Rattle.ffi3_place_spec.specs.declared.Piece.{Piece}
 use Rattle.ffi3_place_spec.specs.Sound.{Apart, AreApart, IsNoneOf, IsPieceOf, piece_locs, place_size}
 use Rattle.ffi3_cif.specs.declared.runs.Run.{Run}
 use Rattle.ffi3_cif.specs.Runs.{AreRunsOf, Neighbours, OneCopies, Rises, run_at, run_then, stack_runs}
+use Rattle.ffi3_marshal.proofs.Lawful.{each_map}
 use Rattle.ffi3_machine_transfer.specs.Stored.{IsPlace}
 use Rattle.ffi3_machine_transfer.specs.Runs.{RunLies}
 
@@ -34,21 +35,14 @@ same_place n v m w e = (cc, cc)
 abbrev pub IsRunCopied : List Run → Piece → Type 0
 IsRunCopied runs p = (n w k : ℕ) → p.loc ≡ S n w → k < p.len → OneCopies (n + k) (p.off + k) runs
 
-behind_all : (l : Loc) (p : Piece) (rest : List Run) (qs : List Piece) → AllByRecursion (IsRunCopied rest) qs → AllByRecursion (IsRunCopied (run_then (run_at l p) rest)) qs
-behind_all l p rest [] all = tt
-behind_all l p rest (q ∷ qs) all = (λ n w k is h. behind_piece (n + k) (q.off + k) l p rest (all.0 n w k is h), behind_all l p rest qs all.1)
-
 each_copied : (pieces : List Piece) → AllByRecursion (IsRunCopied (stack_runs pieces)) pieces
 each_copied [] = tt
 each_copied (p ∷ ps) =
-    (λ n w k is h. first_piece n w k p.loc p (stack_runs ps) is h, behind_all p.loc p (stack_runs ps) ps (each_copied ps))
-
-by_runs : (pieces : List Piece) (runs : List Run) (qs : List Piece) → AreRunsOf pieces runs → AllByRecursion (IsRunCopied (stack_runs pieces)) qs → AllByRecursion (IsRunCopied runs) qs
-by_runs pieces runs [] are all = tt
-by_runs pieces runs (q ∷ qs) are all = (λ n w k is h. are.has_each (n + k) (q.off + k) (all.0 n w k is h), by_runs pieces runs qs are all.1)
+    (λ n w k is h. first_piece n w k p.loc p (stack_runs ps) is h, each_map (IsRunCopied (stack_runs ps)) (IsRunCopied (run_then (run_at p.loc p) (stack_runs ps))) (λ q copied n w k is h. behind_piece (n + k) (q.off + k) p.loc p (stack_runs ps) (copied n w k is h)) ps (each_copied ps))
 
 pub all_copied_by : (pieces : List Piece) (runs : List Run) → AreRunsOf pieces runs → AllByRecursion (IsRunCopied runs) pieces
-all_copied_by pieces runs are = by_runs pieces runs pieces are (each_copied pieces)
+all_copied_by pieces runs are =
+    each_map (IsRunCopied (stack_runs pieces)) (IsRunCopied runs) (λ q copied n w k is h. are.has_each (n + k) (q.off + k) (copied n w k is h)) pieces (each_copied pieces)
 
 -- ---- where nothing is copied
 
@@ -90,13 +84,9 @@ each_clear t (p ∷ ps) parts apart = (one, clear_before t p (stack_runs ps) ps 
     one n w k off is above below c =
         by_piece ⊥ (n + k) off p.loc p (stack_runs ps) (λ m u here from to same. let e = (same_place n w m u (sym is ∙ here)).0 in omega (arith, to, e, above)) (clear_of_pieces t n w k off ps parts.1 (subst (λ l. AllByRecursion (Apart l) (piece_locs ps)) is apart.0) below) c
 
-clear_of_runs : (pieces : List Piece) (runs : List Run) (qs : List Piece) → AreRunsOf pieces runs → AllByRecursion (IsClearAbove (stack_runs pieces)) qs → AllByRecursion (IsClearAbove runs) qs
-clear_of_runs pieces runs [] are all = tt
-clear_of_runs pieces runs (q ∷ qs) are all =
-    (λ n w k off is above below c. all.0 n w k off is above below (are.has_no_other (n + k) off c), clear_of_runs pieces runs qs are all.1)
-
 pub all_clear_above : (t : Tree) (pieces : List Piece) (runs : List Run) → AllByRecursion (IsPieceOf t) pieces → AreApart (piece_locs pieces) → AreRunsOf pieces runs → AllByRecursion (IsClearAbove runs) pieces
-all_clear_above t pieces runs parts apart are = clear_of_runs pieces runs pieces are (each_clear t pieces parts apart)
+all_clear_above t pieces runs parts apart are =
+    each_map (IsClearAbove (stack_runs pieces)) (IsClearAbove runs) (λ q clear n w k off is above below c. clear n w k off is above below (are.has_no_other (n + k) off c)) pieces (each_clear t pieces parts apart)
 
 -- ---- where runs lie
 
@@ -123,8 +113,7 @@ runs_lie t room pieces runs parts lie are =
     each_lies room (size_of t) runs (λ at off c. copied_within t room at off pieces parts lie (are.has_no_other at off c)) are.some_bytes
 
 pub runs_lie_wider : (room small size : ℕ) (rs : List Run) → small ≤ size → AllByRecursion (RunLies room small) rs → AllByRecursion (RunLies room size) rs
-runs_lie_wider room small size [] h all = tt
-runs_lie_wider room small size (r ∷ rs) h all = ((all.0.0, omega (arith, h, all.0.1)), runs_lie_wider room small size rs h all.1)
+runs_lie_wider room small size rs h = each_map (RunLies room small) (RunLies room size) (λ r lies. (lies.0, omega (arith, h, lies.1))) rs
 
 -- ---- runs that rise
 

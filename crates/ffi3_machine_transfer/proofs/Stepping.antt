@@ -18,6 +18,7 @@ use Rattle.ffi3_machine_spec.specs.State.{State}
 use Rattle.ffi3_machine_transfer.specs.Stored.{IsByteOf, IsPlace, byte_of, word_in, KeepsUnused, SameAt, Stays, WroteWithin, PieceStands, IsStored}
 use Rattle.ffi3_machine_transfer.specs.Runs.{goes_by_run}
 use Rattle.ffi3_machine_transfer.proofs.Composing.{same_byte, stays_none, stays_then, wrote_nothing, wrote_then}
+use Rattle.ffi3_machine_transfer.proofs.Tables.{each_with}
 use Rattle.std.proofs.lemmas.List.{drop_all}
 
 -- ---- pieces that still stand
@@ -30,19 +31,16 @@ same_word_in base (S n w) a b s =
 
 module _ (base : ℕ) (t : Tree) where
   -- what is kept, with other places stored after or before
-  keeps_then : (ls : List Loc) (a b c : State) (p : Piece) → IsNoneOf ls p.loc → Stays base ls b c → KeepsUnused base t a b p → KeepsUnused base t a c p
-  keeps_then ls a b c p none s keeps = λ free k below unused. same_byte base p.loc b c (s.others p.loc none) k below ∙ keeps free k below unused
-
   pub keeps_after : (ls : List Loc) (a b c : State) (p : Piece) → IsNoneOf ls p.loc → Stays base ls a b → KeepsUnused base t b c p → KeepsUnused base t a c p
   keeps_after ls a b c p none s keeps = λ free k below unused. keeps free k below unused ∙ same_byte base p.loc a b (s.others p.loc none) k below
 
   pub all_keep_then : (ls : List Loc) (a b c : State) (ps : List Piece) → AllByRecursion (IsNoneOf ls) (piece_locs ps) → Stays base ls b c → AllByRecursion (KeepsUnused base t a b) ps → AllByRecursion (KeepsUnused base t a c) ps
-  all_keep_then ls a b c [] none s keep = tt
-  all_keep_then ls a b c (p ∷ ps) none s keep = (keeps_then ls a b c p none.0 s keep.0, all_keep_then ls a b c ps none.1 s keep.1)
+  all_keep_then ls a b c ps none s =
+      each_with (λ p. IsNoneOf ls p.loc) (KeepsUnused base t a b) (KeepsUnused base t a c) (λ p clear keeps free k below unused. same_byte base p.loc b c (s.others p.loc clear) k below ∙ keeps free k below unused) ps (each_loc (IsNoneOf ls) ps none)
 
   pub all_keep_after : (ls : List Loc) (a b c : State) (ps : List Piece) → AllByRecursion (IsNoneOf ls) (piece_locs ps) → Stays base ls a b → AllByRecursion (KeepsUnused base t b c) ps → AllByRecursion (KeepsUnused base t a c) ps
-  all_keep_after ls a b c [] none s keep = tt
-  all_keep_after ls a b c (p ∷ ps) none s keep = (keeps_after ls a b c p none.0 s keep.0, all_keep_after ls a b c ps none.1 s keep.1)
+  all_keep_after ls a b c ps none s =
+      each_with (λ p. IsNoneOf ls p.loc) (KeepsUnused base t b c) (KeepsUnused base t a c) (λ p clear keeps. keeps_after ls a b c p clear s keeps) ps (each_loc (IsNoneOf ls) ps none)
 
 module _ (base : ℕ) (t : Tree) (v : ValueTree) where
   pub stands_stays : (ls : List Loc) (a b : State) (p : Piece) → p.len ≤ place_size p.loc → IsNoneOf ls p.loc → Stays base ls a b → PieceStands base a t v p → PieceStands base b t v p
@@ -94,6 +92,3 @@ module _ (base : ℕ) (t : Tree) (v : ValueTree) where
         stays = subst (λ ps. Stays base (piece_locs ps) m m) (sym none) (stays_none base m);
         within = λ r all. wrote_nothing base (base + r) m;
       }
-
-  pub all_stored : (pieces : List Piece) (j : ℕ) (first m : State) → j ≡ 0 → AreStored pieces j first m → AreStored pieces 0 first m
-  all_stored pieces j first m none stored = subst (λ i. AreStored pieces i first m) none stored

@@ -1,6 +1,7 @@
 -- Which registers stubs load, store and overwrite, beside those that a standard names.
 use Rattle.std.proofs.Common.{◌≡◌, zero, suc, List, [], ◌∷◌, ◌++◌, map, refl, ap, ◌∙◌, subst, arith}
 use Rattle.std.specs.List.{AllByRecursion, Any}
+use Rattle.std.specs.Prelude.{⊤}
 use Rattle.ffi3_type_spec.specs.declared.Isa.{Isa}
 use Rattle.ffi3_type_spec.specs.declared.Isa.TheVariants.{Amd64, Aarch64, Riscv}
 use Rattle.ffi3_type_spec.specs.TargetIsa.{isa_of}
@@ -22,6 +23,10 @@ one_of_each P x (y ∷ ys) all (zero, q, below, is, same) = subst P (is ∙ same
 one_of_each P x (y ∷ ys) all (suc k, q, below, is, same) =
     one_of_each P x ys all.1 (k, q, omega arith, is, same)
 
+pub all_true : {X : Type 0} (xs : List X) → AllByRecursion (λ (x : X). ⊤) xs
+all_true [] = tt
+all_true (x ∷ xs) = (tt, all_true xs)
+
 pub each_with : {X : Type 0} (P Q R : X → Type 0) → ((x : X) → P x → Q x → R x) → (xs : List X) → AllByRecursion P xs → AllByRecursion Q xs → AllByRecursion R xs
 each_with P Q R f [] h k = tt
 each_with P Q R f (x ∷ xs) h k = (f x h.0 k.0, each_with P Q R f xs h.1 k.1)
@@ -30,30 +35,23 @@ each_with P Q R f (x ∷ xs) h k = (f x h.0 k.0, each_with P Q R f xs h.1 k.1)
 
 pub reserved_not_link : (isa : Isa) → AllByRecursion (IsNoneOf (to_list (link_place isa))) (reserved_places isa)
 reserved_not_link Amd64 = tt
-reserved_not_link Aarch64 = each_none_of (to_list (link_place Aarch64)) (reserved_places Aarch64) refl
-reserved_not_link Riscv = each_none_of (to_list (link_place Riscv)) (reserved_places Riscv) refl
+reserved_not_link isa = each_none_of (to_list (link_place isa)) (reserved_places isa) refl
 
 pub reserved_not_called : (isa : Isa) → AllByRecursion (IsNoneOf (call_scratch isa ++ call_loads isa)) (reserved_places isa)
 reserved_not_called Amd64 = tt
-reserved_not_called Aarch64 = each_none_of (call_scratch Aarch64 ++ call_loads Aarch64) (reserved_places Aarch64) refl
-reserved_not_called Riscv = each_none_of (call_scratch Riscv ++ call_loads Riscv) (reserved_places Riscv) refl
+reserved_not_called isa = each_none_of (call_scratch isa ++ call_loads isa) (reserved_places isa) refl
 
 pub reserved_not_entered : (isa : Isa) → AllByRecursion (IsNoneOf (entry_scratch isa)) (reserved_places isa)
 reserved_not_entered Amd64 = tt
-reserved_not_entered Aarch64 = each_none_of (entry_scratch Aarch64) (reserved_places Aarch64) refl
-reserved_not_entered Riscv = each_none_of (entry_scratch Riscv) (reserved_places Riscv) refl
+reserved_not_entered isa = each_none_of (entry_scratch isa) (reserved_places isa) refl
 
 pub reserved_not_left : (isa : Isa) → AllByRecursion (IsNoneOf (exit_scratch isa ++ (callee_saved_words isa ++ result_loads isa))) (reserved_places isa)
 reserved_not_left Amd64 = tt
-reserved_not_left Aarch64 =
-    each_none_of (exit_scratch Aarch64 ++ (callee_saved_words Aarch64 ++ result_loads Aarch64)) (reserved_places Aarch64) refl
-reserved_not_left Riscv =
-    each_none_of (exit_scratch Riscv ++ (callee_saved_words Riscv ++ result_loads Riscv)) (reserved_places Riscv) refl
+reserved_not_left isa = each_none_of (exit_scratch isa ++ (callee_saved_words isa ++ result_loads isa)) (reserved_places isa) refl
 
 pub reserved_not_returned : (isa : Isa) → AllByRecursion (IsNoneOf (exit_scratch isa)) (reserved_places isa)
 reserved_not_returned Amd64 = tt
-reserved_not_returned Aarch64 = each_none_of (exit_scratch Aarch64) (reserved_places Aarch64) refl
-reserved_not_returned Riscv = each_none_of (exit_scratch Riscv) (reserved_places Riscv) refl
+reserved_not_returned isa = each_none_of (exit_scratch isa) (reserved_places isa) refl
 
 pub reserved_are_places : (isa : Isa) → AllByRecursion (IsPlace 0) (reserved_places isa)
 reserved_are_places Amd64 = tt
@@ -62,13 +60,11 @@ reserved_are_places Riscv = (omega arith, (omega arith, (omega arith, tt)))
 
 saved_not_loaded : (isa : Isa) → AllByRecursion (IsNoneOf (call_loads isa)) (callee_saved_words isa)
 saved_not_loaded Amd64 = each_none_of (call_loads Amd64) (callee_saved_words Amd64) refl
-saved_not_loaded Aarch64 = each_none_of (call_loads Aarch64) (callee_saved_words Aarch64) refl
-saved_not_loaded Riscv = each_none_of (call_loads Riscv) (callee_saved_words Riscv) refl
+saved_not_loaded isa = each_none_of (call_loads isa) (callee_saved_words isa) refl
 
 saved_by : (isa : Isa) → saved_registers (map Register (callee_saved_words isa) ++ (Hidden ∷ spare_words isa)) ≡ callee_saved_words isa
 saved_by Amd64 = refl
-saved_by Aarch64 = refl
-saved_by Riscv = refl
+saved_by _ = refl
 
 -- ---- of a standard
 

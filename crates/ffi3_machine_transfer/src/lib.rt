@@ -1,4 +1,4 @@
-//! Stores a caller's values at the places of a plan, on the modelled machine.
+//! Puts the values of a call into the registers and stack places of the modelled machine, and reads them back.
 #![tactic(auto)]
 
 ghost use Rattle.std.specs.Prelude.{◌≡◌, ℕ, ◌+◌, ◌-◌, ◌≤◌, length, true};

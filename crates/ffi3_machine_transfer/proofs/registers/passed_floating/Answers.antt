@@ -1,6 +1,7 @@
-use Rattle.std.proofs.Common.{◌≡◌, ◌∙◌, true, false}
-use Rattle.ffi3_machine_transfer.specs.Passing.{by_exchange}
-use Rattle.ffi3_machine_transfer.proofs.Passing.{floating_read, floating_own_read}
+use Rattle.std.specs.Prelude.{slice_index}
+use Rattle.std.proofs.Common.{◌≡◌, Bool, refl, sym, subst, ◌∙◌, true, false}
+use Rattle.ffi3_machine_transfer.specs.Passing.{by_exchange, passing_if}
+use Rattle.ffi3_machine_transfer.proofs.Passing.{floating_read}
 use Rattle.ffi3_machine_transfer.proofs.registers.passed_floating.Goals as goal
 
 pub returns-then-exchanged : goal.returns-then-exchanged
@@ -11,4 +12,4 @@ returns-then-exchanged c =
 pub returns-else-exchanged : goal.returns-else-exchanged
 returns-else-exchanged c =
     let e : by_exchange c.args.machine.now.target ≡ false = cc in
-    c.f.ensures ∙ floating_own_read (by_exchange c.args.machine.now.target) c.args.k c.args.machine.now e
+    c.f.ensures ∙ subst (λ (b : Bool). slice_index c.args.machine.now.floating c.args.k ≡ slice_index (passing_if b c.args.machine.now).floating c.args.k) (sym e) refl

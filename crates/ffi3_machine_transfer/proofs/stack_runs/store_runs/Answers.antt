@@ -4,7 +4,7 @@ use Rattle.ffi3_values.specs.ValueOf.{value_of}
 use Rattle.ffi3_type_spec.specs.declared.limits.TheConstants.{STACK_TOP}
 use Rattle.ffi3_machine_transfer.specs.Passing.{passing}
 use Rattle.ffi3_machine_transfer.specs.Runs.{AreRunsStored, RunLies}
-use Rattle.ffi3_machine_transfer.proofs.RunStoring.{all_runs_stored, no_run, run_step}
+use Rattle.ffi3_machine_transfer.proofs.RunStoring.{no_run, run_step}
 use Rattle.ffi3_marshal.proofs.Stepping.{each_read}
 use Rattle.ffi3_machine_transfer.proofs.stack_runs.store_runs.Goals as goal
 
@@ -26,4 +26,5 @@ loop-i-preserved c =
 
 pub returns-clause-stored : goal.returns-clause-stored
 returns-clause-stored c =
-    all_runs_stored c.args.base c.args.ty.now (value_of c.args.value.now) c.address-at.ensures.low c.args.runs.now c.loop-i.i (passing c.args.machine.now) (passing c.loop-i.machine) (omega arith) c.loop-i.invariant.0
+    let first : c.loop-i.i ≡ 0 = omega arith in
+    subst (λ i. AreRunsStored c.args.base c.args.ty.now (value_of c.args.value.now) (drop i c.args.runs.now) (passing c.args.machine.now) (passing c.loop-i.machine)) first c.loop-i.invariant.0
