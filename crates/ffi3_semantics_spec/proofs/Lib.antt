@@ -4,5 +4,5 @@ mod StopRows
 mod NativeRows
 pub mod Recursion
 pub mod MoreStack
-pub mod Texts
 pub mod Aligned
+pub mod Texts

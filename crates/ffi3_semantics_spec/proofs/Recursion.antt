@@ -1,5 +1,5 @@
 -- The direct meaning is the plain recursion: fuel beyond the moves left changes nothing.
-use Rattle.std.proofs.Common.{◌≡◌, ℕ, zero, suc, ◌≤◌, List, refl, ap, ◌∙◌, arith}
+use Rattle.std.proofs.Common.{◌≡◌, ℕ, zero, suc, ◌≤◌, List, refl, ap, sym, ◌∙◌, arith}
 use Rattle.std.specs.Prelude.{Some}
 use Rattle.ffi3_type_spec.specs.Value.{ValueTree, void_value}
 use Rattle.ffi3_semantics_spec.specs.declared.Stop.TheVariants.{MoveLimit}
@@ -47,14 +47,16 @@ agree_follows f g l a c m (enters ptr sig callee) h =
     ap (resumed_after f a ptr sig callee.arguments) (h callee c m (omega arith))
     ∙ (let o = g callee c m in agree_resumed f g m h a ptr sig callee.arguments o o.end (l callee c m))
 
+at_limit : (p : Program) (fuel : ℕ) (a : Activation) (c : Closures) → act_within p fuel a c 0 ≡ stops_with MoveLimit c 0
+unfolding act_within
+at_limit p zero a c = refl
+at_limit p (suc fuel) a c = refl
+
 pub same_within : (p : Program) (fuel fuel' : ℕ) (a : Activation) (c : Closures) (m : ℕ) → m ≤ fuel → m ≤ fuel' → act_within p fuel a c m ≡ act_within p fuel' a c m
 unfolding act_within
-same_within p zero zero a c m l l' = refl
-same_within p zero (suc g) a c zero l l' = refl
-same_within p zero (suc g) a c (suc m) l l' = absurd (omega (arith, l))
-same_within p (suc f) zero a c zero l l' = refl
+same_within p f g a c zero l l' = at_limit p f a c ∙ sym (at_limit p g a c)
+same_within p zero g a c (suc m) l l' = absurd (omega (arith, l))
 same_within p (suc f) zero a c (suc m) l l' = absurd (omega (arith, l'))
-same_within p (suc f) (suc g) a c zero l l' = refl
 same_within p (suc f) (suc g) a c (suc m) l l' =
     agree_follows (act_within p f) (act_within p g) (falls p g) a c m (effect_of p a c (next_move p a)) (λ b d n k. same_within p f g b d n (omega (arith, k, l)) (omega (arith, k, l')))
 
@@ -64,14 +66,10 @@ unfolding act act_within
 act-is p a c m =
     agree_follows (act_within p m) (act p) (λ b d n. falls p n b d n) a c m (effect_of p a c (next_move p a)) (λ b d n k. same_within p m n b d n k (omega arith))
 
-none_left : (p : Program) (a : Activation) (c : Closures) → act p a c 0 ≡ stops_with MoveLimit c 0
-unfolding act act_within
-none_left p a c = refl
-
-never_rise : (p : Program) (a : Activation) (c : Closures) (m : ℕ) → (act p a c m).moves ≤ m
-unfolding act
-never_rise p a c m = falls p m a c m
-
 pub is_plain_recursion : (p : Program) → IsPlainRecursion p
-is_plain_recursion p =
-    record { none_left = none_left p; one_more = act-is p; never_rise = never_rise p }
+unfolding act act_within
+is_plain_recursion p = record {
+  none_left = λ a c. refl;
+  one_more = act-is p;
+  never_rise = λ a c m. falls p m a c m;
+}

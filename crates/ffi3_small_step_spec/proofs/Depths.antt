@@ -38,15 +38,15 @@ ends_below p depth (h ∷ a) = let k = ends_below p (depth_after p depth h) a in
 -- ---- of a run
 
 -- an activation that returns leaves the stack as it found it
-abbrev IsLevel : Program → End → List TraceItem → Type 0
+abbrev pub IsLevel : Program → End → List TraceItem → Type 0
 IsLevel p (returned v) trace = (depth : ℕ) → depth_at p depth trace ≡ depth
 IsLevel p (stopped stop) trace = ⊤
 
-record IsDeep (p : Program) (o : Outcome) : Type 0 where
-  peak : (depth : ℕ) → deepest p depth (written_out o.call_tree) ≡ depth + peak_of p o.call_tree
-  level : IsLevel p o.end (written_out o.call_tree)
+pub record IsDeep (p : Program) (o : Outcome) : Type 0 where
+  pub peak : (depth : ℕ) → deepest p depth (written_out o.call_tree) ≡ depth + peak_of p o.call_tree
+  pub level : IsLevel p o.end (written_out o.call_tree)
 
-abbrev AllDeep : Program → Acts → Type 0
+abbrev pub AllDeep : Program → Acts → Type 0
 AllDeep p acts = (a : Activation) (c : Closures) (m : ℕ) → IsDeep p (acts a c m)
 
 stop_deep : (p : Program) (stop : Stop) (c : Closures) (m : ℕ) → IsDeep p (stops_with stop c m)
@@ -55,12 +55,6 @@ stop_deep p stop c m = record { peak = λ depth. omega arith; level = tt }
 line_level : (p : Program) (t : Tree) (v : ValueTree) (e : End) (later : List TraceItem) → IsLevel p e later → IsLevel p e (Line t v ∷ later)
 line_level p t v (returned r) later h = h
 line_level p t v (stopped stop) later h = tt
-
-line_deep : (p : Program) (t : Tree) (v : ValueTree) (o : Outcome) → IsDeep p o → IsDeep p (after (line t v) o)
-line_deep p t v o h = record {
-  peak = λ depth. let k = h.peak depth in omega (arith, k);
-  level = line_level p t v o.end (written_out o.call_tree) h.level;
-}
 
 module _ (p : Program) (ptr sig : ℕ) (args : List ValueTree) where
   -- a call that returned, and what comes later
@@ -114,30 +108,29 @@ follows_deep : (p : Program) (acts : Acts) → AllDeep p acts → (a : Activatio
 follows_deep p acts all a c m (ends v) = record { peak = λ depth. omega arith; level = λ depth. refl }
 follows_deep p acts all a c m (stops stop) = stop_deep p stop c m
 follows_deep p acts all a c m (prints t v) =
-    line_deep p t v (acts (with_result a void_value) c m) (all (with_result a void_value) c m)
+    let o = acts (with_result a void_value) c m in
+    let h = all (with_result a void_value) c m in
+    record { peak = λ depth. let k = h.peak depth in omega (arith, k); level = line_level p t v o.end (written_out o.call_tree) h.level }
 follows_deep p acts all a c m (goes_on r c') = all (with_result a r) c' m
 follows_deep p acts all a c m (enters ptr sig callee) =
     let o = acts callee c m in
     let h = all callee c m in
     resumed_deep p ptr sig callee.arguments acts all a o o.end h.peak h.level refl
 
-within_deep : (p : Program) (fuel : ℕ) → AllDeep p (act_within p fuel)
+-- of any program, whatever needs are counted
+within_deep : (p q : Program) (fuel : ℕ) → AllDeep q (act_within p fuel)
 unfolding act_within
-within_deep p zero a c m = stop_deep p MoveLimit c 0
-within_deep p (suc fuel) a c zero = stop_deep p MoveLimit c 0
-within_deep p (suc fuel) a c (suc m) =
-    follows_deep p (act_within p fuel) (within_deep p fuel) a c m (effect_of p a c (next_move p a))
+within_deep p q zero a c m = stop_deep q MoveLimit c 0
+within_deep p q (suc fuel) a c zero = stop_deep q MoveLimit c 0
+within_deep p q (suc fuel) a c (suc m) =
+    follows_deep q (act_within p fuel) (within_deep p q fuel) a c m (effect_of p a c (next_move p a))
 
-act_deep : (p : Program) → AllDeep p (act p)
+pub act_deep : (p q : Program) → AllDeep q (act p)
 unfolding act
-act_deep p a c m = within_deep p m a c m
-
-pub deepest_of_act : (p : Program) (a : Activation) (c : Closures) (m depth : ℕ) → deepest p depth (written_out (act p a c m).call_tree) ≡ depth + peak_of p (act p a c m).call_tree
-deepest_of_act p a c m depth = (act_deep p a c m).peak depth
+act_deep p q a c m = within_deep p q m a c m
 
 -- THE PEAK OF A RUN is that of its trace
 pub deepest_is_peak : (p : Program) → deepest p 0 (trace_of p) ≡ peak_of p (meaning_of p).call_tree
 deepest_is_peak p =
-    let k = deepest_of_act p main_call no_closures most_moves 0 in
     let none : 0 + peak_of p (meaning_of p).call_tree ≡ peak_of p (meaning_of p).call_tree = omega arith in
-    k ∙ none
+    (act_deep p p main_call no_closures most_moves).peak 0 ∙ none

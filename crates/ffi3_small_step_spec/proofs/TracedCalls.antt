@@ -16,7 +16,6 @@ use Rattle.ffi3_semantics_spec.specs.Meaning.{Program}
 use Rattle.ffi3_semantics_spec.specs.Trace.{TraceItem, Enter, Line, Leave, StopLine}
 use Rattle.ffi3_semantics_spec.specs.Journal.{Entered, needs, Answers, IsEntry, IsReturn, events_in}
 use Rattle.ffi3_semantics_spec.specs.Lines.{OpenCall, Point, past, traced, a_line, address_text, word_text, sp_at_call, keep_text, leave_text, enter_lines, leave_lines}
-use Rattle.ffi3_semantics_spec.proofs.Texts.{registers_text}
 use Rattle.ffi3_small_step_spec.specs.Remainder.{Remainder}
 use Rattle.ffi3_small_step_spec.specs.Open.{open_after}
 use Rattle.ffi3_small_step_spec.specs.Interrupted.{past_all}
@@ -27,6 +26,9 @@ use Rattle.ffi3_small_step_spec.specs.MainTracing.{main_tracing}
 use Rattle.ffi3_small_step_spec.proofs.Opens.{line_of, stop_of}
 
 -- ---- registers
+
+abbrev pub registers_text : (Loc → ℕ) → List Loc → List ℕ
+registers_text value registers = concat (map (λ at. codes " " ++ word_text (value at)) registers)
 
 -- registers that hold the same have the same words
 same_words : (f g : Loc → ℕ) (registers : List Loc) → AllByRecursion (λ at. g at ≡ f at) registers → map (λ at. codes " " ++ word_text (f at)) registers ≡ map (λ at. codes " " ++ word_text (g at)) registers
