@@ -33,7 +33,7 @@ use Rattle.ffi3_explain_spec.proofs.Copies.{bytes_of_placed, copy_fits}
 use Rattle.ffi3_type_spec.proofs.Fitting.{value_fits}
 use Rattle.ffi3_type_spec.proofs.Tests.{and_left, and_right, both}
 use Rattle.ffi3_explain_spec.proofs.Pieces.{first_bytes-length, stood_is_read}
-use Rattle.ffi3_explain_spec.proofs.Places.{join, left_part, right_part}
+use Rattle.ffi3_explain_spec.proofs.Places.{left_part, right_part, one_copy}
 use Rattle.ffi3_explain_spec.proofs.Laws.{is_explained}
 
 -- ---- an address in the image
@@ -89,25 +89,17 @@ module _ (m : Image) (base : ℕ) (isa : Isa) (frame : ℕ) (room : base + frame
       let read = copy_read t copy (word_at m base at) v fit own.1 own.2 in
       (read.0, ap (λ b. cond b None (Some (record { argument = i; address = word_at m base at }))) read.1)
 
-  one_copy : (t : Tree) (ts : List Tree) (p : Place) (ps : List Place) → AllByRecursion (LiesIn isa frame) (copy_locs (t ∷ ts) (p ∷ ps)) → AllByRecursion (LiesIn isa frame) (copy_locs (t ∷ []) (p ∷ [])) × AllByRecursion (LiesIn isa frame) (copy_locs ts ps)
-  one_copy t ts (Direct pieces) ps h = (tt, h)
-  one_copy t ts (ByRef at copy) ps h = (
-    join (LiesIn isa frame) (stack_words_for copy t) [] (left_part (LiesIn isa frame) (stack_words_for copy t) (copy_locs ts ps) h) tt,
-    right_part (LiesIn isa frame) (stack_words_for copy t) (copy_locs ts ps) h,
-  )
-
   arguments_read : (i : ℕ) (ts : List Tree) (ps : List Place) (vs : List ValueTree) → ((k : ℕ) → k < length ts → 1 ≤ size_of (tree_at ts k)) → PlacesHaveAll ts ps → AllByRecursion (LiesIn isa frame) (copy_locs ts ps) → OwnsArguments m base ts ps vs → (values_by_standard m base ts ps ≡ vs) × (first_outside m base i ts ps ≡ None)
   arguments_read i [] [] [] some have lies own = (refl, refl)
   arguments_read i [] [] (v ∷ vs) some have lies own = absurd own
-  arguments_read i [] (p ∷ ps) vs some have lies own = absurd have
-  arguments_read i (t ∷ ts) [] vs some have lies own = absurd have
   arguments_read i (t ∷ ts) (p ∷ ps) [] some have lies own = absurd own
   arguments_read i (t ∷ ts) (p ∷ ps) (v ∷ vs) some have lies own =
-      let copies = one_copy t ts p ps lies in
+      let copies = one_copy isa frame t ts p ps lies in
       let here = argument_read i t p v (some 0 (omega arith)) have.0 copies.0 own.0 in
       let later = arguments_read (suc i) ts ps vs (λ k h. some (suc k) (omega (arith, h))) have.1 copies.1 own.1 in
       let same : value_by_standard m base t p ∷ values_by_standard m base ts ps ≡ v ∷ vs = λ j. here.0 j ∷ later.0 j in
       (same, ap (λ o. or_later o (first_outside m base (suc i) ts ps)) here.1 ∙ later.1)
+  arguments_read i _ _ vs some have lies own = absurd have
 
 -- ---- the values fit
 
@@ -119,11 +111,10 @@ argument_fits m base i t (ByRef at copy) right none =
 
 arguments_fit : (m : Image) (base i : ℕ) (ts : List Tree) (ps : List Place) → ((k : ℕ) → k < length ts → IsLaidOut (tree_at ts k)) → PlacesHaveAll ts ps → first_outside m base i ts ps ≡ None → all_fit (trees_of ts) (values_of (values_by_standard m base ts ps)) ≡ true
 arguments_fit m base i [] [] right have none = refl
-arguments_fit m base i [] (p ∷ ps) right have none = absurd have
-arguments_fit m base i (t ∷ ts) [] right have none = absurd have
 arguments_fit m base i (t ∷ ts) (p ∷ ps) right have none =
     let each = both_none (outside_of m base i t p) (first_outside m base (suc i) ts ps) none in
     both _ _ (argument_fits m base i t p (right 0 (omega arith)) each.0) (arguments_fit m base (suc i) ts ps (λ k h. right (suc k) (omega (arith, h))) have.1 each.1)
+arguments_fit m base i _ _ right have none = absurd have
 
 -- ---- what a place points to
 
@@ -134,8 +125,6 @@ module _ (m : Image) (base : ℕ) where
       (inside (is_in_image m (word_at m base at) (size_of t)) (record { argument = i; address = word_at m base at }) none_there, λ j. value_by_standard m base (type_is j) (place_is j))
 
   followed_at : (i : ℕ) (ts : List Tree) (ps : List Place) → first_outside m base i ts ps ≡ None → (k : ℕ) (t : Tree) (at : Loc) (copy : ℕ) → slice_get ts k ≡ Some t → slice_get ps k ≡ Some (ByRef at copy) → (is_in_image m (word_at m base at) (size_of t) ≡ true) × (slice_get (values_by_standard m base ts ps) k ≡ Some (value_at_address m (word_at m base at) t))
-  followed_at i [] ps none k t at copy type_is place_is = cc
-  followed_at i (u ∷ ts) [] none k t at copy type_is place_is = cc
   followed_at i (u ∷ ts) (p ∷ ps) none zero t at copy type_is place_is =
       let each = both_none (outside_of m base i u p) (first_outside m base (suc i) ts ps) none in
       let same_type : u ≡ t = cc in
@@ -145,19 +134,18 @@ module _ (m : Image) (base : ℕ) where
   followed_at i (u ∷ ts) (p ∷ ps) none (suc k) t at copy type_is place_is =
       let each = both_none (outside_of m base i u p) (first_outside m base (suc i) ts ps) none in
       followed_at (suc i) ts ps each.1 k t at copy type_is place_is
+  followed_at i _ _ none k t at copy type_is place_is = cc
 
 -- ---- images that are the same where arguments stand
 
 module _ (n m : Image) (base : ℕ) (sp : n.sp ≡ m.sp) (stack : n.stack ≡ m.stack) where
   same_byte : (at : Loc) (k : ℕ) → register n at ≡ register m at → byte_at n base at k ≡ byte_at m base at k
-  same_byte (G r) k e = ap (λ w. get_or (to_le_bytes w64 w) k 0) e
-  same_byte (F r) k e = ap (λ w. get_or (to_le_bytes w64 w) k 0) e
   same_byte (S i w) k e = ap (λ bytes. get_or bytes (base + i + k) 0) stack
+  same_byte _ k e = ap (λ w. get_or (to_le_bytes w64 w) k 0) e
 
   same_word : (at : Loc) → register n at ≡ register m at → word_at n base at ≡ word_at m base at
-  same_word (G r) e = e
-  same_word (F r) e = e
   same_word (S i w) e = ap (λ bytes. word_at (record { general = []; floating = []; sp = 0; stack = bytes }) base (S i w)) stack
+  same_word _ e = e
 
   same_first_byte : (ps : List Piece) (o : ℕ) → SameIn (piece_locs ps) n m → first_byte n base ps o ≡ first_byte m base ps o
   same_first_byte [] o h = refl
@@ -186,9 +174,6 @@ module _ (n m : Image) (base : ℕ) (sp : n.sp ≡ m.sp) (stack : n.stack ≡ m.
       λ j. cond (nat_le (sp j) (word j) && nat_le (word j + size_of t) (sp j + length (stack j))) None (Some (record { argument = i; address = word j }))
 
   same_read : (i : ℕ) (ts : List Tree) (ps : List Place) → SameIn (flat_map place_locs ps) n m → (values_by_standard n base ts ps ≡ values_by_standard m base ts ps) × (first_outside n base i ts ps ≡ first_outside m base i ts ps)
-  same_read i [] [] h = (refl, refl)
-  same_read i [] (p ∷ ps) h = (refl, refl)
-  same_read i (t ∷ ts) [] h = (refl, refl)
   same_read i (t ∷ ts) (p ∷ ps) h =
       let first = left_part (λ at. register n at ≡ register m at) (place_locs p) (flat_map place_locs ps) h in
       let value = same_value t p first in
@@ -196,6 +181,7 @@ module _ (n m : Image) (base : ℕ) (sp : n.sp ≡ m.sp) (stack : n.stack ≡ m.
       let later = same_read (suc i) ts ps (right_part (λ at. register n at ≡ register m at) (place_locs p) (flat_map place_locs ps) h) in
       let values : value_by_standard n base t p ∷ values_by_standard n base ts ps ≡ value_by_standard m base t p ∷ values_by_standard m base ts ps = λ j. value j ∷ later.0 j in
       (values, λ j. or_later (out j) (later.1 j))
+  same_read i _ _ h = (refl, refl)
 
 -- registers that the count's is none of
 same_beside : (std : Standard) (n m : Image) → ((at : Loc) → IsNoneOf (to_list std.vector_count) at → register n at ≡ register m at) → (ls : List Loc) → AllByRecursion (IsNoneOf (closed_to_arguments std)) ls → SameIn ls n m
@@ -211,22 +197,18 @@ owned_fits m base t (ByRef at copy) v own = own.0
 
 pub owned_fit : (m : Image) (base : ℕ) (ts : List Tree) (ps : List Place) (vs : List ValueTree) → OwnsArguments m base ts ps vs → all_fit (trees_of ts) (values_of vs) ≡ true
 owned_fit m base [] [] [] own = refl
-owned_fit m base [] [] (v ∷ vs) own = absurd own
-owned_fit m base [] (p ∷ ps) vs own = absurd own
-owned_fit m base (t ∷ ts) [] vs own = absurd own
-owned_fit m base (t ∷ ts) (p ∷ ps) [] own = absurd own
 owned_fit m base (t ∷ ts) (p ∷ ps) (v ∷ vs) own =
     both _ _ (owned_fits m base t p v own.0) (owned_fit m base ts ps vs own.1)
+owned_fit m base _ _ _ own = absurd own
 
 -- ---- the stack that is needed
 
 end_within : (isa : Isa) (stack : ℕ) (ls : List Loc) → AllByRecursion (LiesIn isa stack) ls → stack_end ls ≤ stack
 end_within isa stack [] lie = omega arith
-end_within isa stack (G r ∷ ls) lie = end_within isa stack ls lie.1
-end_within isa stack (F r ∷ ls) lie = end_within isa stack ls lie.1
 end_within isa stack (S n w ∷ ls) lie =
     let later = end_within isa stack ls lie.1 in
     omega (arith, lie.0.0, later)
+end_within isa stack (_ ∷ ls) lie = end_within isa stack ls lie.1
 
 -- ---- the laws
 
@@ -239,15 +221,11 @@ copies_in_frame std s sound =
     let buffer = buffer_locs s.result_type p.res in
     left_part (LiesIn isa (frame_of std s)) copies buffer (each_lies isa (frame_of std s) (copies ++ buffer) (right_part (StandsIn isa (frame_of std s)) (argument_locs p) (copies ++ buffer) sound.in_frame) (frame_not_further isa s.arguments p.places s.result_type p.res))
 
--- an image that owns values has these
-owned_there : (std : Standard) (s : Signature) (m : Image) → IsSound std s → ((k : ℕ) → k < length s.arguments → 1 ≤ size_of (tree_at s.arguments k)) → (vs : List ValueTree) → Own std s vs m → held_by_standard std s m ≡ are_values vs
-owned_there std s m sound some vs own =
-    let found = arguments_read m std.link (isa_of std.target) (frame_of std s) own.reaches 0 s.arguments (plan_of std s).places vs some sound.has_all (copies_in_frame std s sound) own.arguments in
-    ap (arguments_by (values_by_standard m std.link s.arguments (plan_of std s).places)) found.1 ∙ ap are_values found.0
-
--- also where it is of a signature that can be placed
+-- an image that owns values has these, where the signature can be placed
 pub placed_is_owned : (std : Standard) (s : Signature) (m : Image) → SignatureIsPlaced s → IsSound std s → (vs : List ValueTree) → Own std s vs m → held_by_standard std s m ≡ are_values vs
-placed_is_owned std s m right sound vs own = owned_there std s m sound (bytes_of_placed s right) vs own
+placed_is_owned std s m right sound vs own =
+    let found = arguments_read m std.link (isa_of std.target) (frame_of std s) own.reaches 0 s.arguments (plan_of std s).places vs (bytes_of_placed s right) sound.has_all (copies_in_frame std s sound) own.arguments in
+    ap (arguments_by (values_by_standard m std.link s.arguments (plan_of std s).places)) found.1 ∙ ap are_values found.0
 
 module _ (std : Standard) (s : Signature) (m : Image) (right : SignatureHasNoFault s) (sound : IsSound std s) where
   abbrev Lies : Loc → Type 0

@@ -19,21 +19,18 @@ has_bytes : (outer : ℕ) (role : Role) (t : Tree) → takes_void role ≡ false
 has_bytes outer role void none right = absurd (right [] bad_typedef (out_of_place refl none))
 has_bytes outer role (scalar s) none right = (scalar_room-bounds s).0
 has_bytes outer role (left_out k) none right = absurd (right [] (left_out_type (left_out k)) (left_out_kind refl))
-has_bytes outer role (array no_trees n) none right = absurd (right [] bad_typedef (misshapen refl refl))
-has_bytes outer role (array (tree t no_trees) zero) none right = absurd (right [] bad_typedef (misshapen refl refl))
 has_bytes outer role (array (tree t no_trees) (suc n)) none right =
     let inside : HasNoFault (outer + 1) AsElement t = λ path fault is. right (0 ∷ path) fault (fault_outside (array (tree t no_trees) (suc n)) 0 path fault (omega arith) is) in
     let first = has_bytes (outer + 1) AsElement t refl inside in
     let more : suc n * size_of t ≡ n * size_of t + size_of t = omega arith in
     omega (arith, first, more)
-has_bytes outer role (array (tree t (tree u us)) n) none right = absurd (right [] bad_typedef (misshapen refl refl))
-has_bytes outer role (structure no_trees) none right = absurd (right [] bad_typedef (misshapen refl refl))
 has_bytes outer role (structure (tree t ts)) none right =
     let inside : HasNoFault (outer + 1) AsElement t = λ path fault is. right (0 ∷ path) fault (fault_outside (structure (tree t ts)) 0 path fault (omega arith) is) in
     let first = has_bytes (outer + 1) AsElement t refl inside in
     let ends : size_of t ≤ end_before (layouts (tree t ts)) (length (layouts (tree t ts))) = size_le-end (layouts (tree t ts)) 0 (length (layouts (tree t ts))) (omega arith) in
     let rounded : end_before (layouts (tree t ts)) (length (layouts (tree t ts))) ≤ size_of (structure (tree t ts)) = least_multiple-above (align_before (layouts (tree t ts)) (length (layouts (tree t ts)))) (end_before (layouts (tree t ts)) (length (layouts (tree t ts)))) in
     omega (arith, first, ends, rounded)
+has_bytes outer role _ none right = absurd (right [] bad_typedef (misshapen refl refl))
 
 pub bytes_of_right : (t : Tree) → IsArgumentType t → 1 ≤ size_of t
 bytes_of_right t right = has_bytes 0 AsArgument t refl right

@@ -64,23 +64,13 @@ broken_first (d ∷ cs) c e =
 
 -- ---- the address of a hidden result, and the number of vector registers
 
-hidden_owned : (m : Image) (base : ℕ) (r : Res) → AllByRecursion IsHeld (checks_of_hidden m base r) → OwnsHidden m base r
-hidden_owned m base Nothing h = tt
-hidden_owned m base (DirectRes pieces) h = tt
-hidden_owned m base (HiddenRes at buffer) h = h.0
+hidden_checked : (m : Image) (base : ℕ) (r : Res) → (AllByRecursion IsHeld (checks_of_hidden m base r) → OwnsHidden m base r) × (OwnsHidden m base r → AllByRecursion IsHeld (checks_of_hidden m base r))
+hidden_checked m base (HiddenRes at buffer) = (λ h. h.0, λ h. (h, tt))
+hidden_checked m base _ = (λ h. tt, λ h. tt)
 
-hidden_held : (m : Image) (base : ℕ) (r : Res) → OwnsHidden m base r → AllByRecursion IsHeld (checks_of_hidden m base r)
-hidden_held m base Nothing h = tt
-hidden_held m base (DirectRes pieces) h = tt
-hidden_held m base (HiddenRes at buffer) h = (h, tt)
-
-count_is : (m : Image) (at : Option Loc) (n : ℕ) → AllByRecursion IsHeld (checks_of_count m at n) → RegisterHolds m at n
-count_is m (Some at) n h = h.0
-count_is m None n h = tt
-
-count_held : (m : Image) (at : Option Loc) (n : ℕ) → RegisterHolds m at n → AllByRecursion IsHeld (checks_of_count m at n)
-count_held m (Some at) n h = (h, tt)
-count_held m None n h = tt
+count_checked : (m : Image) (at : Option Loc) (n : ℕ) → (AllByRecursion IsHeld (checks_of_count m at n) → RegisterHolds m at n) × (RegisterHolds m at n → AllByRecursion IsHeld (checks_of_count m at n))
+count_checked m (Some at) n = (λ h. h.0, λ h. (h, tt))
+count_checked m None n = (λ h. tt, λ h. tt)
 
 -- ---- the laws
 
@@ -109,17 +99,17 @@ module _ (std : Standard) (s : Signature) (m : Image) (right : SignatureHasNoFau
         own = record {
           reaches = reaches;
           arguments = owned.0;
-          hidden = hidden_owned m std.link (plan_of std s).res (left_part IsHeld of_hidden of_count rest);
+          hidden = (hidden_checked m std.link (plan_of std s).res).0 (left_part IsHeld of_hidden of_count rest);
         };
         filled = owned.1;
-        vectors = count_is m std.vector_count (plan_of std s).vectors (right_part IsHeld of_hidden of_count rest);
+        vectors = (count_checked m std.vector_count (plan_of std s).vectors).0 (right_part IsHeld of_hidden of_count rest);
       }
 
   holds_held : (vs : List ValueTree) → Holds std s vs m → AllByRecursion IsHeld (checks std s m) × (read ≡ vs)
   holds_held vs holds =
       let arguments = arguments_held m std.link has 0 s.arguments (plan_of std s).places vs sound.has_all holds.own.arguments holds.filled in
-      let hidden = hidden_held m std.link (plan_of std s).res holds.own.hidden in
-      let count = count_held m std.vector_count (plan_of std s).vectors holds.vectors in
+      let hidden = (hidden_checked m std.link (plan_of std s).res).1 holds.own.hidden in
+      let count = (count_checked m std.vector_count (plan_of std s).vectors).1 holds.vectors in
       (join IsHeld of_arguments (of_hidden ++ of_count) arguments.0 (join IsHeld of_hidden of_count hidden count), arguments.1)
 
   values_explained : (vs : List ValueTree) → Holds std s vs m → explained std s m ≡ holds_values vs

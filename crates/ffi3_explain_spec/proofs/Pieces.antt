@@ -47,15 +47,9 @@ pub or_cases : (a b : Bool) → (a || b) ≡ true → (a ≡ true) ⊎ (b ≡ tr
 or_cases true b h = inl refl
 or_cases false b h = inr h
 
-decide : (b : Bool) → (b ≡ true) ⊎ (b ≡ false)
-decide true = inl refl
-decide false = inr refl
-
 leaf_here : (l : Leaf) (k : ℕ) → k < scalar_size l.kind → (nat_le l.at (l.at + k) && nat_lt (l.at + k) (l.at + scalar_size l.kind)) ≡ true
 leaf_here l k h =
-    let low : nat_le l.at (l.at + k) ≡ true = grind (arith, nat_tests) in
-    let high : nat_lt (l.at + k) (l.at + scalar_size l.kind) ≡ true = grind (arith, nat_tests, h) in
-    both (nat_le l.at (l.at + k)) (nat_lt (l.at + k) (l.at + scalar_size l.kind)) low high
+    both (nat_le l.at (l.at + k)) (nat_lt (l.at + k) (l.at + scalar_size l.kind)) (grind (arith, nat_tests)) (grind (arith, nat_tests, h))
 
 pub lt_is : (a b : ℕ) → a < b → nat_lt a b ≡ true
 lt_is a b h = grind (arith, nat_tests, h)
@@ -110,19 +104,28 @@ module _ (m : Image) (base : ℕ) (t : Tree) (all : List Piece) where
 
   stood_read : (ls : List Leaf) (bs : List (List ℕ)) → AllByRecursion (EndsIn (size_of t)) ls → AllByRecursion (CoversLeaf all) ls → LeavesStand m base all ls bs → LeavesRead whole ls bs
   stood_read [] [] ends covers stand = tt
-  stood_read [] (b ∷ bs) ends covers stand = absurd stand
-  stood_read (l ∷ ls) [] ends covers stand = absurd stand
   stood_read (l ∷ ls) (b ∷ bs) ends covers stand = (
     λ k h. let a = covers.0 k h in
         whole_byte (l.at + k) (omega (arith, ends.0, h)) ∙ first_agrees m base all (l.at + k) (get_or b k 0) (stand.0 k h) a.0 a.1 a.2 a.3 a.4,
     stood_read ls bs ends.1 covers.1 stand.1,
   )
+  stood_read _ _ ends covers stand = absurd stand
 
   pub stood_is_read : (v : ValueTree) → HaveAll t all → fits t v ≡ true → LeavesStand m base all (leaves_of t) (leaf_bytes v) → value_in_pieces m base t all ≡ v
   stood_is_read v have fit stand =
       reads t v whole fit (first_bytes-length m base all 0 (size_of t)) (stood_read (leaves_of t) (leaf_bytes v) (leaves_end t) have.covered stand)
 
 -- ---- places that are as they are wanted
+
+-- a narrow integer takes the bytes of its value, four at most, and no more, and all of them are its value
+narrow : (s : Scalar) → is_narrow_integer (scalar s) ≡ true → (scalar_size s ≤ 4) × (scalar_room s ≡ scalar_size s) × ((bytes : List ℕ) → significant s bytes ≡ bytes)
+narrow u8 h = (omega arith, refl, λ bytes. refl)
+narrow s8 h = (omega arith, refl, λ bytes. refl)
+narrow u16 h = (omega arith, refl, λ bytes. refl)
+narrow s16 h = (omega arith, refl, λ bytes. refl)
+narrow u32 h = (omega arith, refl, λ bytes. refl)
+narrow s32 h = (omega arith, refl, λ bytes. refl)
+narrow _ h = cc
 
 module _ (m : Image) (base : ℕ) (has : HasWords m) (t : Tree) (all : List Piece) where
   abbrev out : List ℕ
@@ -162,85 +165,27 @@ module _ (m : Image) (base : ℕ) (has : HasWords m) (t : Tree) (all : List Piec
   byte_from : (p : Piece) (k word : ℕ) → k < p.len → k < 8 → in_leaf (leaves_of t) (p.off + k) ≡ true → get_or (to_le_bytes w64 word) k 0 ≡ get_or (to_le_bytes w64 (wanted_word m base t all p)) k 0 → get_or (to_le_bytes w64 word) k 0 ≡ first_byte m base all (p.off + k)
   byte_from p k word h few leaf e = e ∙ wanted_bytes p k few ∙ leaf_byte_wanted p k h leaf
 
-  narrow_size : (s : Scalar) → is_narrow_integer (scalar s) ≡ true → scalar_size s ≤ 4
-  narrow_size u8 h = omega arith
-  narrow_size s8 h = omega arith
-  narrow_size u16 h = omega arith
-  narrow_size s16 h = omega arith
-  narrow_size u32 h = omega arith
-  narrow_size s32 h = omega arith
-  narrow_size u64 h = cc
-  narrow_size s64 h = cc
-  narrow_size u128 h = cc
-  narrow_size s128 h = cc
-  narrow_size float h = cc
-  narrow_size double h = cc
-  narrow_size pointer h = cc
-  narrow_size x87 h = cc
-  narrow_size binary128 h = cc
-
-  -- a narrow integer takes the bytes of its value and no more, and all of them are its value
-  narrow_same : (s : Scalar) → is_narrow_integer (scalar s) ≡ true → scalar_room s ≡ scalar_size s
-  narrow_same u8 h = refl
-  narrow_same s8 h = refl
-  narrow_same u16 h = refl
-  narrow_same s16 h = refl
-  narrow_same u32 h = refl
-  narrow_same s32 h = refl
-  narrow_same u64 h = cc
-  narrow_same s64 h = cc
-  narrow_same u128 h = cc
-  narrow_same s128 h = cc
-  narrow_same float h = cc
-  narrow_same double h = cc
-  narrow_same pointer h = cc
-  narrow_same x87 h = cc
-  narrow_same binary128 h = cc
-
-  narrow_kept : (s : Scalar) (bytes : List ℕ) → is_narrow_integer (scalar s) ≡ true → significant s bytes ≡ bytes
-  narrow_kept u8 bytes h = refl
-  narrow_kept s8 bytes h = refl
-  narrow_kept u16 bytes h = refl
-  narrow_kept s16 bytes h = refl
-  narrow_kept u32 bytes h = refl
-  narrow_kept s32 bytes h = refl
-  narrow_kept u64 bytes h = cc
-  narrow_kept s64 bytes h = cc
-  narrow_kept u128 bytes h = cc
-  narrow_kept s128 bytes h = cc
-  narrow_kept float bytes h = cc
-  narrow_kept double bytes h = cc
-  narrow_kept pointer bytes h = cc
-  narrow_kept x87 bytes h = cc
-  narrow_kept binary128 bytes h = cc
-
   -- a byte of a whole narrow integer
-  narrow_byte : (p : Piece) (k n x : ℕ) → p.off ≡ 0 → size_of t ≡ n → k < n → x ≡ get_or out k 0 → x ≡ first_byte m base all (p.off + k)
-  narrow_byte p k n x start sized h e =
+  narrow_byte : (p : Piece) (s : Scalar) (k x : ℕ) → scalar s ≡ t → scalar_room s ≡ scalar_size s → p.off ≡ 0 → k < scalar_size s → (length out ≡ scalar_size s → x ≡ get_or out k 0) → x ≡ first_byte m base all (p.off + k)
+  narrow_byte p s k x same room start h e =
+      let sized : size_of t ≡ scalar_size s = ap size_of (sym same) ∙ room in
       let at : 0 + k ≡ p.off + k = omega (arith, start) in
-      e ∙ first_bytes-index m base all 0 (size_of t) k (omega (arith, h, sized)) ∙ ap (first_byte m base all) at
+      e (first_bytes-length m base all 0 (size_of t) ∙ sized) ∙ first_bytes-index m base all 0 (size_of t) k (omega (arith, h, sized)) ∙ ap (first_byte m base all) at
 
   extended_byte : (p : Piece) (e : Ext) (u : Tree) → u ≡ t → IsExtended u p e → p.len ≤ 8 → (k word : ℕ) → k < p.len → in_leaf (leaves_of t) (p.off + k) ≡ true → word ≡ extended e u (value_in u out) (wanted_word m base t all p) → get_or (to_le_bytes w64 word) k 0 ≡ first_byte m base all (p.off + k)
   extended_byte p Free u same ext short k word h leaf is =
       byte_from p k word h (omega (arith, h, short)) leaf (ap (λ w. get_or (to_le_bytes w64 w) k 0) is)
   extended_byte p Boxed u same ext short k word h leaf is =
       byte_from p k word h (omega (arith, h, short)) leaf (low_half word (wanted_word m base t all p) k (omega (arith, h, ext.1)) (boxed_half word (wanted_word m base t all p) is).1)
-  extended_byte p Widen void same ext short k word h leaf is = cc (ext.0)
-  extended_byte p Widen (left_out n) same ext short k word h leaf is = cc (ext.0)
-  extended_byte p Widen (structure ts) same ext short k word h leaf is = cc (ext.0)
-  extended_byte p Widen (array ts n) same ext short k word h leaf is = cc (ext.0)
   extended_byte p Widen (scalar s) same ext short k word h leaf is =
-      let sized : size_of t ≡ scalar_size s = ap size_of (sym same) ∙ narrow_same s ext.0 in
-      let long = first_bytes-length m base all 0 (size_of t) ∙ sized in
-      narrow_byte p k (scalar_size s) (get_or (to_le_bytes w64 word) k 0) ext.1 sized (omega (arith, h, ext.2, narrow_same s ext.0)) (ap (λ w. get_or (to_le_bytes w64 w) k 0) (is ∙ ap (widened s) (narrow_kept s out ext.0)) ∙ byte-widened out (out_small (size_of t) 0) s k (omega (arith, ext.2, narrow_same s ext.0, short)) long (omega (arith, h, ext.2, narrow_same s ext.0)))
-  extended_byte p Riscv void same ext short k word h leaf is = cc (ext.0)
-  extended_byte p Riscv (left_out n) same ext short k word h leaf is = cc (ext.0)
-  extended_byte p Riscv (structure ts) same ext short k word h leaf is = cc (ext.0)
-  extended_byte p Riscv (array ts n) same ext short k word h leaf is = cc (ext.0)
+      let small = narrow s ext.0 in
+      let below : k < scalar_size s = omega (arith, h, ext.2, small.1) in
+      narrow_byte p s k (get_or (to_le_bytes w64 word) k 0) same small.1 ext.1 below (λ long. ap (λ w. get_or (to_le_bytes w64 w) k 0) (is ∙ ap (widened s) (small.2 out)) ∙ byte-widened out (out_small (size_of t) 0) s k (omega (arith, small.0)) long below)
   extended_byte p Riscv (scalar s) same ext short k word h leaf is =
-      let sized : size_of t ≡ scalar_size s = ap size_of (sym same) ∙ narrow_same s ext.0 in
-      let long = first_bytes-length m base all 0 (size_of t) ∙ sized in
-      narrow_byte p k (scalar_size s) (get_or (to_le_bytes w64 word) k 0) ext.1 sized (omega (arith, h, ext.2, narrow_same s ext.0)) (ap (λ w. get_or (to_le_bytes w64 w) k 0) (is ∙ ap (widened_from_32 s) (narrow_kept s out ext.0)) ∙ byte-widened_from_32 out (out_small (size_of t) 0) s k (narrow_size s ext.0) long (omega (arith, h, ext.2, narrow_same s ext.0)))
+      let small = narrow s ext.0 in
+      let below : k < scalar_size s = omega (arith, h, ext.2, small.1) in
+      narrow_byte p s k (get_or (to_le_bytes w64 word) k 0) same small.1 ext.1 below (λ long. ap (λ w. get_or (to_le_bytes w64 w) k 0) (is ∙ ap (widened_from_32 s) (small.2 out)) ∙ byte-widened_from_32 out (out_small (size_of t) 0) s k small.0 long below)
+  extended_byte p _ _ same ext short k word h leaf is = cc (ext.0)
 
   -- a place that is as it is wanted
   abbrev pub IsAsWanted : Piece → Type 0
@@ -263,12 +208,11 @@ module _ (m : Image) (base : ℕ) (has : HasWords m) (t : Tree) (all : List Piec
 
   leaves_stand : AllByRecursion (IsPieceOf t) all → AllByRecursion IsAsWanted all → (ls : List Leaf) (bs : List (List ℕ)) → AllByRecursion (EndsIn (size_of t)) ls → ((o : ℕ) → in_leaf ls o ≡ true → in_leaf (leaves_of t) o ≡ true) → LeavesRead out ls bs → LeavesStand m base all ls bs
   leaves_stand of is [] [] ends inside r = tt
-  leaves_stand of is [] (b ∷ bs) ends inside r = absurd r
-  leaves_stand of is (l ∷ ls) [] ends inside r = absurd r
   leaves_stand of is (l ∷ ls) (b ∷ bs) ends inside r = (
     λ k h. pieces_byte all of is (l.at + k) (inside (l.at + k) (or_first (nat_le l.at (l.at + k) && nat_lt (l.at + k) (l.at + scalar_size l.kind)) (in_leaf ls (l.at + k)) (leaf_here l k h))) (get_or b k 0) (sym (whole_byte m base t all (l.at + k) (omega (arith, ends.0, h))) ∙ r.0 k h),
     leaves_stand of is ls bs ends.1 (λ o e. inside o (or_second (nat_le l.at o && nat_lt o (l.at + scalar_size l.kind)) (in_leaf ls o) e)) r.1,
   )
+  leaves_stand of is _ _ ends inside r = absurd r
 
   -- THE VALUE THAT IS READ STANDS IN THE PIECES, where each place is as it is wanted
   pub read_stands : HaveAll t all → AllByRecursion IsAsWanted all → LeavesStand m base all (leaves_of t) (leaf_bytes (value_in_pieces m base t all))

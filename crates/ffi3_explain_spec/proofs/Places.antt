@@ -2,6 +2,7 @@
 use Rattle.std.specs.Prelude.{◌/◌, ◌*◌}
 use Rattle.std.proofs.Common.{◌≡◌, ℕ, zero, suc, ◌+◌, ◌<◌, ◌≤◌, ◌⊎◌, inl, inr, List, [], ◌∷◌, ◌++◌, length, take, drop, refl, arith, length-take, length-drop}
 use Rattle.std.specs.List.{AllByRecursion}
+use Rattle.std.proofs.lemmas.Bool.{cases_lt}
 use Rattle.ffi3_type_spec.specs.Tree.{Tree, tree_at}
 use Rattle.ffi3_type_spec.specs.Layout.{size_of}
 use Rattle.ffi3_type_spec.specs.Fault.{IsLaidOut}
@@ -13,43 +14,29 @@ use Rattle.ffi3_place_spec.specs.declared.Place.TheVariants.{Direct, ByRef}
 use Rattle.ffi3_place_spec.specs.Image.{Image}
 use Rattle.ffi3_place_spec.specs.Holds.{OwnsArgument, OwnsArguments, FillsArgument, FillArguments}
 use Rattle.ffi3_place_spec.specs.Sound.{PlaceHasAll, PlacesHaveAll, LiesIn, stack_words, stack_words_for, copy_locs}
+pub use Rattle.ffi3_place_spec.proofs.Further.{each_of_all as join, each_in_front as left_part, each_behind as right_part}
 use Rattle.ffi3_explain_spec.specs.Explain.{checks_of_pieces, checks_of_place, checks_of_arguments, value_at_place, values_at_places, first_bytes}
 use Rattle.ffi3_explain_spec.specs.Laws.{HasWords, IsHeld}
 use Rattle.ffi3_type_spec.proofs.Fitting.{value_fits}
+use Rattle.ffi3_explain_spec.proofs.Copies.{copy_fits}
 use Rattle.ffi3_explain_spec.proofs.Pieces.{IsAsWanted, first_bytes-length, read_stands, read_fills, stood_is_read, stood_is_wanted}
-
--- ---- lists
-
-pub join : {X : Type 0} (P : X → Type 0) (xs ys : List X) → AllByRecursion P xs → AllByRecursion P ys → AllByRecursion P (xs ++ ys)
-join P [] ys h k = k
-join P (x ∷ xs) ys h k = (h.0, join P xs ys h.1 k)
-
-pub left_part : {X : Type 0} (P : X → Type 0) (xs ys : List X) → AllByRecursion P (xs ++ ys) → AllByRecursion P xs
-left_part P [] ys h = tt
-left_part P (x ∷ xs) ys h = (h.0, left_part P xs ys h.1)
-
-pub right_part : {X : Type 0} (P : X → Type 0) (xs ys : List X) → AllByRecursion P (xs ++ ys) → AllByRecursion P ys
-right_part P [] ys h = h
-right_part P (x ∷ xs) ys h = right_part P xs ys h.1
 
 -- ---- copies lie in the frame
 
-words_end : (isa : Isa) (frame at n : ℕ) → AllByRecursion (LiesIn isa frame) (stack_words at n) → (n ≡ 0) ⊎ (at + 8 * n ≤ frame)
-words_end isa frame at zero h = inl refl
-words_end isa frame at (suc zero) h = inr (omega (arith, h.0.0))
-words_end isa frame at (suc (suc n)) h =
-    elim (words_end isa frame (at + 8) (suc n) h.1) [
-      | inl none ↦ absurd (omega (arith, none))
-      | inr fit ↦ inr (omega (arith, fit))
-    ]
-
 copy_part : (isa : Isa) (frame base at : ℕ) (t : Tree) (bytes : List ℕ) → AllByRecursion (LiesIn isa frame) (stack_words_for at t) → base + frame ≤ length bytes → length (take (size_of t) (drop (base + at) bytes)) ≡ size_of t
 copy_part isa frame base at t bytes lies room =
-    elim (words_end isa frame at ((size_of t + 7) / 8) lies) [
-      | inl none ↦ let empty : size_of t ≡ 0 = omega (arith, none) in
-          simp (length-take, length-drop) (omega (arith, empty))
-      | inr fit ↦ simp (length-take, length-drop) (omega (arith, fit, room))
+    elim (cases_lt 0 (size_of t)) [
+      | inl some ↦ simp (length-take, length-drop) (omega (arith, copy_fits isa frame at t some lies, room))
+      | inr none ↦ simp (length-take, length-drop) (omega (arith, none))
     ]
+
+-- those of the first argument, and those of the others
+pub one_copy : (isa : Isa) (frame : ℕ) (t : Tree) (ts : List Tree) (p : Place) (ps : List Place) → AllByRecursion (LiesIn isa frame) (copy_locs (t ∷ ts) (p ∷ ps)) → AllByRecursion (LiesIn isa frame) (copy_locs (t ∷ []) (p ∷ [])) × AllByRecursion (LiesIn isa frame) (copy_locs ts ps)
+one_copy isa frame t ts (Direct pieces) ps h = (tt, h)
+one_copy isa frame t ts (ByRef at copy) ps h = (
+  join (LiesIn isa frame) (stack_words_for copy t) [] (left_part (LiesIn isa frame) (stack_words_for copy t) (copy_locs ts ps) h) tt,
+  right_part (LiesIn isa frame) (stack_words_for copy t) (copy_locs ts ps) h,
+)
 
 -- ---- one argument
 
@@ -79,31 +66,22 @@ module _ (m : Image) (base : ℕ) (has : HasWords m) where
   -- ---- all arguments
 
   module _ (isa : Isa) (frame : ℕ) (room : base + frame ≤ length m.stack) where
-    first_copies : (t : Tree) (ts : List Tree) (p : Place) (ps : List Place) → AllByRecursion (LiesIn isa frame) (copy_locs (t ∷ ts) (p ∷ ps)) → AllByRecursion (LiesIn isa frame) (copy_locs (t ∷ []) (p ∷ []))
-    first_copies t ts (Direct pieces) ps h = tt
-    first_copies t ts (ByRef at copy) ps h = join (LiesIn isa frame) (stack_words_for copy t) [] (left_part (LiesIn isa frame) (stack_words_for copy t) (copy_locs ts ps) h) tt
-
-    other_copies : (t : Tree) (ts : List Tree) (p : Place) (ps : List Place) → AllByRecursion (LiesIn isa frame) (copy_locs (t ∷ ts) (p ∷ ps)) → AllByRecursion (LiesIn isa frame) (copy_locs ts ps)
-    other_copies t ts (Direct pieces) ps h = h
-    other_copies t ts (ByRef at copy) ps h = right_part (LiesIn isa frame) (stack_words_for copy t) (copy_locs ts ps) h
-
     pub arguments_owned : (i : ℕ) (ts : List Tree) (ps : List Place) → ((k : ℕ) → k < length ts → IsLaidOut (tree_at ts k)) → PlacesHaveAll ts ps → AllByRecursion (LiesIn isa frame) (copy_locs ts ps) → AllByRecursion IsHeld (checks_of_arguments m base i ts ps) → OwnsArguments m base ts ps (values_at_places m base ts ps) × FillArguments m base ts ps (values_at_places m base ts ps)
     arguments_owned i [] [] right have lies held = (tt, tt)
-    arguments_owned i [] (p ∷ ps) right have lies held = absurd have
-    arguments_owned i (t ∷ ts) [] right have lies held = absurd have
     arguments_owned i (t ∷ ts) (p ∷ ps) right have lies held =
-        let here = argument_owned isa frame room i t p (right 0 (omega arith)) have.0 (first_copies t ts p ps lies) (left_part IsHeld (checks_of_place m base i t p) (checks_of_arguments m base (suc i) ts ps) held) in
-        let later = arguments_owned (suc i) ts ps (λ k h. right (suc k) (omega (arith, h))) have.1 (other_copies t ts p ps lies) (right_part IsHeld (checks_of_place m base i t p) (checks_of_arguments m base (suc i) ts ps) held) in
+        let copies = one_copy isa frame t ts p ps lies in
+        let here = argument_owned isa frame room i t p (right 0 (omega arith)) have.0 copies.0 (left_part IsHeld (checks_of_place m base i t p) (checks_of_arguments m base (suc i) ts ps) held) in
+        let later = arguments_owned (suc i) ts ps (λ k h. right (suc k) (omega (arith, h))) have.1 copies.1 (right_part IsHeld (checks_of_place m base i t p) (checks_of_arguments m base (suc i) ts ps) held) in
         ((here.0, later.0), (here.1, later.1))
+    arguments_owned i _ _ right have lies held = absurd have
 
   pub arguments_held : (i : ℕ) (ts : List Tree) (ps : List Place) (vs : List ValueTree) → PlacesHaveAll ts ps → OwnsArguments m base ts ps vs → FillArguments m base ts ps vs → AllByRecursion IsHeld (checks_of_arguments m base i ts ps) × (values_at_places m base ts ps ≡ vs)
   arguments_held i [] [] [] have own fill = (tt, refl)
   arguments_held i [] [] (v ∷ vs) have own fill = absurd own
-  arguments_held i [] (p ∷ ps) vs have own fill = absurd have
-  arguments_held i (t ∷ ts) [] vs have own fill = absurd have
   arguments_held i (t ∷ ts) (p ∷ ps) [] have own fill = absurd own
   arguments_held i (t ∷ ts) (p ∷ ps) (v ∷ vs) have own fill =
       let here = argument_held i t p v have.0 own.0 fill.0 in
       let later = arguments_held (suc i) ts ps vs have.1 own.1 fill.1 in
       let same : value_at_place m base t p ∷ values_at_places m base ts ps ≡ v ∷ vs = λ j. here.1 j ∷ later.1 j in
       (join IsHeld (checks_of_place m base i t p) (checks_of_arguments m base (suc i) ts ps) here.0 later.0, same)
+  arguments_held i _ _ vs have own fill = absurd have

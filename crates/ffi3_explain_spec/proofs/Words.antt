@@ -27,42 +27,21 @@ index_eight f = each_of_eight (λ k. get_or (eight f) k 0 ≡ f k) refl refl ref
 
 pub same_eight : (f g : ℕ → ℕ) → ((k : ℕ) → k < 8 → f k ≡ g k) → eight f ≡ eight g
 same_eight f g h =
-    let a = h 0 (omega arith) in
-    let b = h 1 (omega arith) in
-    let c = h 2 (omega arith) in
-    let d = h 3 (omega arith) in
-    let e = h 4 (omega arith) in
-    let u = h 5 (omega arith) in
-    let v = h 6 (omega arith) in
-    let w = h 7 (omega arith) in
-    λ i. a i ∷ b i ∷ c i ∷ d i ∷ e i ∷ u i ∷ v i ∷ w i ∷ []
+    λ i. h 0 (omega arith) i ∷ h 1 (omega arith) i ∷ h 2 (omega arith) i ∷ h 3 (omega arith) i ∷ h 4 (omega arith) i ∷ h 5 (omega arith) i ∷ h 6 (omega arith) i ∷ h 7 (omega arith) i ∷ []
 
 small_eight : (f : ℕ → ℕ) → ((k : ℕ) → f k < 256) → (k : ℕ) → get_or (eight f) k 0 < 256
-small_eight f h zero = h 0
-small_eight f h (suc zero) = h 1
-small_eight f h (suc (suc zero)) = h 2
-small_eight f h (suc (suc (suc zero))) = h 3
-small_eight f h (suc (suc (suc (suc zero)))) = h 4
-small_eight f h (suc (suc (suc (suc (suc zero))))) = h 5
-small_eight f h (suc (suc (suc (suc (suc (suc zero)))))) = h 6
-small_eight f h (suc (suc (suc (suc (suc (suc (suc zero))))))) = h 7
-small_eight f h (suc (suc (suc (suc (suc (suc (suc (suc k)))))))) = omega arith
+small_eight f h k =
+    elim (cases_lt k 8) [
+      | inl below ↦ each_of_eight (λ n. get_or (eight f) n 0 < 256) (h 0) (h 1) (h 2) (h 3) (h 4) (h 5) (h 6) (h 7) k below
+      | inr past ↦ omega (arith, get_or_past (eight f) k 0 past)
+    ]
 
 pub bytes_of_eight : (f : ℕ → ℕ) → ((k : ℕ) → f k < 256) → to_le_bytes w64 (from_le_bytes w64 (eight f)) ≡ eight f
 bytes_of_eight f h = le_bytes_8 (eight f) (from_le_bytes w64 (eight f)) refl (small_eight f h) refl
 
 -- lists with the same first eight bytes make the same number
 same_number : (xs ys : List ℕ) → ((k : ℕ) → k < 8 → get_or xs k 0 ≡ get_or ys k 0) → from_le_bytes w64 xs ≡ from_le_bytes w64 ys
-same_number xs ys h =
-    let a = h 0 (omega arith) in
-    let b = h 1 (omega arith) in
-    let c = h 2 (omega arith) in
-    let d = h 3 (omega arith) in
-    let e = h 4 (omega arith) in
-    let u = h 5 (omega arith) in
-    let v = h 6 (omega arith) in
-    let w = h 7 (omega arith) in
-    λ i. byte_worth 0 (a i) + byte_worth 1 (b i) + byte_worth 2 (c i) + byte_worth 3 (d i) + byte_worth 4 (e i) + byte_worth 5 (u i) + byte_worth 6 (v i) + byte_worth 7 (w i)
+same_number xs ys h = ap (from_le_bytes w64) (same_eight (λ k. get_or xs k 0) (λ k. get_or ys k 0) h)
 
 -- a byte within the place, and one behind its end
 pub place_byte_is : (m : Image) (base : ℕ) (at : Loc) (k : ℕ) → k < place_size at → place_byte m base at k ≡ byte_at m base at k
@@ -122,38 +101,14 @@ boxed_whole a b e ones = omega (arith, e, ones)
 
 -- what is wanted of a word fills it as the standard says
 pub fills : (e : Ext) (t : Tree) (v : ValueTree) (word low : ℕ) → word ≡ extended e t v low → FillsAs e word t v
-fills Free t v word low is = tt
 fills Boxed t v word low is = (boxed_half word low is).0
-fills Widen void v word low is = tt
-fills Widen (scalar s) void_value word low is = tt
 fills Widen (scalar s) (leaf_value bytes) word low is = is
-fills Widen (scalar s) (struct_value vs) word low is = tt
-fills Widen (left_out k) v word low is = tt
-fills Widen (structure ts) v word low is = tt
-fills Widen (array ts n) v word low is = tt
-fills Riscv void v word low is = tt
-fills Riscv (scalar s) void_value word low is = tt
 fills Riscv (scalar s) (leaf_value bytes) word low is = is
-fills Riscv (scalar s) (struct_value vs) word low is = tt
-fills Riscv (left_out k) v word low is = tt
-fills Riscv (structure ts) v word low is = tt
-fills Riscv (array ts n) v word low is = tt
+fills _ _ _ word low is = tt
 
 -- and the other way round, where the bytes are as they are wanted
 pub extends : (e : Ext) (t : Tree) (v : ValueTree) (word low : ℕ) → word ≡ low → FillsAs e word t v → word ≡ extended e t v low
-extends Free t v word low is f = is
 extends Boxed t v word low is f = boxed_whole word low is f
-extends Widen void v word low is f = is
-extends Widen (scalar s) void_value word low is f = is
 extends Widen (scalar s) (leaf_value bytes) word low is f = f
-extends Widen (scalar s) (struct_value vs) word low is f = is
-extends Widen (left_out k) v word low is f = is
-extends Widen (structure ts) v word low is f = is
-extends Widen (array ts n) v word low is f = is
-extends Riscv void v word low is f = is
-extends Riscv (scalar s) void_value word low is f = is
 extends Riscv (scalar s) (leaf_value bytes) word low is f = f
-extends Riscv (scalar s) (struct_value vs) word low is f = is
-extends Riscv (left_out k) v word low is f = is
-extends Riscv (structure ts) v word low is f = is
-extends Riscv (array ts n) v word low is f = is
+extends _ _ _ word low is f = is

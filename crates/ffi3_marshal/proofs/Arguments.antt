@@ -26,36 +26,31 @@ place_read xs i x is = drop_read xs i x (slice_get_within xs i x is) (sym (get_o
 module _ (f : ℕ) (target : Target) (room : ℕ) where
   pub ready_length_in : (ts : List Tree) (ps : List Place) → AreReadyIn f target room ts ps → length ps ≡ length ts
   ready_length_in [] [] h = refl
-  ready_length_in [] (p ∷ ps) h = absurd h
-  ready_length_in (t ∷ ts) [] h = absurd h
   ready_length_in (t ∷ ts) (p ∷ ps) h = ap suc (ready_length_in ts ps h.1)
+  ready_length_in _ _ h = absurd h
 
   ready_drop : (j : ℕ) (ts : List Tree) (ps : List Place) → AreReadyIn f target room ts ps → AreReadyIn f target room (drop j ts) (drop j ps)
   ready_drop zero ts ps h = h
   ready_drop (suc j) [] [] h = tt
-  ready_drop (suc j) [] (p ∷ ps) h = absurd h
-  ready_drop (suc j) (t ∷ ts) [] h = absurd h
   ready_drop (suc j) (t ∷ ts) (p ∷ ps) h = ready_drop j ts ps h.1
+  ready_drop (suc j) _ _ h = absurd h
 
   uses_drop : (j : ℕ) (ts : List Tree) (ps : List Place) → AreReadyIn f target room ts ps → AreApart (all_uses ts ps) → AreApart (all_uses (drop j ts) (drop j ps))
   uses_drop zero ts ps ready h = h
   uses_drop (suc j) [] [] ready h = h
-  uses_drop (suc j) [] (p ∷ ps) ready h = absurd ready
-  uses_drop (suc j) (t ∷ ts) [] ready h = absurd ready
   uses_drop (suc j) (t ∷ ts) (p ∷ ps) ready h = uses_drop j ts ps ready.1 (apart_rest (place_uses t p) (all_uses ts ps) h)
+  uses_drop (suc j) _ _ ready h = absurd ready
 
 pub ready_length : (target : Target) (room : ℕ) (ts : List Tree) (ps : List Place) → AreReady target room ts ps → length ps ≡ length ts
 ready_length = ready_length_in 32
 
 -- what their places keep they keep
 pub places_keep : (base : ℕ) (ls : List Loc) (o a b : Image) (ts : List Tree) (ps : List Place) → AllByRecursion (IsNoneOf ls) (all_uses ts ps) → Stays base ls a b → PlacesKeep base o a ts ps → PlacesKeep base o b ts ps
-places_keep base ls o a b [] [] none s keep = tt
-places_keep base ls o a b [] (p ∷ ps) none s keep = tt
-places_keep base ls o a b (t ∷ ts) [] none s keep = tt
 places_keep base ls o a b (t ∷ ts) (p ∷ ps) none s keep = (
   place_keeps base t p ls o a b (each_first (IsNoneOf ls) (place_uses t p) (all_uses ts ps) none) s keep.0,
   places_keep base ls o a b ts ps (each_rest (IsNoneOf ls) (place_uses t p) (all_uses ts ps) none) s keep.1,
 )
+places_keep base ls o a b _ _ none s keep = tt
 
 module _ (f : ℕ) (target : Target) (room : ℕ) (ts : List Tree) (ps : List Place) where
   -- what is known of the argument at j
@@ -78,14 +73,12 @@ AtArgument = AtArgumentIn 32
 module _ (f : ℕ) where
   all_more : (n m : ℕ) → n ≤ m → (ls : List Loc) → AllByRecursion (IsPlaceIn f n) ls → AllByRecursion (IsPlaceIn f m) ls
   all_more n m h [] all = tt
-  all_more n m h (G r ∷ ls) all = (all.0, all_more n m h ls all.1)
-  all_more n m h (F r ∷ ls) all = (all.0, all_more n m h ls all.1)
   all_more n m h (S k w ∷ ls) all = ((omega (arith, h, all.0.0), all.0.1, all.0.2), all_more n m h ls all.1)
+  all_more n m h (_ ∷ ls) all = (all.0, all_more n m h ls all.1)
 
   one_more : (n m : ℕ) → n ≤ m → (l : Loc) → IsPlaceIn f n l → IsPlaceIn f m l
-  one_more n m h (G r) lies = lies
-  one_more n m h (F r) lies = lies
   one_more n m h (S k w) lies = (omega (arith, h, lies.0), lies.1, lies.2)
+  one_more n m h _ lies = lies
 
   pub lies_more_in : (n m : ℕ) (t : Tree) (p : Place) → n ≤ m → PlaceLiesIn f n t p → PlaceLiesIn f m t p
   lies_more_in n m t (Direct pieces) h lies = all_more n m h (piece_locs pieces) lies

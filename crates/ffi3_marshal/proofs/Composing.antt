@@ -12,12 +12,7 @@ pub apart_sym : (a b : Loc) → Apart a b → Apart b a
 apart_sym (G a) (G b) h = λ e. h (sym e)
 apart_sym (F a) (F b) h = λ e. h (sym e)
 apart_sym (S a v) (S b w) h = ⊎_elim (λ x. inr x) (λ x. inl x) h
-apart_sym (G a) (F b) h = tt
-apart_sym (G a) (S b w) h = tt
-apart_sym (F a) (G b) h = tt
-apart_sym (F a) (S b w) h = tt
-apart_sym (S a w) (G b) h = tt
-apart_sym (S a w) (F b) h = tt
+apart_sym _ _ h = tt
 
 pub none_append : (ls ks : List Loc) (l : Loc) → IsNoneOf (ls ++ ks) l → IsNoneOf ls l × IsNoneOf ks l
 none_append [] ks l h = (tt, h)
@@ -25,32 +20,27 @@ none_append (x ∷ ls) ks l h = let rest = none_append ls ks l h.1 in ((h.0, res
 
 -- a register has eight bytes
 pub register_is_whole : (l : Loc) → IsPlace 0 l → IsWhole l
-register_is_whole (G r) lies = refl
-register_is_whole (F r) lies = refl
 register_is_whole (S n w) lies = absurd (omega (arith, lies.0, lies.1))
+register_is_whole _ lies = refl
 
 -- ---- the same at a place
 
 pub same_itself : (base : ℕ) (l : Loc) (m : Image) → SameAt base l m m
-same_itself base (G r) m = refl
-same_itself base (F r) m = refl
 same_itself base (S n w) m = λ k h. refl
+same_itself base _ m = refl
 
 pub same_then : (base : ℕ) (l : Loc) (a b c : Image) → SameAt base l a b → SameAt base l b c → SameAt base l a c
-same_then base (G r) a b c s t = t ∙ s
-same_then base (F r) a b c s t = t ∙ s
 same_then base (S n w) a b c s t = λ k h. t k h ∙ s k h
+same_then base _ a b c s t = t ∙ s
 
 pub same_byte : (base : ℕ) (l : Loc) (a b : Image) → SameAt base l a b → (k : ℕ) → k < place_size l → byte_at b base l k ≡ byte_at a base l k
-same_byte base (G r) a b s k h = ap (λ n. get_or (to_le_bytes w64 n) k 0) s
-same_byte base (F r) a b s k h = ap (λ n. get_or (to_le_bytes w64 n) k 0) s
 same_byte base (S n w) a b s k h = s k h
+same_byte base _ a b s k h = ap (λ n. get_or (to_le_bytes w64 n) k 0) s
 
 pub same_word_at : (base : ℕ) (l : Loc) (a b : Image) → SameAt base l a b → word_at b base l ≡ word_at a base l
-same_word_at base (G r) a b s = s
-same_word_at base (F r) a b s = s
 same_word_at base (S n w) a b s =
     ap (from_le_bytes w64) (same_bytes (byte_at b base (S n w)) (byte_at a base (S n w)) w s)
+same_word_at base _ a b s = s
 
 pub stays_none : (base : ℕ) (m : Image) → Stays base [] m m
 stays_none base m = record { sp = refl; size = refl; below = λ i h. refl; others = λ l none. same_itself base l m }

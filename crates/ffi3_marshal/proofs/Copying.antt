@@ -104,9 +104,8 @@ module _ (base copy n : ℕ) (bytes : List ℕ) (old : Image) (few : length byte
       clear_byte q w k h (inr (inr above)) = outside (base + q + k) (inr (omega (arith, above, few)))
 
       others : (l : Loc) → IsNoneOf (stack_words copy n) l → SameAt base l old (stored (base + copy) bytes old)
-      others (G q) none = refl
-      others (F q) none = refl
       others (S q w) none = λ k h. clear_byte q w k h (clear_of_words copy n q w (omega (arith, h)) none)
+      others _ none = refl
 
   copy_has : part after.stack (base + copy) (length bytes) ≡ bytes
   copy_has =

@@ -15,82 +15,25 @@ use Rattle.ffi3_place_spec.specs.Holds.{FillsAs}
 use Rattle.ffi3_place_spec.specs.Sound.{is_narrow_integer, IsExtended}
 use Rattle.ffi3_marshal.specs.Stored.{IsSet, IsStored, IsWordPut, HasPiece}
 
-narrow_scalar : (s : Scalar) → is_narrow_integer (scalar s) ≡ true → (is_number_type (scalar s) ≡ true) × (scalar_size s ≤ 4)
-narrow_scalar u8 h = (refl, omega arith)
-narrow_scalar s8 h = (refl, omega arith)
-narrow_scalar u16 h = (refl, omega arith)
-narrow_scalar s16 h = (refl, omega arith)
-narrow_scalar u32 h = (refl, omega arith)
-narrow_scalar s32 h = (refl, omega arith)
-narrow_scalar u64 h = cc
-narrow_scalar s64 h = cc
-narrow_scalar u128 h = cc
-narrow_scalar s128 h = cc
-narrow_scalar float h = cc
-narrow_scalar double h = cc
-narrow_scalar pointer h = cc
-narrow_scalar x87 h = cc
-narrow_scalar binary128 h = cc
-
--- a narrow integer takes the bytes of its value and no more, and all of them are its value
-narrow_same : (s : Scalar) → is_narrow_integer (scalar s) ≡ true → scalar_room s ≡ scalar_size s
-narrow_same u8 h = refl
-narrow_same s8 h = refl
-narrow_same u16 h = refl
-narrow_same s16 h = refl
-narrow_same u32 h = refl
-narrow_same s32 h = refl
-narrow_same u64 h = cc
-narrow_same s64 h = cc
-narrow_same u128 h = cc
-narrow_same s128 h = cc
-narrow_same float h = cc
-narrow_same double h = cc
-narrow_same pointer h = cc
-narrow_same x87 h = cc
-narrow_same binary128 h = cc
-
-narrow_kept : (s : Scalar) (bytes : List ℕ) → is_narrow_integer (scalar s) ≡ true → bytes ≡ significant s bytes
-narrow_kept u8 bytes h = refl
-narrow_kept s8 bytes h = refl
-narrow_kept u16 bytes h = refl
-narrow_kept s16 bytes h = refl
-narrow_kept u32 bytes h = refl
-narrow_kept s32 bytes h = refl
-narrow_kept u64 bytes h = cc
-narrow_kept s64 bytes h = cc
-narrow_kept u128 bytes h = cc
-narrow_kept s128 bytes h = cc
-narrow_kept float bytes h = cc
-narrow_kept double bytes h = cc
-narrow_kept pointer bytes h = cc
-narrow_kept x87 bytes h = cc
-narrow_kept binary128 bytes h = cc
+-- a narrow integer is a number of four bytes at most; it takes the bytes of its value and no more, and all of them are its value
+narrow : (s : Scalar) → is_narrow_integer (scalar s) ≡ true → (is_number_type (scalar s) ≡ true) × (scalar_size s ≤ 4) × (scalar_room s ≡ scalar_size s) × ((bytes : List ℕ) → bytes ≡ significant s bytes)
+narrow u8 h = (refl, omega arith, refl, λ bytes. refl)
+narrow s8 h = (refl, omega arith, refl, λ bytes. refl)
+narrow u16 h = (refl, omega arith, refl, λ bytes. refl)
+narrow s16 h = (refl, omega arith, refl, λ bytes. refl)
+narrow u32 h = (refl, omega arith, refl, λ bytes. refl)
+narrow s32 h = (refl, omega arith, refl, λ bytes. refl)
+narrow _ h = cc
 
 pub narrow_number : (t : Tree) → is_narrow_integer t ≡ true → is_number_type t ≡ true
-narrow_number void h = cc
-narrow_number (scalar s) h = (narrow_scalar s h).0
-narrow_number (left_out k) h = cc
-narrow_number (structure ts) h = cc
-narrow_number (array ts times) h = cc
+narrow_number (scalar s) h = (narrow s h).0
+narrow_number _ h = cc
 
 pub narrow_small : (t : Tree) → is_narrow_integer t ≡ true → size_of t ≤ 8
-narrow_small void h = cc
-narrow_small (scalar s) h = omega (arith, (narrow_scalar s h).1, narrow_same s h)
-narrow_small (left_out k) h = cc
-narrow_small (structure ts) h = cc
-narrow_small (array ts times) h = cc
+narrow_small (scalar s) h = omega (arith, (narrow s h).1, (narrow s h).2)
+narrow_small _ h = cc
 
 -- ---- a place whose rest is filled is not left free
-
-boxed_fills : (e : Ext) → e ≡ Boxed → e ≡ Free → ⊥
-boxed_fills e is free = cc
-
-widen_fills : (e : Ext) → e ≡ Widen → e ≡ Free → ⊥
-widen_fills e is free = cc
-
-riscv_fills : (e : Ext) → e ≡ Riscv → e ≡ Free → ⊥
-riscv_fills e is free = cc
 
 module _ (base : ℕ) (bytes : List ℕ) (p : Piece) (old new : Image) where
   pub free_stored : (t : Tree) → p.ext ≡ Free → IsSet base p bytes old new → IsStored base t bytes p old new
@@ -109,41 +52,33 @@ module _ (base : ℕ) (bytes : List ℕ) (p : Piece) (old new : Image) where
       held = λ k h. is.here k (omega (arith, h, four)) ∙ low k (omega (arith, h, four));
       filled = subst (λ e. FillsAs e (word_at new base p.loc) t (value_in t bytes)) (sym ext) (ap (λ n. n / 2 ^ 32) is.word ∙ ones);
     };
-    kept = λ free. absurd (boxed_fills p.ext ext free);
+    kept = λ free. cc;
     stays = is.stays;
   }
 
   module _ (small : (k : ℕ) → get_or bytes k 0 < 256) where
-    held_whole : (s : Scalar) (w : ℕ) → scalar_size s ≤ 4 → p.off ≡ 0 → p.len ≡ scalar_size s → ((k : ℕ) → k < scalar_size s → get_or (to_le_bytes w64 w) k 0 ≡ get_or bytes k 0) → IsWordPut base p.loc w old new → HasPiece base new bytes p
-    held_whole s w few start all low is k h =
-        let at : k ≡ p.off + k = omega (arith, start) in
-        is.here k (omega (arith, h, all, few)) ∙ low k (omega (arith, h, all)) ∙ ap (λ n. get_or bytes n 0) at
-
-    pub widened_stored : (t : Tree) (w : ℕ) → p.ext ≡ Widen → IsExtended t p Widen → length bytes ≡ size_of t → w ≡ widened (scalar_of t) bytes → IsWordPut base p.loc w old new → IsStored base t bytes p old new
-    widened_stored void w ext e sized word is = cc (e.0)
-    widened_stored (left_out k) w ext e sized word is = cc (e.0)
-    widened_stored (structure ts) w ext e sized word is = cc (e.0)
-    widened_stored (array ts times) w ext e sized word is = cc (e.0)
-    widened_stored (scalar s) w ext e sized word is = record {
-      stands = record {
-        held = held_whole s w ((narrow_scalar s e.0).1) e.1 (e.2 ∙ narrow_same s e.0) (λ k h. ap (λ n. get_or (to_le_bytes w64 n) k 0) word ∙ byte-widened bytes small s k (omega (arith, (narrow_scalar s e.0).1)) (sized ∙ narrow_same s e.0) h) is;
-        filled = subst (λ x. FillsAs x (word_at new base p.loc) (scalar s) (value_in (scalar s) bytes)) (sym ext) (subst (λ b. FillsAs Widen (word_at new base p.loc) (scalar s) (leaf_value b)) (narrow_kept s bytes e.0) (is.word ∙ word));
-      };
-      kept = λ free. absurd (widen_fills p.ext ext free);
-      stays = is.stays;
-    }
-
-    pub from_32_stored : (t : Tree) (w : ℕ) → p.ext ≡ Riscv → IsExtended t p Riscv → length bytes ≡ size_of t → w ≡ widened_from_32 (scalar_of t) bytes → IsWordPut base p.loc w old new → IsStored base t bytes p old new
-    from_32_stored void w ext e sized word is = cc (e.0)
-    from_32_stored (left_out k) w ext e sized word is = cc (e.0)
-    from_32_stored (structure ts) w ext e sized word is = cc (e.0)
-    from_32_stored (array ts times) w ext e sized word is = cc (e.0)
-    from_32_stored (scalar s) w ext e sized word is =
-        let few = (narrow_scalar s e.0).1 in record {
+    -- a number that fills the place of a whole narrow integer
+    number_stored : (s : Scalar) (w : ℕ) → is_narrow_integer (scalar s) ≡ true → p.off ≡ 0 → p.len ≡ scalar_room s → (p.ext ≡ Free → ⊥) → ((k : ℕ) → k < scalar_size s → get_or (to_le_bytes w64 w) k 0 ≡ get_or bytes k 0) → FillsAs p.ext (word_at new base p.loc) (scalar s) (value_in (scalar s) bytes) → IsWordPut base p.loc w old new → IsStored base (scalar s) bytes p old new
+    number_stored s w h start all filled low fills is =
+        let few = narrow s h in record {
           stands = record {
-            held = held_whole s w few e.1 (e.2 ∙ narrow_same s e.0) (λ k h. ap (λ n. get_or (to_le_bytes w64 n) k 0) word ∙ byte-widened_from_32 bytes small s k few (sized ∙ narrow_same s e.0) h) is;
-            filled = subst (λ x. FillsAs x (word_at new base p.loc) (scalar s) (value_in (scalar s) bytes)) (sym ext) (subst (λ b. FillsAs Riscv (word_at new base p.loc) (scalar s) (leaf_value b)) (narrow_kept s bytes e.0) (is.word ∙ word));
+            held = λ k below.
+                let at : k ≡ p.off + k = omega (arith, start) in
+                is.here k (omega (arith, below, all, few.1, few.2)) ∙ low k (omega (arith, below, all, few.2)) ∙ ap (λ n. get_or bytes n 0) at;
+            filled = fills;
           };
-          kept = λ free. absurd (riscv_fills p.ext ext free);
+          kept = λ free. absurd (filled free);
           stays = is.stays;
         }
+
+    pub widened_stored : (t : Tree) (w : ℕ) → p.ext ≡ Widen → IsExtended t p Widen → length bytes ≡ size_of t → w ≡ widened (scalar_of t) bytes → IsWordPut base p.loc w old new → IsStored base t bytes p old new
+    widened_stored (scalar s) w ext e sized word is =
+        let few = narrow s e.0 in
+        number_stored s w e.0 e.1 e.2 (λ free. cc) (λ k h. ap (λ n. get_or (to_le_bytes w64 n) k 0) word ∙ byte-widened bytes small s k (omega (arith, few.1)) (sized ∙ few.2) h) (subst (λ x. FillsAs x (word_at new base p.loc) (scalar s) (value_in (scalar s) bytes)) (sym ext) (is.word ∙ word ∙ ap (widened s) (few.3 bytes))) is
+    widened_stored _ w ext e sized word is = cc (e.0)
+
+    pub from_32_stored : (t : Tree) (w : ℕ) → p.ext ≡ Riscv → IsExtended t p Riscv → length bytes ≡ size_of t → w ≡ widened_from_32 (scalar_of t) bytes → IsWordPut base p.loc w old new → IsStored base t bytes p old new
+    from_32_stored (scalar s) w ext e sized word is =
+        let few = narrow s e.0 in
+        number_stored s w e.0 e.1 e.2 (λ free. cc) (λ k h. ap (λ n. get_or (to_le_bytes w64 n) k 0) word ∙ byte-widened_from_32 bytes small s k few.1 (sized ∙ few.2) h) (subst (λ x. FillsAs x (word_at new base p.loc) (scalar s) (value_in (scalar s) bytes)) (sym ext) (is.word ∙ word ∙ ap (widened_from_32 s) (few.3 bytes))) is
+    from_32_stored _ w ext e sized word is = cc (e.0)

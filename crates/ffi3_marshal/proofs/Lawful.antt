@@ -26,31 +26,12 @@ use Rattle.ffi3_place_spec.specs.Standard.{Standard, plan_of, frame_of}
 use Rattle.ffi3_place_spec.specs.Agrees.{AgreesWithMachine}
 use Rattle.ffi3_place_spec.specs.Sound.{Apart, AreApart, IsNoneOf, IsFurther, IsSound, LiesIn, StandsIn, PlacesHaveAll, place_locs, piece_locs, copy_locs, stack_words, stack_words_for, argument_locs, hidden_locs, buffer_locs, call_locs, closed_to_results, closed_to_arguments}
 use Rattle.ffi3_place_spec.specs.MachineRegisters.{to_list}
+pub use Rattle.ffi3_place_spec.proofs.Tests.{each_weaker as each_map}
+pub use Rattle.ffi3_place_spec.proofs.Further.{each_in_front as each_first, each_behind as each_rest, each_of_all as each_join}
+use Rattle.ffi3_place_spec.proofs.Further.{each_both}
 use Rattle.ffi3_marshal.specs.Stored.{IsPlace, IsPlaceIn, IsWritable}
 use Rattle.ffi3_marshal.specs.Standing.{all_uses, AreReady, AreReadyIn}
 use Rattle.ffi3_marshal.proofs.Composing.{apart_sym}
-
--- ---- lists
-
-pub each_first : {X : Type 0} (P : X → Type 0) (xs ys : List X) → AllByRecursion P (xs ++ ys) → AllByRecursion P xs
-each_first P [] ys h = tt
-each_first P (x ∷ xs) ys h = (h.0, each_first P xs ys h.1)
-
-pub each_rest : {X : Type 0} (P : X → Type 0) (xs ys : List X) → AllByRecursion P (xs ++ ys) → AllByRecursion P ys
-each_rest P [] ys h = h
-each_rest P (x ∷ xs) ys h = each_rest P xs ys h.1
-
-pub each_join : {X : Type 0} (P : X → Type 0) (xs ys : List X) → AllByRecursion P xs → AllByRecursion P ys → AllByRecursion P (xs ++ ys)
-each_join P [] ys h k = k
-each_join P (x ∷ xs) ys h k = (h.0, each_join P xs ys h.1 k)
-
-each_both : {X : Type 0} (P Q R : X → Type 0) → ((x : X) → P x → Q x → R x) → (xs : List X) → AllByRecursion P xs → AllByRecursion Q xs → AllByRecursion R xs
-each_both P Q R f [] h k = tt
-each_both P Q R f (x ∷ xs) h k = (f x h.0 k.0, each_both P Q R f xs h.1 k.1)
-
-pub each_map : {X : Type 0} (P Q : X → Type 0) → ((x : X) → P x → Q x) → (xs : List X) → AllByRecursion P xs → AllByRecursion Q xs
-each_map P Q f [] h = tt
-each_map P Q f (x ∷ xs) h = (f x h.0, each_map P Q f xs h.1)
 
 -- ---- places that are apart
 
@@ -88,18 +69,15 @@ across_rest xs ys zs c = each_map (λ x. AllByRecursion (Apart x) (ys ++ zs)) (�
 
 pub uses_each : (P : Loc → Type 0) (ts : List Tree) (ps : List Place) → PlacesHaveAll ts ps → AllByRecursion P (flat_map place_locs ps) → AllByRecursion P (copy_locs ts ps) → AllByRecursion P (all_uses ts ps)
 uses_each P [] [] all h k = tt
-uses_each P [] (p ∷ ps) all h k = absurd all
-uses_each P (t ∷ ts) [] all h k = absurd all
 uses_each P (t ∷ ts) (Direct pieces ∷ ps) all h k =
     each_join P (piece_locs pieces) (all_uses ts ps) (each_first P (piece_locs pieces) (flat_map place_locs ps) h) (uses_each P ts ps all.1 (each_rest P (piece_locs pieces) (flat_map place_locs ps) h) k)
 uses_each P (t ∷ ts) (ByRef at copy ∷ ps) all h k =
     (h.0, each_join P (stack_words_for copy t) (all_uses ts ps) (each_first P (stack_words_for copy t) (copy_locs ts ps) k) (uses_each P ts ps all.1 h.1 (each_rest P (stack_words_for copy t) (copy_locs ts ps) k)))
+uses_each P _ _ all h k = absurd all
 
 -- places and copies, argument by argument
 pub uses_apart : (ts : List Tree) (ps : List Place) → PlacesHaveAll ts ps → AreApart (flat_map place_locs ps) → AreApart (copy_locs ts ps) → Across (flat_map place_locs ps) (copy_locs ts ps) → AreApart (all_uses ts ps)
 uses_apart [] [] all h k c = tt
-uses_apart [] (p ∷ ps) all h k c = absurd all
-uses_apart (t ∷ ts) [] all h k c = absurd all
 uses_apart (t ∷ ts) (Direct pieces ∷ ps) all h k c =
     let flat = flat_map place_locs ps in
     let first = each_first (λ x. AllByRecursion (Apart x) (copy_locs ts ps)) (piece_locs pieces) (flat_map place_locs ps) c in
@@ -114,6 +92,7 @@ uses_apart (t ∷ ts) (ByRef at copy ∷ ps) all h k c =
       apart_join (stack_words_for copy t) (all_uses ts ps) (apart_first (stack_words_for copy t) (copy_locs ts ps) k) rest
           (each_both (λ x. AllByRecursion (Apart x) (flat_map place_locs ps)) (λ x. AllByRecursion (Apart x) (copy_locs ts ps)) (λ x. AllByRecursion (Apart x) (all_uses ts ps)) (λ x a b. uses_each (Apart x) ts ps all.1 a b) (stack_words_for copy t) words_clear (apart_across (stack_words_for copy t) (copy_locs ts ps) k)),
     )
+uses_apart _ _ all h k c = absurd all
 
 -- ---- copies lie in the frame
 
@@ -137,14 +116,12 @@ copy_fits f n copy zero size some is h = absurd (omega (arith, some, is))
 copy_fits f n copy (suc count) size some is h = omega (arith, words_fit f n copy count h, is)
 
 copies_fit : (f n : ℕ) (ts : List Tree) (ps : List Place) → AllByRecursion HasSomeBytes ts → AllByRecursion (IsPlaceIn f n) (copy_locs ts ps) → CopiesFit n ts ps
-copies_fit f n [] [] some h = tt
-copies_fit f n [] (p ∷ ps) some h = tt
-copies_fit f n (t ∷ ts) [] some h = tt
 copies_fit f n (t ∷ ts) (Direct pieces ∷ ps) some h = (tt, copies_fit f n ts ps some.1 h)
 copies_fit f n (t ∷ ts) (ByRef at copy ∷ ps) some h = (
   copy_fits f n copy ((size_of t + 7) / 8) (size_of t) some.0 refl (each_first (IsPlaceIn f n) (stack_words_for copy t) (copy_locs ts ps) h),
   copies_fit f n ts ps some.1 (each_rest (IsPlaceIn f n) (stack_words_for copy t) (copy_locs ts ps) h),
 )
+copies_fit f n _ _ some h = tt
 
 -- ---- an argument without fault has bytes
 
@@ -152,21 +129,18 @@ bytes_of_right : (outer : ℕ) (role : Role) (t : Tree) → takes_void role ≡ 
 bytes_of_right outer role void none right = absurd (right [] bad_typedef (out_of_place refl none))
 bytes_of_right outer role (scalar s) none right = (scalar_room-bounds s).0
 bytes_of_right outer role (left_out k) none right = absurd (right [] (left_out_type (left_out k)) (left_out_kind refl))
-bytes_of_right outer role (array no_trees n) none right = absurd (right [] bad_typedef (misshapen refl refl))
-bytes_of_right outer role (array (tree t no_trees) zero) none right = absurd (right [] bad_typedef (misshapen refl refl))
 bytes_of_right outer role (array (tree t no_trees) (suc n)) none right =
     let inside : HasNoFault (outer + 1) AsElement t = λ path fault is. right (0 ∷ path) fault (fault_outside (array (tree t no_trees) (suc n)) 0 path fault (omega arith) is) in
     let first = bytes_of_right (outer + 1) AsElement t refl inside in
     let more : suc n * size_of t ≡ n * size_of t + size_of t = omega arith in
     omega (arith, first, more)
-bytes_of_right outer role (array (tree t (tree u us)) n) none right = absurd (right [] bad_typedef (misshapen refl refl))
-bytes_of_right outer role (structure no_trees) none right = absurd (right [] bad_typedef (misshapen refl refl))
 bytes_of_right outer role (structure (tree t ts)) none right =
     let inside : HasNoFault (outer + 1) AsElement t = λ path fault is. right (0 ∷ path) fault (fault_outside (structure (tree t ts)) 0 path fault (omega arith) is) in
     let first = bytes_of_right (outer + 1) AsElement t refl inside in
     let ends : size_of t ≤ end_before (layouts (tree t ts)) (length (layouts (tree t ts))) = size_le-end (layouts (tree t ts)) 0 (length (layouts (tree t ts))) (omega arith) in
     let rounded : end_before (layouts (tree t ts)) (length (layouts (tree t ts))) ≤ size_of (structure (tree t ts)) = least_multiple-above (align_before (layouts (tree t ts)) (length (layouts (tree t ts)))) (end_before (layouts (tree t ts)) (length (layouts (tree t ts)))) in
     omega (arith, first, ends, rounded)
+bytes_of_right outer role _ none right = absurd (right [] bad_typedef (misshapen refl refl))
 
 each_has_bytes : (role : Role) → takes_void role ≡ false → (ts : List Tree) → ((i : ℕ) → i < length ts → HasNoFault 0 role (tree_at ts i)) → AllByRecursion HasSomeBytes ts
 each_has_bytes role none [] h = tt
@@ -182,12 +156,8 @@ placed_bytes s right =
 
 pub machine_place : (isa : Isa) (n : ℕ) (l : Loc) → LiesIn isa n l → IsPlace n l
 machine_place Amd64 n (G r) h = omega (arith, h)
-machine_place Amd64 n (F r) h = omega (arith, h)
-machine_place Aarch64 n (G r) h = omega (arith, h)
-machine_place Aarch64 n (F r) h = omega (arith, h)
-machine_place Riscv n (G r) h = omega (arith, h)
-machine_place Riscv n (F r) h = omega (arith, h)
 machine_place isa n (S k w) h = h
+machine_place _ n _ h = omega (arith, h)
 
 pub machine_places : (isa : Isa) (n : ℕ) (ls : List Loc) → AllByRecursion (LiesIn isa n) ls → AllByRecursion (IsPlace n) ls
 machine_places isa n ls h =
@@ -196,16 +166,14 @@ machine_places isa n ls h =
 -- ---- and those that may be further words are of a floating file that has these
 
 more_words : (n : ℕ) (l : Loc) → IsPlace n l → IsPlaceIn 40 n l
-more_words n (G r) h = h
 more_words n (F r) h = omega (arith, h)
-more_words n (S k w) h = h
+more_words n _ h = h
 
 further_place : (isa : Isa) (n : ℕ) (l : Loc) → IsFurther isa l → IsPlaceIn 40 n l
-further_place isa n (G r) h = absurd h
 further_place Amd64 n (F r) h = let below : nat_lt r 20 ≡ true = and_right (nat_le 16 r) (nat_lt r 20) h in grind (arith, nat_tests, below)
 further_place Aarch64 n (F r) h = let below : nat_lt r 40 ≡ true = and_right (nat_le 32 r) (nat_lt r 40) h in grind (arith, nat_tests, below)
 further_place Riscv n (F r) h = cc
-further_place isa n (S k w) h = absurd h
+further_place isa n _ h = absurd h
 
 pub any_place : (isa : Isa) (n : ℕ) (l : Loc) → StandsIn isa n l → IsPlaceIn 40 n l
 any_place isa n l (inl lies) = more_words n l (machine_place isa n l lies)
@@ -218,8 +186,6 @@ any_places isa n ls h =
 module _ (f : ℕ) (target : Target) where
   ready_from : (n : ℕ) (ts : List Tree) (ps : List Place) → PlacesHaveAll ts ps → CopiesFit n ts ps → AllByRecursion (IsPlaceIn f n) (flat_map place_locs ps) → AllByRecursion (IsWritable target) (flat_map place_locs ps) → AreReadyIn f target n ts ps
   ready_from n [] [] all fit lie write = tt
-  ready_from n [] (p ∷ ps) all fit lie write = absurd all
-  ready_from n (t ∷ ts) [] all fit lie write = absurd all
   ready_from n (t ∷ ts) (Direct pieces ∷ ps) all fit lie write = (
     record {
       has_all = all.0;
@@ -232,6 +198,7 @@ module _ (f : ℕ) (target : Target) where
     record { has_all = all.0; lies = (lie.0, fit.0); writable = (write.0, tt) },
     ready_from n ts ps all.1 fit.1 lie.1 write.1,
   )
+  ready_from n _ _ all fit lie write = absurd all
 
 -- ---- the laws
 

@@ -26,10 +26,9 @@ module _ (base : ℕ) (m : Image) where
 
   leaves_stand : (t : Tree) (bytes : List ℕ) (pieces : List Piece) (ls : List Leaf) (bs : List (List ℕ)) → LeavesRead bytes ls bs → AllByRecursion (PieceStands base m t bytes) pieces → LeavesStand m base pieces ls bs
   leaves_stand t bytes pieces [] [] reads stand = tt
-  leaves_stand t bytes pieces [] (b ∷ bs) reads stand = absurd reads
-  leaves_stand t bytes pieces (l ∷ ls) [] reads stand = absurd reads
   leaves_stand t bytes pieces (l ∷ ls) (b ∷ bs) reads stand =
       (λ k h. leaf_stands t bytes l b pieces k h reads.0 stand, leaves_stand t bytes pieces ls bs reads.1 stand)
+  leaves_stand t bytes pieces _ _ reads stand = absurd reads
 
   -- the pieces of bytes have the value that these have
   pub pieces_stand : (t : Tree) (bytes : List ℕ) (pieces : List Piece) → AllByRecursion (PieceStands base m t bytes) pieces → LeavesStand m base pieces (leaves_of t) (leaf_bytes (value_in t bytes))

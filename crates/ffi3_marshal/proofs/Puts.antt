@@ -106,9 +106,8 @@ module _ (base n w : ℕ) (bytes : List ℕ) (old : Image) (few : length bytes �
       apart_byte q u k h (inr above) = stored_outside (base + n) bytes old fits (base + q + k) (inr (omega (arith, above, few)))
 
       others : (l : Loc) → IsNoneOf (S n w ∷ []) l → SameAt base l old (stored (base + n) bytes old)
-      others (G q) none = refl
-      others (F q) none = refl
       others (S q u) none = λ k h. apart_byte q u k h none.0
+      others _ none = refl
 
   word_is : (v : ℕ) → v < 2 ^ 64 → bytes ≡ to_le_bytes w64 v → word_at (stored (base + n) bytes old) base (S n 8) ≡ v
   word_is v h e =

@@ -20,18 +20,16 @@ pub each_read : {X : Type 0} (P : X → Type 0) (xs : List X) (i : ℕ) (x : X) 
 each_read P xs i x h e all = each_at P xs i x h (sym e) all
 
 pub each_drop : {X : Type 0} (P : X → Type 0) (j : ℕ) (xs : List X) → AllByRecursion P xs → AllByRecursion P (drop j xs)
-each_drop P zero xs h = h
-each_drop P (suc j) [] h = h
 each_drop P (suc j) (x ∷ xs) h = each_drop P j xs h.1
+each_drop P _ _ h = h
 
 pub each_loc : (P : Loc → Type 0) (ps : List Piece) → AllByRecursion P (piece_locs ps) → AllByRecursion (λ p. P p.loc) ps
 each_loc P [] h = tt
 each_loc P (p ∷ ps) h = (h.0, each_loc P ps h.1)
 
 pub apart_drop : (j : ℕ) (ps : List Piece) → AreApart (piece_locs ps) → AreApart (piece_locs (drop j ps))
-apart_drop zero ps h = h
-apart_drop (suc j) [] h = h
 apart_drop (suc j) (p ∷ ps) h = apart_drop j ps h.1
+apart_drop _ _ h = h
 
 pub none_of_one : (l : Loc) (ls : List Loc) → AllByRecursion (Apart l) ls → AllByRecursion (IsNoneOf (l ∷ [])) ls
 none_of_one l [] h = tt

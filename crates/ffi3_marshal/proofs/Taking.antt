@@ -7,12 +7,10 @@ use Rattle.ffi3_marshal.specs.Stored.{TakesAt}
 
 pub still_takes_at : (P Q : ℕ → Type 0) → ((k : ℕ) → P k → Q k) → (l : Loc) → TakesAt P l → TakesAt Q l
 still_takes_at P Q f (G r) h = f r h
-still_takes_at P Q f (F r) h = tt
-still_takes_at P Q f (S n w) h = tt
+still_takes_at P Q f _ h = tt
 
 -- where no register drops one
 pub all_take : (P : ℕ → Type 0) → ((k : ℕ) → P k) → (ls : List Loc) → AllByRecursion (TakesAt P) ls
 all_take P all [] = tt
 all_take P all (G r ∷ ls) = (all r, all_take P all ls)
-all_take P all (F r ∷ ls) = (tt, all_take P all ls)
-all_take P all (S n w ∷ ls) = (tt, all_take P all ls)
+all_take P all (_ ∷ ls) = (tt, all_take P all ls)
