@@ -1,7 +1,7 @@
 -- The plan of a call is the one that sums and ends give, and no other is.
 use Rattle.std.proofs.Common.{◌≡◌, ℕ, zero, suc, ◌+◌, ◌<◌, ◌≤◌, Bool, true, false, cond, List, [], ◌∷◌, take, length, ap, subst, sym, ◌∙◌, refl, arith}
 use Rattle.std.specs.Prelude.{Some, slice_get}
-use Rattle.ffi3_type_spec.specs.Tree.{Tree, void, scalar, left_out, structure, array, tree_at}
+use Rattle.ffi3_type_spec.specs.Tree.{Tree, tree_at}
 use Rattle.ffi3_type_spec.specs.Layout.{size_of}
 use Rattle.ffi3_type_spec.specs.Signature.{Signature}
 use Rattle.ffi3_place_spec.specs.declared.Taken.{Taken}
@@ -10,11 +10,12 @@ use Rattle.ffi3_place_spec.specs.declared.Place.{Place}
 use Rattle.ffi3_place_spec.specs.declared.Place.TheVariants.{Direct}
 use Rattle.ffi3_place_spec.specs.declared.Res.TheVariants.{Hidden}
 use Rattle.ffi3_place_spec.specs.declared.Plan.{Plan}
-use Rattle.ffi3_place_spec.specs.Standard.{Spot, in_pieces, ResultSpot, no_result, in_result_pieces, in_buffer, result_at, buffer_end, plan_of, round8, round16, start}
+use Rattle.ffi3_place_spec.specs.Standard.{Spot, in_pieces, no_result, result_at, buffer_end, plan_of, round8, round16, start}
 use Rattle.ffi3_place_spec.specs.Doublewords.{stack_pieces}
 use Rattle.ffi3_place_spec.specs.Framed.{copied_before, copied_end, IsFramedByEnds}
 use Rattle.ffi3_place_spec.proofs.Framed.{framed_by_ends, framed_once}
-use Rattle.ffi3_amd64_spec.specs.Amd64.{amd64, integers, sses, classes, is_class_memory, in_registers, register_pieces, result_pieces, general_argument, stack_start, stack_end, taken_with, taken_after, taken_at_first, argument_pieces, spot_after, spots_after, result_spot_of}
+use Rattle.ffi3_amd64_spec.specs.Amd64.{amd64, integers, sses, classes, is_class_memory, in_registers, register_pieces, general_argument, stack_start, stack_end, taken_with, taken_after, taken_at_first, argument_pieces, spot_after, spots_after, result_spot_of}
+use Rattle.ffi3_amd64_spec.proofs.Steps.{result_when, spot_of_memory, spot_of_registers}
 use Rattle.ffi3_amd64_spec.specs.Ends.{general_before, vector_before, stack_before, taken_before, AreChosenBySums, arguments_end, IsByEnds, IsPlacedByEnds}
 
 -- what the arguments before number i take
@@ -57,8 +58,7 @@ general_more : (c g n : ℕ) (t : Taken) → t.general ≡ c + g → t.general +
 general_more c g n t e = omega arith
 
 same_taken : (a b : Taken) → a.general ≡ b.general → a.vector ≡ b.vector → a.stack ≡ b.stack → a ≡ b
-same_taken a b g f s =
-    ap (λ n. record { general = n; vector = a.vector; stack = a.stack }) g ∙ ap (λ n. record { general = b.general; vector = n; stack = a.stack }) f ∙ ap (λ n. record { general = b.general; vector = b.vector; stack = n }) s
+same_taken a b g f s = λ i. record { general = g i; vector = f i; stack = s i }
 
 module _ (s : Signature) where
   pub sums_are_taken : (i : ℕ) → i ≤ length s.arguments → taken_until s i ≡ taken_before s (is_in_registers s) i
@@ -106,32 +106,6 @@ module _ (s : Signature) (p q : ℕ → Bool) (by_p : AreChosenBySums s p) (by_q
       by_p i h ∙ ap (λ a. in_registers a (tree_at s.arguments i)) (same_sums i (omega arith)) ∙ sym (by_q i h)
 
 -- ---- a result
-
-result_when : (P : ResultSpot → Type 0) (t : Tree) → (t ≡ void → P no_result) → (is_class_memory t ≡ true → P (in_buffer (G (general_argument 0)))) → (¬ (t ≡ void) → is_class_memory t ≡ false → P (in_result_pieces (result_pieces t))) → P (result_spot_of t)
-result_when P t none hidden direct = cases t none hidden direct
-  where
-    by_memory : (u : Tree) (b : Bool) → is_class_memory u ≡ b → ¬ (u ≡ void) → (is_class_memory u ≡ true → P (in_buffer (G (general_argument 0)))) → (¬ (u ≡ void) → is_class_memory u ≡ false → P (in_result_pieces (result_pieces u))) → P (cond b (in_buffer (G (general_argument 0))) (in_result_pieces (result_pieces u)))
-    by_memory u true e some hidden direct = hidden e
-    by_memory u false e some hidden direct = direct some e
-
-    cases : (u : Tree) → (u ≡ void → P no_result) → (is_class_memory u ≡ true → P (in_buffer (G (general_argument 0)))) → (¬ (u ≡ void) → is_class_memory u ≡ false → P (in_result_pieces (result_pieces u))) → P (result_spot_of u)
-    cases void none hidden direct = none refl
-    cases (scalar k) none hidden direct =
-        by_memory (scalar k) (is_class_memory (scalar k)) refl (λ e. cc) hidden direct
-    cases (left_out k) none hidden direct =
-        by_memory (left_out k) (is_class_memory (left_out k)) refl (λ e. cc) hidden direct
-    cases (structure ts) none hidden direct =
-        by_memory (structure ts) (is_class_memory (structure ts)) refl (λ e. cc) hidden direct
-    cases (array ts n) none hidden direct =
-        by_memory (array ts n) (is_class_memory (array ts n)) refl (λ e. cc) hidden direct
-
-spot_of_memory : (t : Tree) → is_class_memory t ≡ true → result_spot_of t ≡ in_buffer (G (general_argument 0))
-spot_of_memory t m =
-    result_when (λ spot. spot ≡ in_buffer (G (general_argument 0))) t (λ e. let small : is_class_memory t ≡ false = ap is_class_memory e in cc) (λ _. refl) (λ _ small. cc)
-
-spot_of_registers : (t : Tree) → ¬ (t ≡ void) → is_class_memory t ≡ false → result_spot_of t ≡ in_result_pieces (result_pieces t)
-spot_of_registers t some small =
-    result_when (λ spot. spot ≡ in_result_pieces (result_pieces t)) t (λ e. absurd (some e)) (λ m. cc) (λ _ _. refl)
 
 buffer_ends : (end : ℕ) (t : Tree) → buffer_end start end t (result_spot_of t) ≡ cond (is_class_memory t) (start end t + round8 (size_of t)) end
 buffer_ends end t =

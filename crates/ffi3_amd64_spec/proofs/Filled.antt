@@ -1,21 +1,21 @@
 -- The rest of each place is filled as the standard says: a lone narrow integer is extended by its sign, all else is free.
 use Rattle.std.proofs.Common.{◌≡◌, ℕ, Bool, true, false, cond, List, [], ◌∷◌, ◌++◌, ◌+◌, refl}
 use Rattle.std.specs.List.{AllByRecursion}
-use Rattle.ffi3_type_spec.specs.Tree.{Tree, void, scalar, left_out, structure, u8, s8, u16, s16, u32, s32, u64, s64, u128, s128, float, double, pointer, x87, binary128, array}
+use Rattle.ffi3_type_spec.specs.Tree.{Tree, scalar, u8, s8, u16, s16, u32, s32}
 use Rattle.ffi3_type_spec.specs.Layout.{Leaf, leaves_of}
 use Rattle.ffi3_place_spec.specs.declared.Ext.TheVariants.{Free, Widen}
-use Rattle.ffi3_place_spec.specs.declared.Loc.TheVariants.{G}
 use Rattle.ffi3_place_spec.specs.declared.Piece.{Piece}
 use Rattle.ffi3_place_spec.specs.declared.Taken.{Taken}
 use Rattle.ffi3_place_spec.specs.MachineRegisters.{significand, sign_and_exponent}
-use Rattle.ffi3_place_spec.specs.Standard.{in_result_pieces, in_buffer, places_from, result_at}
+use Rattle.ffi3_place_spec.specs.Standard.{places_from, result_at}
 use Rattle.ffi3_place_spec.specs.Doublewords.{doublewords, widening, stack_pieces}
 use Rattle.ffi3_place_spec.specs.Sound.{is_narrow_integer, is_floating_place, IsFilled, IsWhole, PlacesAreFilled, ResultIsFilled}
 use Rattle.ffi3_place_spec.proofs.Filled.{doublewords_filled, no_narrow_place}
 use Rattle.ffi3_amd64_spec.specs.declared.Class.{Class}
 use Rattle.ffi3_amd64_spec.proofs.Covered.{in_one_word}
 use Rattle.ffi3_amd64_spec.proofs.LongDoubles.{x87_not_narrow}
-use Rattle.ffi3_amd64_spec.specs.Amd64.{is_class_memory, is_class_x87, x87_pieces, result_pieces, amd64, classes, general_argument, result_register, register_of, register_pieces, in_registers, stack_start, taken_with, spots_after, result_spot_of}
+use Rattle.ffi3_amd64_spec.proofs.Steps.{result_when}
+use Rattle.ffi3_amd64_spec.specs.Amd64.{is_class_x87, x87_pieces, result_pieces, amd64, classes, general_argument, result_register, register_of, register_pieces, in_registers, stack_start, taken_with, spots_after, result_spot_of}
 
 differ : (b : Bool) → b ≡ true → b ≡ false → ⊥
 differ b h k = cc
@@ -34,25 +34,13 @@ module _ (t : Tree) where
 
 -- a lone narrow integer takes one general register
 pub registers_filled : (general : ℕ → ℕ) (g f : ℕ) (t : Tree) → AllByRecursion (IsFilled amd64 t) (register_pieces general g f t [] (classes t))
-registers_filled general g f void = free_filled void general g f refl refl [] (classes void)
-registers_filled general g f (left_out k) = free_filled (left_out k) general g f refl refl [] (classes (left_out k))
-registers_filled general g f (structure ts) = free_filled (structure ts) general g f refl refl [] (classes (structure ts))
-registers_filled general g f (array ts n) = free_filled (array ts n) general g f refl refl [] (classes (array ts n))
 registers_filled general g f (scalar u8) = (narrow_filled (scalar u8) _ refl refl refl, tt)
 registers_filled general g f (scalar s8) = (narrow_filled (scalar s8) _ refl refl refl, tt)
 registers_filled general g f (scalar u16) = (narrow_filled (scalar u16) _ refl refl refl, tt)
 registers_filled general g f (scalar s16) = (narrow_filled (scalar s16) _ refl refl refl, tt)
 registers_filled general g f (scalar u32) = (narrow_filled (scalar u32) _ refl refl refl, tt)
 registers_filled general g f (scalar s32) = (narrow_filled (scalar s32) _ refl refl refl, tt)
-registers_filled general g f (scalar u64) = free_filled (scalar u64) general g f refl refl [] (classes (scalar u64))
-registers_filled general g f (scalar s64) = free_filled (scalar s64) general g f refl refl [] (classes (scalar s64))
-registers_filled general g f (scalar u128) = free_filled (scalar u128) general g f refl refl [] (classes (scalar u128))
-registers_filled general g f (scalar s128) = free_filled (scalar s128) general g f refl refl [] (classes (scalar s128))
-registers_filled general g f (scalar float) = free_filled (scalar float) general g f refl refl [] (classes (scalar float))
-registers_filled general g f (scalar double) = free_filled (scalar double) general g f refl refl [] (classes (scalar double))
-registers_filled general g f (scalar pointer) = free_filled (scalar pointer) general g f refl refl [] (classes (scalar pointer))
-registers_filled general g f (scalar x87) = free_filled (scalar x87) general g f refl refl [] (classes (scalar x87))
-registers_filled general g f (scalar binary128) = free_filled (scalar binary128) general g f refl refl [] (classes (scalar binary128))
+registers_filled general g f t = free_filled t general g f refl refl [] (classes t)
 
 filled_if : (a : Taken) (t : Tree) (b : Bool) → AllByRecursion (IsFilled amd64 t) (cond b (register_pieces general_argument a.general a.vector t [] (classes t)) (stack_pieces (stack_start a.stack t) t))
 filled_if a t true = registers_filled general_argument a.general a.vector t
@@ -80,13 +68,6 @@ pieces_if t false e = registers_filled result_register 0 0 t
 pieces_filled : (t : Tree) → AllByRecursion (IsFilled amd64 t) (result_pieces t)
 pieces_filled t = pieces_if t (is_class_x87 t) refl
 
-result_if : (t : Tree) (end : ℕ) (b : Bool) → ResultIsFilled amd64 t (result_at amd64.copy_start end t (cond b (in_buffer (G (general_argument 0))) (in_result_pieces (result_pieces t))))
-result_if t end true = tt
-result_if t end false = pieces_filled t
-
 pub result_filled : (t : Tree) (end : ℕ) → ResultIsFilled amd64 t (result_at amd64.copy_start end t (result_spot_of t))
-result_filled void end = tt
-result_filled (scalar s) end = pieces_filled (scalar s)
-result_filled (left_out k) end = pieces_filled (left_out k)
-result_filled (structure ts) end = result_if (structure ts) end (is_class_memory (structure ts))
-result_filled (array ts n) end = result_if (array ts n) end (is_class_memory (array ts n))
+result_filled t end =
+    result_when (λ spot. ResultIsFilled amd64 t (result_at amd64.copy_start end t spot)) t (λ e. tt) (λ e. tt) (λ _ e. pieces_filled t)

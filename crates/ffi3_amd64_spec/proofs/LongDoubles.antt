@@ -78,11 +78,8 @@ scalar_not_narrow u8 e = cc
 scalar_not_narrow _ e = cc
 
 pub x87_not_narrow : (t : Tree) → is_class_x87 t ≡ true → is_narrow_integer t ≡ false
-x87_not_narrow void e = refl
 x87_not_narrow (scalar s) e = scalar_not_narrow s e
-x87_not_narrow (left_out k) e = refl
-x87_not_narrow (structure ts) e = refl
-x87_not_narrow (array ts n) e = refl
+x87_not_narrow _ e = refl
 
 -- ---- the pieces have every byte of the leaves
 

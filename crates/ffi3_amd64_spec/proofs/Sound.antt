@@ -3,7 +3,7 @@ use Rattle.std.proofs.Common.{◌≡◌, ℕ, ◌+◌, ◌<◌, ◌≤◌, Bool,
 use Rattle.std.specs.List.{AllByRecursion, count_by, flat_map}
 use Rattle.std.proofs.lemmas.Bool.{or_from}
 use Rattle.std.proofs.lemmas.List.Sums.{sum_by-cons, sum_by_push}
-use Rattle.ffi3_type_spec.specs.Tree.{Tree, void, scalar, left_out, structure, array}
+use Rattle.ffi3_type_spec.specs.Tree.{Tree}
 use Rattle.ffi3_type_spec.specs.Layout.{leaves_of, has_long_double}
 use Rattle.ffi3_type_spec.specs.Signature.{Signature, HasNoLongDouble}
 use Rattle.ffi3_type_spec.specs.declared.Isa.TheVariants.{Amd64}
@@ -12,7 +12,7 @@ use Rattle.ffi3_place_spec.specs.declared.Loc.TheVariants.{G, F}
 use Rattle.ffi3_place_spec.specs.declared.Piece.{Piece}
 use Rattle.ffi3_place_spec.specs.declared.Taken.{Taken}
 use Rattle.ffi3_place_spec.specs.StubRegisters.{result_loads}
-use Rattle.ffi3_place_spec.specs.Standard.{in_result_pieces, in_buffer, plan_of, places_from, result_at, copies_start, frame_copies_end, frame_of}
+use Rattle.ffi3_place_spec.specs.Standard.{plan_of, places_from, result_at, copies_start, frame_copies_end, frame_of}
 use Rattle.ffi3_place_spec.specs.Doublewords.{stack_pieces}
 use Rattle.ffi3_place_spec.specs.Sound.{AreApart, IsWhole, IsOnStackOrIn, piece_locs, place_locs, hidden_locs, result_locs, argument_locs, IsNoneOf, IsOneOf, LiesIn, StandsIn, call_locs, closed_to_arguments, closed_to_results, HaveAll, HaveLowerWords, ResultHasAll, ResultHasLowerWords, IsSound, IsDetermined}
 use Rattle.ffi3_place_spec.proofs.Chain.{AtMost, at_most_self, Chain, chain_append, chain_less, chain_apart, chain_allowed, chain_passed, chain_in, chain_lies_in}
@@ -29,6 +29,7 @@ use Rattle.ffi3_amd64_spec.specs.Amd64.{amd64, is_integer_class, is_sse_class, c
 use Rattle.ffi3_amd64_spec.proofs.LongDoubles.{x87_cases, x87_is_long, x87_have_all}
 use Rattle.ffi3_amd64_spec.proofs.Covered.{fits_registers, integers_few, sses_few, classes_when, registers_have_all, arguments_have_all}
 use Rattle.ffi3_amd64_spec.proofs.Filled.{arguments_filled, result_filled}
+use Rattle.ffi3_amd64_spec.proofs.Steps.{result_when}
 use Rattle.ffi3_amd64_spec.proofs.Rising.{arguments_rise}
 use Rattle.ffi3_amd64_spec.proofs.Registers.{argument_registers_apart, argument_exists, argument_allowed, vector_allowed, stack_allowed, argument_passes, vector_passes, result_registers_apart, result_exists, result_allowed_general, result_allowed_vector, result_allowed_stack}
 
@@ -108,18 +109,14 @@ untouched = record { general = 0; vector = 0; stack = 0 }
 abbrev taken_by_all : Signature → Taken
 taken_by_all s = taken_after (taken_at_first s.result_type) s.arguments
 
-hidden_if : (t : Tree) (end : ℕ) (b : Bool) → ArgumentsChain untouched (hidden_locs (result_at amd64.copy_start end t (cond b (in_buffer (G (general_argument 0))) (in_result_pieces (result_pieces t))))) (record { general = cond b 1 0; vector = 0; stack = 0 })
-hidden_if t end true =
-    let one : AtMost untouched (record { general = 1; vector = 0; stack = 0 }) = record { general = omega arith; vector = omega arith; stack = omega arith } in
-    (record { general = 1; vector = 0; stack = 0 }, (0, refl, omega arith, omega arith), (0, refl, omega arith), one, at_most_self (record { general = 1; vector = 0; stack = 0 }))
-hidden_if t end false = at_most_self untouched
-
 hidden_chain : (t : Tree) (end : ℕ) → ArgumentsChain untouched (hidden_locs (result_at amd64.copy_start end t (result_spot_of t))) (taken_at_first t)
-hidden_chain void end = at_most_self untouched
-hidden_chain (scalar s) end = at_most_self untouched
-hidden_chain (left_out k) end = at_most_self untouched
-hidden_chain (structure ts) end = hidden_if (structure ts) end (is_class_memory (structure ts))
-hidden_chain (array ts n) end = hidden_if (array ts n) end (is_class_memory (array ts n))
+hidden_chain t end =
+    let one : Taken = record { general = 1; vector = 0; stack = 0 } in
+    let first : ArgumentsChain untouched (G (general_argument 0) ∷ []) one = (one, (0, refl, omega arith, omega arith), (0, refl, omega arith), record { general = omega arith; vector = omega arith; stack = omega arith }, at_most_self one) in
+    result_when (λ spot. ArgumentsChain untouched (hidden_locs (result_at amd64.copy_start end t spot)) (taken_at_first t)) t
+    (λ e. record { general = omega arith; vector = omega arith; stack = omega arith })
+    (λ e. subst (λ b. ArgumentsChain untouched (G (general_argument 0) ∷ []) (record { general = cond b 1 0; vector = 0; stack = 0 })) (sym e) first)
+    (λ _ e. record { general = omega arith; vector = omega arith; stack = omega arith })
 
 plan_chain : (s : Signature) → ArgumentsChain untouched (argument_locs (plan_of amd64 s)) (taken_by_all s)
 plan_chain s =
@@ -165,16 +162,9 @@ registers_lie : (t : Tree) → AllByRecursion (LiesIn Amd64 0) (piece_locs (regi
 registers_lie t =
     chain_lies_in result_register vector_register 2 2 Amd64 result_exists (λ k h. omega arith) (at_eightbyte untouched []) _ _ 0 (omega arith) (result_chain t)
 
-result_if : (P : List Loc → Type 0) → P [] → (t : Tree) → P (piece_locs (result_pieces t)) → (end : ℕ) (b : Bool) → P (result_locs (result_at amd64.copy_start end t (cond b (in_buffer (G (general_argument 0))) (in_result_pieces (result_pieces t)))))
-result_if P none t direct end true = none
-result_if P none t direct end false = direct
-
 result_cases : (P : List Loc → Type 0) → P [] → (t : Tree) → P (piece_locs (result_pieces t)) → (end : ℕ) → P (result_locs (result_at amd64.copy_start end t (result_spot_of t)))
-result_cases P none void direct end = none
-result_cases P none (scalar s) direct end = direct
-result_cases P none (left_out k) direct end = direct
-result_cases P none (structure ts) direct end = result_if P none (structure ts) direct end (is_class_memory (structure ts))
-result_cases P none (array ts n) direct end = result_if P none (array ts n) direct end (is_class_memory (array ts n))
+result_cases P none t direct end =
+    result_when (λ spot. P (result_locs (result_at amd64.copy_start end t spot))) t (λ e. none) (λ e. none) (λ _ e. direct)
 
 -- by the class of a result in registers
 pieces_by : (Q : List Piece → Type 0) (t : Tree) → (is_class_x87 t ≡ true → Q (x87_pieces 0 (leaves_of t))) → (is_class_x87 t ≡ false → Q (register_pieces result_register 0 0 t [] (classes t))) → Q (result_pieces t)
@@ -201,16 +191,9 @@ direct_has_all : (t : Tree) → is_class_memory t ≡ false → HaveAll t (resul
 direct_has_all t e =
     pieces_by (HaveAll t) t (x87_have_all t) (λ others. registers_have_all result_register 0 0 t (classes t) (classes_when t (or_from (is_class_memory t) (is_class_x87 t) e others)))
 
-has_all_if : (t : Tree) (end : ℕ) (b : Bool) → is_class_memory t ≡ b → ResultHasAll t (result_at amd64.copy_start end t (cond b (in_buffer (G (general_argument 0))) (in_result_pieces (result_pieces t))))
-has_all_if t end true e = tt
-has_all_if t end false e = direct_has_all t e
-
 result_has_all : (t : Tree) (end : ℕ) → ResultHasAll t (result_at amd64.copy_start end t (result_spot_of t))
-result_has_all void end = refl
-result_has_all (scalar s) end = direct_has_all (scalar s) refl
-result_has_all (left_out k) end = direct_has_all (left_out k) refl
-result_has_all (structure ts) end = has_all_if (structure ts) end (is_class_memory (structure ts)) refl
-result_has_all (array ts n) end = has_all_if (array ts n) end (is_class_memory (array ts n)) refl
+result_has_all t end =
+    result_when (λ spot. ResultHasAll t (result_at amd64.copy_start end t spot)) t (λ e. e) (λ e. tt) (λ _ e. direct_has_all t e)
 
 -- the sign and exponent of an x87 register stand above its significand
 x87_lower_words : (t : Tree) → is_class_x87 t ≡ true → HaveLowerWords Amd64 (x87_pieces 0 (leaves_of t))
@@ -221,27 +204,13 @@ direct_lower_words : (t : Tree) → HaveLowerWords Amd64 (result_pieces t)
 direct_lower_words t =
     pieces_by (HaveLowerWords Amd64) t (x87_lower_words t) (λ others. lowest_words Amd64 (register_pieces result_register 0 0 t [] (classes t)) (each_weaker (LiesIn Amd64 0) (HasNoneBelow Amd64) (lies_lowest Amd64 0) _ (registers_lie t)))
 
-lower_words_if : (t : Tree) (end : ℕ) (b : Bool) → ResultHasLowerWords Amd64 (result_at amd64.copy_start end t (cond b (in_buffer (G (general_argument 0))) (in_result_pieces (result_pieces t))))
-lower_words_if t end true = tt
-lower_words_if t end false = direct_lower_words t
-
 result_lower_words : (t : Tree) (end : ℕ) → ResultHasLowerWords Amd64 (result_at amd64.copy_start end t (result_spot_of t))
-result_lower_words void end = tt
-result_lower_words (scalar s) end = direct_lower_words (scalar s)
-result_lower_words (left_out k) end = direct_lower_words (left_out k)
-result_lower_words (structure ts) end = lower_words_if (structure ts) end (is_class_memory (structure ts))
-result_lower_words (array ts n) end = lower_words_if (array ts n) end (is_class_memory (array ts n))
-
-hidden_whole_if : (t : Tree) (end : ℕ) (b : Bool) → AllByRecursion IsWhole (hidden_locs (result_at amd64.copy_start end t (cond b (in_buffer (G (general_argument 0))) (in_result_pieces (result_pieces t)))))
-hidden_whole_if t end true = (refl, tt)
-hidden_whole_if t end false = tt
+result_lower_words t end =
+    result_when (λ spot. ResultHasLowerWords Amd64 (result_at amd64.copy_start end t spot)) t (λ e. tt) (λ e. tt) (λ _ e. direct_lower_words t)
 
 hidden_whole : (t : Tree) (end : ℕ) → AllByRecursion IsWhole (hidden_locs (result_at amd64.copy_start end t (result_spot_of t)))
-hidden_whole void end = tt
-hidden_whole (scalar s) end = tt
-hidden_whole (left_out k) end = tt
-hidden_whole (structure ts) end = hidden_whole_if (structure ts) end (is_class_memory (structure ts))
-hidden_whole (array ts n) end = hidden_whole_if (array ts n) end (is_class_memory (array ts n))
+hidden_whole t end =
+    result_when (λ spot. AllByRecursion IsWhole (hidden_locs (result_at amd64.copy_start end t spot))) t (λ e. tt) (λ e. (refl, tt)) (λ _ e. tt)
 
 -- every law of the places
 pub sound : (s : Signature) → IsSound amd64 s
@@ -289,16 +258,6 @@ result_loaded s plain =
     let t = s.result_type in
     plain_places_by (AllByRecursion (IsOneOf (result_loads Amd64))) tt t plain.result_type (chain_in result_register vector_register 2 2 (result_loads Amd64) (at_eightbyte untouched ([] ++ classes t)) refl (λ k h. in_results k (omega (arith, h, integers_few t))) (λ k h. in_vector_results k (omega (arith, h, sses_few t))) (at_eightbyte untouched []) _ (result_chain t)) (frame_copies_end amd64 s)
 
-hidden_saved_if : (t : Tree) (end : ℕ) (b : Bool) → AllByRecursion (IsOneOf (G 7 ∷ [])) (hidden_locs (result_at amd64.copy_start end t (cond b (in_buffer (G (general_argument 0))) (in_result_pieces (result_pieces t)))))
-hidden_saved_if t end true = (one_of (G 7 ∷ []) (G 7) refl, tt)
-hidden_saved_if t end false = tt
-
-hidden_saved_at : (t : Tree) (end : ℕ) → AllByRecursion (IsOneOf (G 7 ∷ [])) (hidden_locs (result_at amd64.copy_start end t (result_spot_of t)))
-hidden_saved_at void end = tt
-hidden_saved_at (scalar s) end = tt
-hidden_saved_at (left_out k) end = tt
-hidden_saved_at (structure ts) end = hidden_saved_if (structure ts) end (is_class_memory (structure ts))
-hidden_saved_at (array ts n) end = hidden_saved_if (array ts n) end (is_class_memory (array ts n))
-
 pub hidden_saved : (s : Signature) → AllByRecursion (IsOneOf (G 7 ∷ [])) (hidden_locs (plan_of amd64 s).res)
-hidden_saved s = hidden_saved_at s.result_type (frame_copies_end amd64 s)
+hidden_saved s =
+    result_when (λ spot. AllByRecursion (IsOneOf (G 7 ∷ [])) (hidden_locs (result_at amd64.copy_start (frame_copies_end amd64 s) s.result_type spot))) s.result_type (λ e. tt) (λ e. (one_of (G 7 ∷ []) (G 7) refl, tt)) (λ _ e. tt)

@@ -3,7 +3,7 @@ use Rattle.std.proofs.Common.{◌≡◌, ℕ, zero, suc, ◌+◌, ◌-◌, ◌<�
 use Rattle.std.specs.List.{count_by, list_any}
 use Rattle.std.proofs.lemmas.Bool.{le-leb}
 use Rattle.std.proofs.lemmas.List.Sums.{sum_by-cons, sum_by_push}
-use Rattle.ffi3_type_spec.specs.Tree.{Tree, void, scalar, left_out, structure, array, tree_at}
+use Rattle.ffi3_type_spec.specs.Tree.{Tree, void, tree_at}
 use Rattle.ffi3_type_spec.specs.Layout.{leaves_of, leaf_at, size_of}
 use Rattle.ffi3_place_spec.specs.declared.Loc.{Loc}
 use Rattle.ffi3_place_spec.specs.declared.Loc.TheVariants.{G}
@@ -11,7 +11,7 @@ use Rattle.ffi3_place_spec.specs.declared.Piece.{Piece}
 use Rattle.ffi3_place_spec.specs.declared.Taken.{Taken}
 use Rattle.ffi3_place_spec.specs.declared.Place.{Place}
 use Rattle.ffi3_place_spec.specs.declared.Place.TheVariants.{Direct}
-use Rattle.ffi3_place_spec.specs.Standard.{doubleword, places_from, copies_end, in_buffer, in_result_pieces}
+use Rattle.ffi3_place_spec.specs.Standard.{doubleword, places_from, copies_end, ResultSpot, no_result, in_buffer, in_result_pieces}
 use Rattle.ffi3_place_spec.specs.Doublewords.{widening}
 use Rattle.ffi3_place_spec.proofs.Elements.{leaf_read, argument_read}
 use Rattle.ffi3_amd64_spec.specs.declared.Class.{Class}
@@ -97,23 +97,22 @@ ends_without_copies start end a (t ∷ ts) = ends_without_copies start end (take
 
 -- ---- results
 
-pub spot_of_memory : (t : Tree) → is_class_memory t ≡ true → result_spot_of t ≡ in_buffer (G (general_argument 0))
-spot_of_memory void e = cc
-spot_of_memory (scalar s) e = cc
-spot_of_memory (left_out k) e = cc
-spot_of_memory (structure ts) e = rw e refl
-spot_of_memory (array ts n) e = rw e refl
+by_memory : (P : ResultSpot → Type 0) (t : Tree) (b : Bool) → is_class_memory t ≡ b → (is_class_memory t ≡ true → P (in_buffer (G (general_argument 0)))) → (is_class_memory t ≡ false → P (in_result_pieces (result_pieces t))) → P (cond b (in_buffer (G (general_argument 0))) (in_result_pieces (result_pieces t)))
+by_memory P t true e hidden direct = hidden e
+by_memory P t false e hidden direct = direct e
 
-spot_if : (t : Tree) → is_class_memory t ≡ false → cond (is_class_memory t) (in_buffer (G (general_argument 0))) (in_result_pieces (result_pieces t)) ≡ in_result_pieces (result_pieces t)
-spot_if t e =
-    ap (λ b. cond b (in_buffer (G (general_argument 0))) (in_result_pieces (result_pieces t))) e
+-- cases on where a result stands
+pub result_when : (P : ResultSpot → Type 0) (t : Tree) → (t ≡ void → P no_result) → (is_class_memory t ≡ true → P (in_buffer (G (general_argument 0)))) → (¬ (t ≡ void) → is_class_memory t ≡ false → P (in_result_pieces (result_pieces t))) → P (result_spot_of t)
+result_when P void none hidden direct = none refl
+result_when P t none hidden direct = by_memory P t (is_class_memory t) refl hidden (direct (λ e. cc))
+
+pub spot_of_memory : (t : Tree) → is_class_memory t ≡ true → result_spot_of t ≡ in_buffer (G (general_argument 0))
+spot_of_memory t m =
+    result_when (λ spot. spot ≡ in_buffer (G (general_argument 0))) t (λ e. let small : is_class_memory t ≡ false = ap is_class_memory e in cc) (λ _. refl) (λ _ small. cc)
 
 pub spot_of_registers : (t : Tree) → ¬ (t ≡ void) → is_class_memory t ≡ false → result_spot_of t ≡ in_result_pieces (result_pieces t)
-spot_of_registers void some e = absurd (some refl)
-spot_of_registers (scalar s) some e = refl
-spot_of_registers (left_out k) some e = refl
-spot_of_registers (structure ts) some e = spot_if (structure ts) e
-spot_of_registers (array ts n) some e = spot_if (array ts n) e
+spot_of_registers t some small =
+    result_when (λ spot. spot ≡ in_result_pieces (result_pieces t)) t (λ e. absurd (some e)) (λ m. cc) (λ _ _. refl)
 
 -- one more piece in a register, where the new list and its last piece are known by equations
 pub register_turn : (general : ℕ → ℕ) (g f : ℕ) (t : Tree) (j count : ℕ) (out new whole : List Piece) (p : Piece) (l : Loc) → j < count → l ≡ register_of general g f (classes_from t 0 j) (class_of t j) → p ≡ doubleword l j (size_of t) (widening t) → new ≡ out ++ p ∷ [] →

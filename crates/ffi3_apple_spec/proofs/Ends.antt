@@ -104,13 +104,11 @@ SpotIf packed copied inside first at t =
     (cond packed (in_pieces (packed_pieces at t)) (cond copied (by_reference (S at 8)) (in_pieces (stack_pieces at t))))
 
 copy_ends : (packed copied inside : Bool) (first at end : ℕ) (t : Tree) → (packed ≡ true → copied ≡ false) → copy_end start end t (SpotIf packed copied inside first at t) ≡ cond copied (start end t + round8 (size_of t)) end
-copy_ends packed true true first at end t apart = refl
-copy_ends packed false true first at end t apart = refl
 copy_ends true true false first at end t apart =
     let never : true ≡ false = apart refl in cc
-copy_ends true false false first at end t apart = refl
-copy_ends false true false first at end t apart = refl
-copy_ends false false false first at end t apart = refl
+copy_ends _ true true first at end t apart = refl
+copy_ends _ false false first at end t apart = refl
+copy_ends _ _ _ first at end t apart = refl
 
 -- ---- all of a call
 

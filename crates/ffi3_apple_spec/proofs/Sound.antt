@@ -1,38 +1,32 @@
 -- The places of a signature are a chain, so no two share a register or a byte of stack; and they have all of the values, which they therefore determine.
-use Rattle.std.proofs.Common.{◌≡◌, ℕ, ◌+◌, ◌*◌, ◌≤◌, length, inl, Bool, true, false, cond, leb, List, [], ◌∷◌, ◌++◌, ap, sym, ◌∙◌, refl, arith}
+use Rattle.std.proofs.Common.{◌≡◌, ℕ, ◌+◌, ◌*◌, ◌≤◌, length, Bool, true, false, cond, leb, List, [], ◌∷◌, ap, sym, ◌∙◌, refl, arith}
 use Rattle.std.specs.Prelude.{Option}
 use Rattle.std.specs.List.{AllByRecursion, flat_map}
 use Rattle.std.proofs.lemmas.Bool.{leb-true}
 use Rattle.ffi3_type_spec.specs.declared.Isa.TheVariants.{Aarch64}
+use Rattle.ffi3_type_spec.specs.declared.Target.TheVariants as target
 use Rattle.ffi3_type_spec.specs.Tree.{Tree, scalar, pointer}
 use Rattle.ffi3_type_spec.specs.Layout.{leaves_of, size_of, align_of, least_multiple, has_long_double}
 use Rattle.ffi3_type_spec.specs.Signature.{Signature, HasNoLongDouble}
 use Rattle.ffi3_type_spec.proofs.Layouts.{least_multiple-above}
-use Rattle.ffi3_place_spec.specs.declared.Loc.{Loc}
 use Rattle.ffi3_place_spec.specs.declared.Loc.TheVariants.{G, S}
-use Rattle.ffi3_place_spec.specs.declared.Piece.{Piece}
 use Rattle.ffi3_place_spec.specs.declared.Taken.{Taken}
 use Rattle.ffi3_place_spec.specs.declared.Ext.TheVariants.{Free}
-use Rattle.ffi3_place_spec.specs.MachineRegisters.{further_arguments}
 use Rattle.ffi3_place_spec.specs.StubRegisters.{result_loads}
-use Rattle.ffi3_place_spec.specs.Standard.{Spot, in_pieces, by_reference, start, place_at, places_from, copy_end, result_at, copies_start, frame_copies_end, frame_of, plan_of, round8}
+use Rattle.ffi3_place_spec.specs.Standard.{Spot, in_pieces, by_reference, start, place_at, places_from, copy_end, copies_start, plan_of, round8}
 use Rattle.ffi3_place_spec.specs.Doublewords.{doublewords, widening, stack_pieces}
-use Rattle.ffi3_place_spec.specs.Sound.{Apart, AreApart, IsWhole, IsOnStackOrIn, piece_locs, place_locs, hidden_locs, result_locs, argument_locs, IsNoneOf, IsOneOf, StandsIn, copy_locs, buffer_locs, call_locs, closed_to_arguments, closed_to_results, PlaceHasAll, PlacesHaveAll, ResultHasAll, HaveLowerWords, PlaceHasLowerWords, ResultHasLowerWords, IsFilled, PlaceIsFilled, PlacesAreFilled, ResultIsFilled, IsSound, IsDetermined}
-use Rattle.ffi3_place_spec.proofs.Chain.{AtMost, at_most_self, chain_append, chain_apart, chain_allowed, chain_passed, chain_in, chain_stands_in}
-use Rattle.ffi3_place_spec.proofs.Frame.{up_to, value_chain, frame_chain}
+use Rattle.ffi3_place_spec.specs.Sound.{piece_locs, place_locs, hidden_locs, result_locs, IsOneOf, PlaceHasAll, PlacesHaveAll, HaveLowerWords, PlaceHasLowerWords, PlaceIsFilled, PlacesAreFilled, IsSound, IsDetermined}
+use Rattle.ffi3_place_spec.proofs.Chain.{AtMost, at_most_self, chain_append}
+use Rattle.ffi3_place_spec.proofs.Frame.{value_chain}
 use Rattle.ffi3_place_spec.proofs.Ends.{start-behind}
-use Rattle.ffi3_place_spec.proofs.Aligned.{frame_is_aligned, need_is_aligned}
-use Rattle.ffi3_place_spec.proofs.Tests.{and_right, each_weaker}
+use Rattle.ffi3_place_spec.proofs.Tests.{and_right}
 use Rattle.ffi3_place_spec.proofs.Filled.{doublewords_filled}
-use Rattle.ffi3_place_spec.proofs.Forbidden.{one_of}
 use Rattle.ffi3_place_spec.proofs.Determines.{determined}
-use Rattle.ffi3_place_spec.proofs.Further.{IsNotFurther, HasNoneBelow, each_of_all, lowest_words, doublewords_each, frame_not_further, each_without}
-use Rattle.ffi3_place_spec.proofs.OnMachine.{on_machine_without}
-use Rattle.ffi3_aapcs64_spec.specs.Aapcs64.{aapcs64, in_vectors, is_copied, member_pieces, general_pieces, register_pieces, register_spot, untouched, stack_spot as rounded_spot}
-use Rattle.ffi3_aapcs64_spec.proofs.Covered.{register_spot_has_all, stack_spot_has_all, registers_have_all, registers_filled, copied_not_vectors, NeedBy, pointer_rounded}
-use Rattle.ffi3_aapcs64_spec.proofs.Registers.{numbered, halves, halves_stand, all_registers, argument_allowed, vector_allowed, stack_allowed, hidden_allowed, argument_passes, vector_passes, hidden_passes, argument_not_hidden, result_allowed_general, result_allowed_vector, result_allowed_stack}
-use Rattle.ffi3_aapcs64_spec.proofs.Sound.{PlacesChain, doubled, doubled_more, members_chain, generals_chain, result_cases, all_taken, result_chain, result_fits, results_taken, upper_results, in_results_or_upper, in_vector_results, few_chain_if, results_without_upper, apart_from_hidden, register_spot_lower, stack_spot_lower, register_spot_not_further, stack_spot_not_further}
-use Rattle.ffi3_aapcs64_spec.proofs.Halves.{registers_lower, registers_not_further}
+use Rattle.ffi3_place_spec.proofs.Further.{IsNotFurther, HasNoneBelow, each_of_all, lowest_words, doublewords_each, each_without}
+use Rattle.ffi3_aapcs64_spec.specs.Aapcs64.{in_vectors, is_copied, member_pieces, general_pieces, register_pieces, register_spot, untouched, stack_spot as rounded_spot}
+use Rattle.ffi3_aapcs64_spec.proofs.Covered.{register_spot_has_all, stack_spot_has_all, registers_filled, copied_not_vectors, NeedBy, pointer_rounded}
+use Rattle.ffi3_aapcs64_spec.proofs.Registers.{numbered, halves}
+use Rattle.ffi3_aapcs64_spec.proofs.Sound.{PlacesChain, doubled, doubled_more, members_chain, generals_chain, register_spot_lower, stack_spot_lower, register_spot_not_further, stack_spot_not_further, filled_here, every_law, loaded, address_saved}
 use Rattle.ffi3_apple_spec.specs.Apple.{apple, is_named, is_packed, packed_pieces, stack_start, stack_spot, register_start, in_registers, spot_after, spots_after, taken_with, taken_after, placing_of}
 use Rattle.ffi3_apple_spec.proofs.Packed.{packed_place, packed_have_all, packed_filled, packed_chain}
 use Rattle.ffi3_apple_spec.proofs.Rising.{arguments_rise}
@@ -124,6 +118,12 @@ module _ (begin : ℕ → Tree → ℕ) where
       chain_append numbered halves 8 16 (doubled a) (place_locs (place_at begin end t (spot_after named a t))) (doubled (taken_with named a t)) _ _
       (argument_chain end named a t) (places_chain (copy_end begin end t (spot_after named a t)) fixed (taken_with named a t) (i + 1) ts)
 
+abbrev spots : Signature → List Spot
+spots s = spots_after s.fixed untouched 0 s.arguments
+
+abbrev taken_by_all : Signature → Taken
+taken_by_all s = taken_after s.fixed untouched 0 s.arguments
+
 -- ---- what the pieces have, and what fills the rest of their places
 
 on_stack_has_all : (begin : ℕ → Tree → ℕ) (end at : ℕ) (t : Tree) (packed : Bool) → PlaceHasAll t (place_at begin end t (cond packed (in_pieces (packed_pieces at t)) (rounded_spot at t)))
@@ -140,14 +140,9 @@ arguments_have_all begin end fixed before i (t ∷ ts) =
     let named = is_named fixed i in
     (spot_has_all_if begin end (register_start before t) (stack_start named before.stack t) named t (in_registers named before t), arguments_have_all begin (copy_end begin end t (spot_after named before t)) fixed (taken_with named before t) (i + 1) ts)
 
--- registers are filled as by AAPCS64
-also_here : (t : Tree) (ps : List Piece) → AllByRecursion (IsFilled aapcs64 t) ps → AllByRecursion (IsFilled apple t) ps
-also_here t [] h = tt
-also_here t (p ∷ ps) h = (record { narrow = h.0.narrow; single = h.0.single; narrow_place = h.0.narrow_place }, also_here t ps h.1)
-
 register_filled : (begin : ℕ → Tree → ℕ) (end first : ℕ) (t : Tree) (copied : Bool) → PlaceIsFilled apple t (place_at begin end t (cond copied (by_reference (G first)) (in_pieces (register_pieces first t))))
 register_filled begin end first t true = tt
-register_filled begin end first t false = also_here t (register_pieces first t) (registers_filled first t)
+register_filled begin end first t false = filled_here target.Apple spots taken_by_all t (register_pieces first t) (registers_filled first t)
 
 rounded_filled : (begin : ℕ → Tree → ℕ) (end at : ℕ) (t : Tree) (copied : Bool) → PlaceIsFilled apple t (place_at begin end t (cond copied (by_reference (S at 8)) (in_pieces (stack_pieces at t))))
 rounded_filled begin end at t true = tt
@@ -167,62 +162,6 @@ arguments_filled begin end fixed before i [] = tt
 arguments_filled begin end fixed before i (t ∷ ts) =
     let named = is_named fixed i in
     (spot_filled_if begin end (register_start before t) (stack_start named before.stack t) named t (in_registers named before t), arguments_filled begin (copy_end begin end t (spot_after named before t)) fixed (taken_with named before t) (i + 1) ts)
-
--- ---- the whole signature, but for the hidden result's address
-
-abbrev taken_by_all : Signature → Taken
-taken_by_all s = taken_after s.fixed untouched 0 s.arguments
-
-abbrev pieces_and_references : Signature → List Loc
-pieces_and_references s = flat_map place_locs (plan_of apple s).places
-
-pieces_chain : (s : Signature) → PlacesChain untouched (pieces_and_references s) (taken_by_all s)
-pieces_chain s =
-    places_chain apple.copy_start (copies_start (placing_of s)) s.fixed untouched 0 s.arguments
-
-abbrev framed : Signature → Taken
-framed s = up_to (taken_by_all s) (frame_of apple s)
-
-abbrev copies_and_buffer : Signature → List Loc
-copies_and_buffer s =
-    copy_locs s.arguments (plan_of apple s).places ++ buffer_locs s.result_type (plan_of apple s).res
-
-call_chain : (s : Signature) → PlacesChain untouched (pieces_and_references s ++ copies_and_buffer s) (framed s)
-call_chain s =
-    chain_append numbered halves 8 16 (doubled untouched) (pieces_and_references s) (doubled (taken_by_all s)) _ (doubled (framed s)) (pieces_chain s) (frame_chain numbered halves 8 16 apple start-behind s (doubled (taken_by_all s)) (omega arith))
-
--- ---- the hidden result's address, in x8
-
-hidden_cases : (P : List Loc → Type 0) → P [] → P (G 8 ∷ []) → (s : Signature) → P (hidden_locs (plan_of apple s).res)
-hidden_cases P none there s =
-    result_cases (λ spot. P (hidden_locs (result_at apple.copy_start (frame_copies_end apple s) s.result_type spot))) s.result_type (λ e. none) (λ e. there) (λ e. none)
-
-plan_apart : (s : Signature) → AreApart (call_locs s (plan_of apple s))
-plan_apart s =
-    let others = chain_apart numbered halves 8 16 all_registers (doubled untouched) _ _ (call_chain s) in
-    let none = chain_allowed numbered halves 8 16 (G 8 ∷ []) argument_not_hidden (λ k h. (tt, tt)) (λ n w. (tt, tt)) (doubled untouched) _ _ (call_chain s) in
-    let from_hidden = each_weaker (IsNoneOf (G 8 ∷ [])) (Apart (G 8)) apart_from_hidden _ none in
-    hidden_cases (λ hs. AreApart ((hs ++ pieces_and_references s) ++ copies_and_buffer s)) others (from_hidden, others) s
-
-plan_in_frame : (s : Signature) → AllByRecursion (StandsIn Aarch64 (frame_of apple s)) (call_locs s (plan_of apple s))
-plan_in_frame s =
-    let others = chain_stands_in numbered halves 8 16 Aarch64 (λ k h. omega arith) halves_stand (doubled untouched) _ (doubled (framed s)) (frame_of apple s) (omega arith) (call_chain s) in
-    hidden_cases (λ hs. AllByRecursion (StandsIn Aarch64 (frame_of apple s)) ((hs ++ pieces_and_references s) ++ copies_and_buffer s)) others (inl (omega arith), others) s
-
-plan_on_stack : (s : Signature) → AllByRecursion (StandsIn Aarch64 (placing_of s).stack_bytes) (argument_locs (plan_of apple s))
-plan_on_stack s =
-    let others = chain_stands_in numbered halves 8 16 Aarch64 (λ k h. omega arith) halves_stand (doubled untouched) _ (doubled (taken_by_all s)) (placing_of s).stack_bytes (omega arith) (pieces_chain s) in
-    hidden_cases (λ hs. AllByRecursion (StandsIn Aarch64 (placing_of s).stack_bytes) (hs ++ pieces_and_references s)) others (inl (omega arith), others) s
-
-plan_allowed : (s : Signature) → AllByRecursion (IsNoneOf (closed_to_arguments apple)) (argument_locs (plan_of apple s))
-plan_allowed s =
-    let others = chain_allowed numbered halves 8 16 (closed_to_arguments apple) argument_allowed vector_allowed stack_allowed (doubled untouched) _ _ (pieces_chain s) in
-    hidden_cases (λ hs. AllByRecursion (IsNoneOf (closed_to_arguments apple)) (hs ++ pieces_and_references s)) others (hidden_allowed, others) s
-
-plan_passed : (s : Signature) → AllByRecursion (IsOnStackOrIn (apple.argument_registers ++ further_arguments Aarch64)) (argument_locs (plan_of apple s))
-plan_passed s =
-    let others = chain_passed numbered halves 8 16 (apple.argument_registers ++ further_arguments Aarch64) argument_passes vector_passes (doubled untouched) _ _ (pieces_chain s) in
-    hidden_cases (λ hs. AllByRecursion (IsOnStackOrIn (apple.argument_registers ++ further_arguments Aarch64)) (hs ++ pieces_and_references s)) others (hidden_passes, others) s
 
 -- ---- upper halves
 
@@ -271,73 +210,25 @@ arguments_not_further begin end fixed before i (t ∷ ts) short =
     (spot_not_further_if begin end (register_start before t) (stack_start named before.stack t) named t (in_registers named before t) (members_fit named before t) short.0)
     (arguments_not_further begin (copy_end begin end t (spot_after named before t)) fixed (taken_with named before t) (i + 1) ts short.1)
 
-call_not_further : (s : Signature) → HasNoLongDouble s → AllByRecursion (IsNotFurther Aarch64) (call_locs s (plan_of apple s))
-call_not_further s plain =
-    let among = arguments_not_further apple.copy_start (copies_start (placing_of s)) s.fixed untouched 0 s.arguments (each_without s.arguments plain.arguments) in
-    let frame = frame_not_further Aarch64 s.arguments (plan_of apple s).places s.result_type (plan_of apple s).res in
-    let others = each_of_all (IsNotFurther Aarch64) (pieces_and_references s) (copies_and_buffer s) among frame in
-    hidden_cases (λ hs. AllByRecursion (IsNotFurther Aarch64) ((hs ++ pieces_and_references s) ++ copies_and_buffer s)) others ((λ f. f), others) s
+-- ---- this standard
 
--- ---- the result, as by AAPCS64
-
--- what holds of no places, and of those in registers, holds of a result's
-result_by : (P : List Loc → Type 0) → P [] → (s : Signature) → (is_copied s.result_type ≡ false → P (piece_locs (register_pieces 0 s.result_type))) → P (result_locs (plan_of apple s).res)
-result_by P none s direct =
-    result_cases (λ spot. P (result_locs (result_at apple.copy_start (frame_copies_end apple s) s.result_type spot))) s.result_type (λ e. none) (λ e. none) direct
-
-result_has_all : (s : Signature) → ResultHasAll s.result_type (plan_of apple s).res
-result_has_all s =
-    result_cases (λ spot. ResultHasAll s.result_type (result_at apple.copy_start (frame_copies_end apple s) s.result_type spot)) s.result_type (λ e. e) (λ e. tt) (λ e. registers_have_all 0 s.result_type)
-
-result_filled : (s : Signature) → ResultIsFilled apple s.result_type (plan_of apple s).res
-result_filled s =
-    result_cases (λ spot. ResultIsFilled apple s.result_type (result_at apple.copy_start (frame_copies_end apple s) s.result_type spot)) s.result_type (λ e. tt) (λ e. tt) (λ e. also_here s.result_type (register_pieces 0 s.result_type) (registers_filled 0 s.result_type))
-
-result_lower_words : (s : Signature) → ResultHasLowerWords Aarch64 (plan_of apple s).res
-result_lower_words s =
-    result_cases (λ spot. ResultHasLowerWords Aarch64 (result_at apple.copy_start (frame_copies_end apple s) s.result_type spot)) s.result_type (λ e. tt) (λ e. tt) (λ e. registers_lower 0 s.result_type (result_fits s.result_type))
-
-result_stands : (s : Signature) → AllByRecursion (StandsIn Aarch64 0) (result_locs (plan_of apple s).res)
-result_stands s =
-    result_by (AllByRecursion (StandsIn Aarch64 0)) tt s (λ e. chain_stands_in numbered halves 8 16 Aarch64 (λ k h. omega arith) halves_stand (doubled untouched) _ (doubled all_taken) 0 (omega arith) (result_chain s.result_type e))
-
-result_not_further : (s : Signature) → HasNoLongDouble s → AllByRecursion (IsNotFurther Aarch64) (result_locs (plan_of apple s).res)
-result_not_further s plain =
-    result_by (AllByRecursion (IsNotFurther Aarch64)) tt s (λ e. registers_not_further 0 s.result_type (result_fits s.result_type) plain.result_type)
-
--- every law of the places
 pub sound : (s : Signature) → IsSound apple s
-sound s = record {
-  apart = plan_apart s;
-  in_frame = plan_in_frame s;
-  on_stack = plan_on_stack s;
-  allowed = plan_allowed s;
-  passed = plan_passed s;
-  lower_words = arguments_lower apple.copy_start (copies_start (placing_of s)) s.fixed untouched 0 s.arguments;
-  has_all = arguments_have_all apple.copy_start (copies_start (placing_of s)) s.fixed untouched 0 s.arguments;
-  address = hidden_cases (AllByRecursion IsWhole) tt (refl, tt) s;
-  filled = arguments_filled apple.copy_start (copies_start (placing_of s)) s.fixed untouched 0 s.arguments;
-  rising = arguments_rise apple.copy_start (copies_start (placing_of s)) s.fixed untouched 0 s.arguments;
-  result_apart = result_by AreApart tt s (λ e. chain_apart numbered halves 8 16 all_registers (doubled untouched) _ _ (result_chain s.result_type e));
-  result_in_registers = result_stands s;
-  result_lower_words = result_lower_words s;
-  result_allowed = result_by (AllByRecursion (IsNoneOf (closed_to_results apple))) tt s (λ e. chain_allowed numbered halves 8 16 (closed_to_results apple) result_allowed_general result_allowed_vector result_allowed_stack (doubled untouched) _ _ (result_chain s.result_type e));
-  result_has_all = result_has_all s;
-  result_filled = result_filled s;
-  frame_aligned = frame_is_aligned apple s;
-  need_aligned = need_is_aligned apple s refl;
-  on_machine = λ plain. on_machine_without apple s (plan_in_frame s) (plan_on_stack s) (plan_passed s) (result_stands s) (call_not_further s plain) (result_not_further s plain);
-}
+sound s =
+    let copies = copies_start (placing_of s) in
+    every_law target.Apple spots taken_by_all s refl (record {
+      chain = places_chain start copies s.fixed untouched 0 s.arguments;
+      lower_words = arguments_lower start copies s.fixed untouched 0 s.arguments;
+      has_all = arguments_have_all start copies s.fixed untouched 0 s.arguments;
+      filled = arguments_filled start copies s.fixed untouched 0 s.arguments;
+      rising = arguments_rise start copies s.fixed untouched 0 s.arguments;
+      not_further = λ plain. arguments_not_further start copies s.fixed untouched 0 s.arguments (each_without s.arguments plain.arguments);
+    })
 
 pub determines : (s : Signature) → IsDetermined apple s
 determines s = determined apple s (sound s).has_all (sound s).result_has_all
 
--- ---- the result, by the stubs
-
 pub result_loaded : (s : Signature) → HasNoLongDouble s → AllByRecursion (IsOneOf (result_loads Aarch64)) (result_locs (plan_of apple s).res)
-result_loaded s plain =
-    let among = result_by (AllByRecursion (IsOneOf (result_loads Aarch64 ++ upper_results))) tt s (λ e. chain_in numbered halves 8 16 (result_loads Aarch64 ++ upper_results) (doubled results_taken) refl in_results_or_upper in_vector_results (doubled untouched) _ (few_chain_if s.result_type (in_vectors s.result_type) e refl)) in
-    results_without_upper (result_locs (plan_of apple s).res) among (result_not_further s plain)
+result_loaded s = loaded target.Apple spots taken_by_all s
 
 pub hidden_saved : (s : Signature) → AllByRecursion (IsOneOf (G 8 ∷ [])) (hidden_locs (plan_of apple s).res)
-hidden_saved s = hidden_cases (AllByRecursion (IsOneOf (G 8 ∷ []))) tt (one_of (G 8 ∷ []) (G 8) refl, tt) s
+hidden_saved s = address_saved target.Apple spots taken_by_all s

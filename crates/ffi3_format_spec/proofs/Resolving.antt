@@ -11,7 +11,7 @@ use Rattle.ffi3_type_spec.proofs.LongDoubles.{neither}
 use Rattle.ffi3_type_spec.proofs.Placed.{placed_is_faultless}
 use Rattle.ffi3_type_spec.proofs.Right.{result_is_right, argument_is_right}
 use Rattle.ffi3_format_spec.specs.declared.Format.{Format}
-use Rattle.ffi3_format_spec.specs.declared.Format.TheVariants.{Double, X87, Binary128}
+use Rattle.ffi3_format_spec.specs.declared.Format.TheVariants.{Double}
 use Rattle.ffi3_format_spec.specs.Format.{resolved, all_resolved, resolved_signature, kind_wants_format, wants_format, want_format, signature_wants_format, left_out_by}
 use Rattle.ffi3_format_spec.specs.Laws.{FormatLaws}
 use Rattle.ffi3_format_spec.proofs.SameFaults.{same_first}
@@ -59,12 +59,8 @@ both_false false b first second = second
 
 settled_kind : (f : Format) (k : LeftOutKind) → wants_format (left_out_by f k) ≡ false
 settled_kind Double long_double = refl
-settled_kind X87 long_double = refl
-settled_kind Binary128 long_double = refl
-settled_kind Double complex = refl
-settled_kind X87 complex = refl
-settled_kind Binary128 complex = refl
-settled_kind f vector = refl
+settled_kind _ long_double = refl
+settled_kind _ _ = refl
 
 mutual
   pub settled_type : (f : Format) (t : Tree) → wants_format (resolved f t) ≡ false

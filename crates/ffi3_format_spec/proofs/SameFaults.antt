@@ -3,7 +3,7 @@ use Rattle.std.proofs.Common.{◌≡◌, ℕ, Bool, true, false, List, [], ◌�
 use Rattle.std.proofs.lemmas.Bool.{eqb-true}
 use Rattle.ffi3_type_spec.specs.declared.Role.{Role}
 use Rattle.ffi3_type_spec.specs.declared.Role.TheVariants.{AsResult, AsArgument, PlacedResult, PlacedArgument}
-use Rattle.ffi3_type_spec.specs.Tree.{Tree, void, scalar, left_out, structure, array, Trees, no_trees, tree, tree_at, x87, is_complex}
+use Rattle.ffi3_type_spec.specs.Tree.{Tree, scalar, array, Trees, no_trees, tree, tree_at, x87, is_complex}
 use Rattle.ffi3_type_spec.specs.Layout.{has_long_double}
 use Rattle.ffi3_type_spec.specs.Fault.{Fault, IsFault, IsFirstFault, node_at, role_at, takes, out_of_place, left_out_kind, nested_deep, misshapen, over_limit}
 use Rattle.ffi3_type_spec.specs.Signature.{Signature, SignatureFault, over_most, in_result, in_argument, fixed_outside, promoted, of_type, of_long_double, for_calls, for_places, IsFaultFor, IsFirstFaultFor, IsFirstSignatureFault, HasNoLongDouble}
@@ -51,18 +51,12 @@ plain_array ts n plain =
     false_if (is_complex ts n) (λ complex. let long : has_long_double (array ts n) ≡ true = complex_is_long ts n complex in cc)
 
 results_alike : (t : Tree) → has_long_double t ≡ false → TakeAlike AsResult PlacedResult t
-results_alike void plain = record { there = λ e. e; back = λ e. e }
-results_alike (scalar s) plain = record { there = λ e. e; back = λ e. e }
-results_alike (left_out k) plain = record { there = λ e. e; back = λ e. e }
-results_alike (structure ts) plain = record { there = λ e. e; back = λ e. e }
 results_alike (array ts n) plain = record { there = λ e. plain_array ts n plain; back = λ e. refl }
+results_alike _ plain = record { there = λ e. e; back = λ e. e }
 
 arguments_alike : (t : Tree) → has_long_double t ≡ false → TakeAlike AsArgument PlacedArgument t
-arguments_alike void plain = record { there = λ e. e; back = λ e. e }
-arguments_alike (scalar s) plain = record { there = λ e. e; back = λ e. e }
-arguments_alike (left_out k) plain = record { there = λ e. e; back = λ e. e }
-arguments_alike (structure ts) plain = record { there = λ e. e; back = λ e. e }
 arguments_alike (array ts n) plain = record { there = λ e. plain_array ts n plain; back = λ e. refl }
+arguments_alike _ plain = record { there = λ e. e; back = λ e. e }
 
 turned : {role other : Role} {t : Tree} → TakeAlike role other t → TakeAlike other role t
 turned alike = record { there = alike.back; back = alike.there }

@@ -70,11 +70,9 @@ one_leaf t (a ∷ []) p are have e small ends =
 one_leaf t (a ∷ b ∷ ls) p are have e small ends = absurd (omega (arith, e))
 
 two_leaves : (t : Tree) (ls : List Leaf) (p q : Leaf → Piece) → ((l : Leaf) → scalar_size l.kind ≤ 8 → EndsIn (size_of t) l → IsPieceOf t (p l)) → ((l : Leaf) → HasLeaf l (p l)) → ((l : Leaf) → scalar_size l.kind ≤ 8 → EndsIn (size_of t) l → IsPieceOf t (q l)) → ((l : Leaf) → HasLeaf l (q l)) → length ls ≡ 2 → (scalar_size (leaf ls 0).kind ≤ 8) × (scalar_size (leaf ls 1).kind ≤ 8) → AllByRecursion (EndsIn (size_of t)) ls → HaveLeaves t ls (p (leaf ls 0) ∷ q (leaf ls 1) ∷ [])
-two_leaves t [] p q are have are_too have_too e small ends = absurd (omega (arith, e))
-two_leaves t (a ∷ []) p q are have are_too have_too e small ends = absurd (omega (arith, e))
 two_leaves t (a ∷ b ∷ []) p q are have are_too have_too e small ends =
     ((are a small.0 ends.0, (are_too b small.1 ends.1.0, tt)), (covers_first a (p a) (q b ∷ []) (have a), (covers_second b (p a) (q b) (have_too b), tt)))
-two_leaves t (a ∷ b ∷ c ∷ ls) p q are have are_too have_too e small ends = absurd (omega (arith, e))
+two_leaves t _ p q are have are_too have_too e small ends = absurd (omega (arith, e))
 
 have_all : (t : Tree) (ps : List Piece) → HaveLeaves t (leaves_of t) ps → HaveAll t ps
 have_all t ps h = record { each = h.0; covered = h.1 }

@@ -1,7 +1,7 @@
 -- The plan of a call is the one that the ends give, and no other is; nor does any other way to pass the arguments meet them.
 use Rattle.std.proofs.Common.{◌≡◌, ℕ, zero, suc, ◌+◌, ◌<◌, ◌≤◌, true, cond, List, [], ◌∷◌, take, length, ap, subst, sym, ◌∙◌, refl, arith}
 use Rattle.std.specs.Prelude.{Option, Some, slice_get}
-use Rattle.ffi3_type_spec.specs.Tree.{Tree, void, scalar, left_out, structure, array, tree_at}
+use Rattle.ffi3_type_spec.specs.Tree.{Tree, void, tree_at}
 use Rattle.ffi3_type_spec.specs.Layout.{size_of}
 use Rattle.ffi3_type_spec.specs.Signature.{Signature}
 use Rattle.ffi3_place_spec.specs.declared.Loc.TheVariants.{G}
@@ -15,7 +15,7 @@ use Rattle.ffi3_place_spec.specs.Standard.{in_pieces, result_at, place_at, copy_
 use Rattle.ffi3_place_spec.specs.Framed.{copied_before, copied_end, IsFramedByEnds}
 use Rattle.ffi3_place_spec.proofs.Framed.{framed_by_ends, framed_once}
 use Rattle.ffi3_riscv_spec.specs.declared.Shape.{Shape}
-use Rattle.ffi3_riscv_spec.specs.declared.Shape.TheVariants.{OneF, TwoF, FI, IF, Words, ByRef}
+use Rattle.ffi3_riscv_spec.specs.declared.Shape.TheVariants.{OneF, ByRef}
 use Rattle.ffi3_riscv_spec.specs.declared.TakenWords.{TakenWords}
 use Rattle.ffi3_riscv_spec.specs.Riscv.{is_fixed, word, integer_register, spot_of, spots_after, taken_at_start, taken_by_shape, taken_with, shape_after, spot_after, taken_after, taken_at_first, untouched, result_shape, result_from, result_spot_of, is_by_reference, stack_of, placing_of, riscv}
 use Rattle.ffi3_riscv_spec.specs.Ends.{taken_before, start_of, AreChosenByEnds, spot_by_ends, stack_by_ends, copy_step, copies_before, IsByEnds, IsPlacedByEnds}
@@ -97,88 +97,48 @@ module _ (s : Signature) where
 -- where a copy ends, by how the argument is passed
 copy_ends : (b : TakenWords) (t : Tree) (x : Shape) (end : ℕ) → copy_end start end t (spot_of b t x) ≡ cond (is_by_reference x) (start end t + round8 (size_of t)) end
 copy_ends b t OneF end = refl
-copy_ends b t TwoF end = refl
-copy_ends b t FI end = refl
-copy_ends b t IF end = refl
-copy_ends b t (Words n) end = refl
-copy_ends b t ByRef end = refl
+copy_ends b t _ end = refl
 
 -- a place that is in pieces, or by reference, as the argument is passed
 place_is : (b : TakenWords) (t : Tree) (x : Shape) (end : ℕ) (p : Option Place) → ((pieces : List Piece) → spot_of b t x ≡ in_pieces pieces → p ≡ Some (Direct pieces)) → (is_by_reference x ≡ true → p ≡ Some (ByRefPlace (word b.words) (start end t))) → p ≡ Some (place_at start end t (spot_of b t x))
-place_is b t OneF end p direct copied = direct _ refl
-place_is b t TwoF end p direct copied = direct _ refl
-place_is b t FI end p direct copied = direct _ refl
-place_is b t IF end p direct copied = direct _ refl
-place_is b t (Words n) end p direct copied = direct _ refl
 place_is b t ByRef end p direct copied = copied refl
+place_is b t _ end p direct copied = direct _ refl
 
 place_by_reference : (b : TakenWords) (t : Tree) (x : Shape) (end : ℕ) → is_by_reference x ≡ true → place_at start end t (spot_of b t x) ≡ ByRefPlace (word b.words) (start end t)
-place_by_reference b t OneF end h = cc
-place_by_reference b t TwoF end h = cc
-place_by_reference b t FI end h = cc
-place_by_reference b t IF end h = cc
-place_by_reference b t (Words n) end h = cc
 place_by_reference b t ByRef end h = refl
+place_by_reference b t _ end h = cc
 
 -- ---- a result
 
 buffer_ends_from : (t : Tree) (x : Shape) (end : ℕ) → buffer_end start end t (result_from (spot_of untouched t x)) ≡ cond (is_by_reference x) (start end t + round8 (size_of t)) end
 buffer_ends_from t OneF end = refl
-buffer_ends_from t TwoF end = refl
-buffer_ends_from t FI end = refl
-buffer_ends_from t IF end = refl
-buffer_ends_from t (Words n) end = refl
-buffer_ends_from t ByRef end = refl
+buffer_ends_from t _ end = refl
 
 -- where the buffer ends, if there is one
 buffer_ends : (t : Tree) (end : ℕ) → buffer_end start end t (result_spot_of t) ≡ cond (is_by_reference (result_shape t)) (start end t + round8 (size_of t)) end
 buffer_ends void end = refl
-buffer_ends (scalar s) end = buffer_ends_from (scalar s) (result_shape (scalar s)) end
-buffer_ends (left_out k) end = buffer_ends_from (left_out k) (result_shape (left_out k)) end
-buffer_ends (structure ts) end = buffer_ends_from (structure ts) (result_shape (structure ts)) end
-buffer_ends (array ts n) end = buffer_ends_from (array ts n) (result_shape (array ts n)) end
+buffer_ends t end = buffer_ends_from t (result_shape t) end
 
 hidden_from : (t : Tree) (x : Shape) (end : ℕ) → is_by_reference x ≡ true → result_at start end t (result_from (spot_of untouched t x)) ≡ Hidden (G (integer_register 0)) (start end t)
-hidden_from t OneF end h = cc
-hidden_from t TwoF end h = cc
-hidden_from t FI end h = cc
-hidden_from t IF end h = cc
-hidden_from t (Words n) end h = cc
 hidden_from t ByRef end h = refl
+hidden_from t _ end h = cc
 
 hidden_result : (t : Tree) (end : ℕ) → is_by_reference (result_shape t) ≡ true → result_at start end t (result_spot_of t) ≡ Hidden (G (integer_register 0)) (start end t)
 hidden_result void end h = cc
-hidden_result (scalar s) end h = hidden_from (scalar s) (result_shape (scalar s)) end h
-hidden_result (left_out k) end h = hidden_from (left_out k) (result_shape (left_out k)) end h
-hidden_result (structure ts) end h = hidden_from (structure ts) (result_shape (structure ts)) end h
-hidden_result (array ts n) end h = hidden_from (array ts n) (result_shape (array ts n)) end h
+hidden_result t end h = hidden_from t (result_shape t) end h
 
 direct_result : (t : Tree) (end : ℕ) (pieces : List Piece) → ¬ (t ≡ void) → spot_of untouched t (result_shape t) ≡ in_pieces pieces → result_at start end t (result_spot_of t) ≡ DirectRes pieces
 direct_result void end pieces some h = absurd (some refl)
-direct_result (scalar s) end pieces some h = ap (λ x. result_at start end (scalar s) (result_from x)) h
-direct_result (left_out k) end pieces some h = ap (λ x. result_at start end (left_out k) (result_from x)) h
-direct_result (structure ts) end pieces some h = ap (λ x. result_at start end (structure ts) (result_from x)) h
-direct_result (array ts n) end pieces some h = ap (λ x. result_at start end (array ts n) (result_from x)) h
+direct_result t end pieces some h = ap (λ x. result_at start end t (result_from x)) h
 
 result_is_from : (t : Tree) (x : Shape) (end : ℕ) (r : Res) → ((pieces : List Piece) → spot_of untouched t x ≡ in_pieces pieces → r ≡ DirectRes pieces) → (is_by_reference x ≡ true → r ≡ Hidden (G (integer_register 0)) (start end t)) → r ≡ result_at start end t (result_from (spot_of untouched t x))
-result_is_from t OneF end r direct hidden = direct _ refl
-result_is_from t TwoF end r direct hidden = direct _ refl
-result_is_from t FI end r direct hidden = direct _ refl
-result_is_from t IF end r direct hidden = direct _ refl
-result_is_from t (Words n) end r direct hidden = direct _ refl
 result_is_from t ByRef end r direct hidden = hidden refl
+result_is_from t _ end r direct hidden = direct _ refl
 
 -- a result that is absent, or direct, or hidden, as its type says
 result_is : (t : Tree) (end : ℕ) (r : Res) → (t ≡ void → r ≡ Nothing) → (¬ (t ≡ void) → (pieces : List Piece) → spot_of untouched t (result_shape t) ≡ in_pieces pieces → r ≡ DirectRes pieces) → (is_by_reference (result_shape t) ≡ true → r ≡ Hidden (G (integer_register 0)) (start end t)) → r ≡ result_at start end t (result_spot_of t)
 result_is void end r none direct hidden = none refl
-result_is (scalar s) end r none direct hidden =
-    result_is_from (scalar s) (result_shape (scalar s)) end r (direct (λ e. cc)) hidden
-result_is (left_out k) end r none direct hidden =
-    result_is_from (left_out k) (result_shape (left_out k)) end r (direct (λ e. cc)) hidden
-result_is (structure ts) end r none direct hidden =
-    result_is_from (structure ts) (result_shape (structure ts)) end r (direct (λ e. cc)) hidden
-result_is (array ts n) end r none direct hidden =
-    result_is_from (array ts n) (result_shape (array ts n)) end r (direct (λ e. cc)) hidden
+result_is t end r none direct hidden = result_is_from t (result_shape t) end r (direct (λ e. cc)) hidden
 
 -- ---- the ends leave no choice
 

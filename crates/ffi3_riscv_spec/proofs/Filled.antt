@@ -1,7 +1,7 @@
 -- What fills the rest of each place is what the standard says: a lone narrow integer is extended, a float in a floating register is NaN-boxed.
 use Rattle.std.proofs.Common.{◌≡◌, ℕ, ◌+◌, ◌-◌, ◌*◌, Bool, true, false, cond, ltb, List, [], ◌∷◌, length, refl, arith}
 use Rattle.std.specs.Prelude.{Option}
-use Rattle.ffi3_type_spec.specs.Tree.{Tree, void, scalar, left_out, structure, Scalar, u8, s8, u16, s16, u32, s32, u64, s64, u128, s128, float, double, pointer, x87, binary128, array}
+use Rattle.ffi3_type_spec.specs.Tree.{Tree, scalar, Scalar, u8, float, double}
 use Rattle.ffi3_type_spec.specs.Layout.{Leaf, leaves_of, leaf_at, size_of, scalar_size}
 use Rattle.ffi3_type_spec.specs.Integer.{is_floating, is_integer}
 use Rattle.ffi3_place_spec.specs.declared.Loc.{Loc}
@@ -21,53 +21,22 @@ use Rattle.ffi3_riscv_spec.proofs.Shapes.{Suits, HasFloats, passed_suits, passed
 
 no_integer : (s : Scalar) → is_floating s ≡ true → is_integer s ≡ true → ⊥
 no_integer u8 f i = cc
-no_integer s8 f i = cc
-no_integer u16 f i = cc
-no_integer s16 f i = cc
-no_integer u32 f i = cc
-no_integer s32 f i = cc
-no_integer u64 f i = cc
-no_integer s64 f i = cc
-no_integer u128 f i = cc
-no_integer s128 f i = cc
-no_integer float f i = cc
-no_integer double f i = cc
-no_integer pointer f i = cc
-no_integer x87 f i = cc
-no_integer binary128 f i = cc
+no_integer _ f i = cc
 
 first_floats : (t : Tree) → is_floating (leaf_at t 0).kind ≡ true → is_narrow_integer t ≡ true → ⊥
-first_floats void f n = cc
 first_floats (scalar s) f n = no_integer s f (and_left (is_integer s) _ n)
-first_floats (left_out k) f n = cc
-first_floats (structure ts) f n = cc
-first_floats (array ts count) f n = cc
+first_floats _ f n = cc
 
 has_two : (t : Tree) → length (leaves_of t) ≡ 2 → is_narrow_integer t ≡ true → ⊥
-has_two void e n = cc
 has_two (scalar s) e n = absurd (omega (arith, e))
-has_two (left_out k) e n = cc
-has_two (structure ts) e n = cc
-has_two (array ts count) e n = cc
+has_two _ e n = cc
 
 -- ---- pieces
 
 float_boxed : (s : Scalar) → is_floating s ≡ true → scalar_size s ≡ 4 → boxing s ≡ Boxed
-float_boxed u8 f e = cc
-float_boxed s8 f e = cc
-float_boxed u16 f e = cc
-float_boxed s16 f e = cc
-float_boxed u32 f e = cc
-float_boxed s32 f e = cc
-float_boxed u64 f e = cc
-float_boxed s64 f e = cc
-float_boxed u128 f e = cc
-float_boxed s128 f e = cc
 float_boxed float f e = refl
 float_boxed double f e = absurd (omega (arith, e))
-float_boxed pointer f e = cc
-float_boxed x87 f e = cc
-float_boxed binary128 f e = cc
+float_boxed _ f e = cc
 
 module _ (t : Tree) (wide : is_narrow_integer t ≡ true → ⊥) where
   floating_filled : (f : ℕ) (l : Leaf) → is_floating l.kind ≡ true → IsFilled riscv t (floating_piece f l)

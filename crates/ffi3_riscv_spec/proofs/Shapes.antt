@@ -2,7 +2,7 @@
 use Rattle.std.proofs.Common.{◌≡◌, ℕ, ◌+◌, ◌/◌, ◌≤◌, Bool, true, false, ◌&&◌, cond, leb, List, [], ◌∷◌, length, refl, arith}
 use Rattle.std.specs.Prelude.{⊤, slice_index_or}
 use Rattle.std.proofs.lemmas.Bool.{leb-true}
-use Rattle.ffi3_type_spec.specs.Tree.{Tree, Scalar, u8, u128, s128, x87, binary128}
+use Rattle.ffi3_type_spec.specs.Tree.{Tree, Scalar, u8, float, double}
 use Rattle.ffi3_type_spec.specs.Layout.{Leaf, leaves_of, size_of, scalar_size}
 use Rattle.ffi3_type_spec.specs.Integer.{is_floating, is_integer}
 use Rattle.ffi3_place_spec.proofs.Tests.{and_left, and_right}
@@ -38,23 +38,28 @@ choose : (P : Shape → Type 0) (b : Bool) (x y : Shape) → P x → P y → P (
 choose P true x y h k = h
 choose P false x y h k = k
 
-leaves_suit : (n : ℕ) (otherwise : Shape) (ls : List Leaf) → Suits n ls otherwise → Suits n ls (shape_of_leaves otherwise ls)
-leaves_suit n otherwise [] h = h
-leaves_suit n otherwise (a ∷ []) h =
-    choose (Suits n (a ∷ [])) (is_floating a.kind) OneF otherwise refl h
-leaves_suit n otherwise (a ∷ b ∷ []) h =
-    choose (Suits n (a ∷ b ∷ [])) (is_floating a.kind && is_floating b.kind) TwoF _ refl
-    (choose (Suits n (a ∷ b ∷ [])) (is_floating a.kind && is_word_integer b.kind) FI _ refl
-    (choose (Suits n (a ∷ b ∷ [])) (is_word_integer a.kind && is_floating b.kind) IF otherwise refl h))
-leaves_suit n otherwise (a ∷ b ∷ c ∷ ls) h = h
+choose_if : (P : Shape → Type 0) (b : Bool) (x y : Shape) → (b ≡ true → P x) → P y → P (cond {A = Shape} b x y)
+choose_if P true x y h k = h refl
+choose_if P false x y h k = k
 
-pub shape_suits : (t : Tree) → Suits (size_of t) (leaves_of t) (shape_of t)
-shape_suits t =
-    leaves_suit (size_of t) (integer_shape t) (leaves_of t) (integer_suits t)
+-- what holds of each shape with a floating register, where the leaves are of its kinds, and of the integer shape, holds of the one by which a value is passed
+module _ (P : List Leaf → Shape → Type 0) (one : (a : Leaf) → is_floating a.kind ≡ true → P (a ∷ []) OneF) (two : (a b : Leaf) → is_floating a.kind ≡ true → is_floating b.kind ≡ true → P (a ∷ b ∷ []) TwoF) (floating_first : (a b : Leaf) → is_floating a.kind ≡ true → is_word_integer b.kind ≡ true → P (a ∷ b ∷ []) FI) (integer_first : (a b : Leaf) → is_word_integer a.kind ≡ true → is_floating b.kind ≡ true → P (a ∷ b ∷ []) IF) where
+  leaves_by : (otherwise : Shape) (ls : List Leaf) → P ls otherwise → P ls (shape_of_leaves otherwise ls)
+  leaves_by otherwise [] h = h
+  leaves_by otherwise (a ∷ []) h = choose_if (P (a ∷ [])) (is_floating a.kind) OneF otherwise (one a) h
+  leaves_by otherwise (a ∷ b ∷ []) h =
+      choose_if (P (a ∷ b ∷ [])) (is_floating a.kind && is_floating b.kind) TwoF _ (λ e. two a b (and_left (is_floating a.kind) _ e) (and_right (is_floating a.kind) _ e))
+      (choose_if (P (a ∷ b ∷ [])) (is_floating a.kind && is_word_integer b.kind) FI _ (λ e. floating_first a b (and_left (is_floating a.kind) _ e) (and_right (is_floating a.kind) _ e))
+      (choose_if (P (a ∷ b ∷ [])) (is_word_integer a.kind && is_floating b.kind) IF otherwise (λ e. integer_first a b (and_left (is_word_integer a.kind) _ e) (and_right (is_word_integer a.kind) _ e)) h))
+  leaves_by otherwise (a ∷ b ∷ c ∷ ls) h = h
+
+  passed_by : (t : Tree) → P (leaves_of t) (integer_shape t) → (before : TakenWords) (fixed : Bool) → P (leaves_of t) (passed_as before fixed t)
+  passed_by t h before fixed =
+      choose (P (leaves_of t)) (fixed && registers_suffice before (shape_of t)) (shape_of t) (integer_shape t) (leaves_by (integer_shape t) (leaves_of t) h) h
 
 pub passed_suits : (before : TakenWords) (fixed : Bool) (t : Tree) → Suits (size_of t) (leaves_of t) (passed_as before fixed t)
 passed_suits before fixed t =
-    choose (Suits (size_of t) (leaves_of t)) (fixed && registers_suffice before (shape_of t)) (shape_of t) (integer_shape t) (shape_suits t) (integer_suits t)
+    passed_by (Suits (size_of t)) (λ a e. refl) (λ a b e f. refl) (λ a b e f. refl) (λ a b e f. refl) t (integer_suits t) before fixed
 
 -- the leaves that stand in floating registers are floats and doubles
 abbrev pub HasFloats : List Leaf → Shape → Type 0
@@ -63,22 +68,7 @@ HasFloats ls TwoF =
     (is_floating (leaf ls 0).kind ≡ true) × (is_floating (leaf ls 1).kind ≡ true)
 HasFloats ls FI = is_floating (leaf ls 0).kind ≡ true
 HasFloats ls IF = is_floating (leaf ls 1).kind ≡ true
-HasFloats ls (Words n) = ⊤
-HasFloats ls ByRef = ⊤
-
-choose_if : (P : Shape → Type 0) (b : Bool) (x y : Shape) → (b ≡ true → P x) → P y → P (cond {A = Shape} b x y)
-choose_if P true x y h k = h refl
-choose_if P false x y h k = k
-
-leaves_float : (otherwise : Shape) (ls : List Leaf) → HasFloats ls otherwise → HasFloats ls (shape_of_leaves otherwise ls)
-leaves_float otherwise [] h = h
-leaves_float otherwise (a ∷ []) h =
-    choose_if (HasFloats (a ∷ [])) (is_floating a.kind) OneF otherwise (λ e. e) h
-leaves_float otherwise (a ∷ b ∷ []) h =
-    choose_if (HasFloats (a ∷ b ∷ [])) (is_floating a.kind && is_floating b.kind) TwoF _ (λ e. (and_left (is_floating a.kind) (is_floating b.kind) e, and_right (is_floating a.kind) (is_floating b.kind) e))
-    (choose_if (HasFloats (a ∷ b ∷ [])) (is_floating a.kind && is_word_integer b.kind) FI _ (λ e. and_left (is_floating a.kind) (is_word_integer b.kind) e)
-    (choose_if (HasFloats (a ∷ b ∷ [])) (is_word_integer a.kind && is_floating b.kind) IF otherwise (λ e. and_right (is_word_integer a.kind) (is_floating b.kind) e) h))
-leaves_float otherwise (a ∷ b ∷ c ∷ ls) h = h
+HasFloats ls _ = ⊤
 
 integer_floats : (t : Tree) → HasFloats (leaves_of t) (integer_shape t)
 integer_floats t =
@@ -86,16 +76,14 @@ integer_floats t =
 
 pub passed_floats : (before : TakenWords) (fixed : Bool) (t : Tree) → HasFloats (leaves_of t) (passed_as before fixed t)
 passed_floats before fixed t =
-    choose (HasFloats (leaves_of t)) (fixed && registers_suffice before (shape_of t)) (shape_of t) (integer_shape t) (leaves_float (integer_shape t) (leaves_of t) (integer_floats t)) (integer_floats t)
+    passed_by HasFloats (λ a e. e) (λ a b e f. (e, f)) (λ a b e f. e) (λ a b e f. f) t (integer_floats t) before fixed
 
 -- ---- leaves that fit a register
 
 floating_small : (s : Scalar) → is_floating s ≡ true → scalar_size s ≤ 8
-floating_small u128 e = cc
-floating_small s128 e = cc
-floating_small x87 e = cc
-floating_small binary128 e = cc
-floating_small _ e = omega arith
+floating_small float e = omega arith
+floating_small double e = omega arith
+floating_small _ e = cc
 
 word_small : (s : Scalar) → is_word_integer s ≡ true → scalar_size s ≤ 8
 word_small s e = leb-true (scalar_size s) 8 (and_right (is_integer s) (leb (scalar_size s) 8) e)
@@ -109,18 +97,7 @@ HasSmall ls OneF = IsSmall (leaf ls 0)
 HasSmall ls TwoF = IsSmall (leaf ls 0) × IsSmall (leaf ls 1)
 HasSmall ls FI = IsSmall (leaf ls 0) × IsSmall (leaf ls 1)
 HasSmall ls IF = IsSmall (leaf ls 0) × IsSmall (leaf ls 1)
-HasSmall ls (Words n) = ⊤
-HasSmall ls ByRef = ⊤
-
-leaves_small : (otherwise : Shape) (ls : List Leaf) → HasSmall ls otherwise → HasSmall ls (shape_of_leaves otherwise ls)
-leaves_small otherwise [] h = h
-leaves_small otherwise (a ∷ []) h =
-    choose_if (HasSmall (a ∷ [])) (is_floating a.kind) OneF otherwise (floating_small a.kind) h
-leaves_small otherwise (a ∷ b ∷ []) h =
-    choose_if (HasSmall (a ∷ b ∷ [])) (is_floating a.kind && is_floating b.kind) TwoF _ (λ e. (floating_small a.kind (and_left (is_floating a.kind) (is_floating b.kind) e), floating_small b.kind (and_right (is_floating a.kind) (is_floating b.kind) e)))
-    (choose_if (HasSmall (a ∷ b ∷ [])) (is_floating a.kind && is_word_integer b.kind) FI _ (λ e. (floating_small a.kind (and_left (is_floating a.kind) (is_word_integer b.kind) e), word_small b.kind (and_right (is_floating a.kind) (is_word_integer b.kind) e)))
-    (choose_if (HasSmall (a ∷ b ∷ [])) (is_word_integer a.kind && is_floating b.kind) IF otherwise (λ e. (word_small a.kind (and_left (is_word_integer a.kind) (is_floating b.kind) e), floating_small b.kind (and_right (is_word_integer a.kind) (is_floating b.kind) e))) h))
-leaves_small otherwise (a ∷ b ∷ c ∷ ls) h = h
+HasSmall ls _ = ⊤
 
 integer_small : (t : Tree) → HasSmall (leaves_of t) (integer_shape t)
 integer_small t =
@@ -128,7 +105,7 @@ integer_small t =
 
 pub passed_small : (before : TakenWords) (fixed : Bool) (t : Tree) → HasSmall (leaves_of t) (passed_as before fixed t)
 passed_small before fixed t =
-    choose (HasSmall (leaves_of t)) (fixed && registers_suffice before (shape_of t)) (shape_of t) (integer_shape t) (leaves_small (integer_shape t) (leaves_of t) (integer_small t)) (integer_small t)
+    passed_by HasSmall (λ a e. floating_small a.kind e) (λ a b e f. (floating_small a.kind e, floating_small b.kind f)) (λ a b e f. (floating_small a.kind e, word_small b.kind f)) (λ a b e f. (word_small a.kind e, floating_small b.kind f)) t (integer_small t) before fixed
 
 -- registers are free for the shape
 abbrev pub HasRoom : TakenWords → Shape → Type 0
@@ -136,8 +113,7 @@ HasRoom before OneF = before.floats + 1 ≤ 8
 HasRoom before TwoF = before.floats + 2 ≤ 8
 HasRoom before FI = (before.floats + 1 ≤ 8) × (before.words + 1 ≤ 8)
 HasRoom before IF = (before.floats + 1 ≤ 8) × (before.words + 1 ≤ 8)
-HasRoom before (Words n) = ⊤
-HasRoom before ByRef = ⊤
+HasRoom before _ = ⊤
 
 both_free : (f w : ℕ) → (leb f 8 && leb w 8) ≡ true → (f ≤ 8) × (w ≤ 8)
 both_free f w h = (leb-true f 8 (and_left (leb f 8) (leb w 8) h), leb-true w 8 (and_right (leb f 8) (leb w 8) h))
@@ -147,8 +123,7 @@ room_of before OneF h = leb-true (before.floats + 1) 8 h
 room_of before TwoF h = leb-true (before.floats + 2) 8 h
 room_of before FI h = both_free (before.floats + 1) (before.words + 1) h
 room_of before IF h = both_free (before.floats + 1) (before.words + 1) h
-room_of before (Words n) h = tt
-room_of before ByRef h = tt
+room_of before _ h = tt
 
 integer_room : (before : TakenWords) (t : Tree) → HasRoom before (integer_shape t)
 integer_room before t =
@@ -162,12 +137,8 @@ pub passed_has_room : (before : TakenWords) (fixed : Bool) (t : Tree) → HasRoo
 passed_has_room before fixed t = room_if before fixed t (fixed && registers_suffice before (shape_of t)) refl
 
 few_words : (n : ℕ) (ls : List Leaf) (shape : Shape) → Suits n ls shape → words_of shape ≤ 2
-few_words n ls OneF h = omega arith
-few_words n ls TwoF h = omega arith
-few_words n ls FI h = omega arith
-few_words n ls IF h = omega arith
 few_words n ls (Words count) h = omega (arith, h.0, h.1)
-few_words n ls ByRef h = omega arith
+few_words n ls _ h = omega arith
 
 pub passed_few : (before : TakenWords) (fixed : Bool) (t : Tree) → words_of (passed_as before fixed t) ≤ 2
 passed_few before fixed t = few_words (size_of t) (leaves_of t) (passed_as before fixed t) (passed_suits before fixed t)

@@ -3,7 +3,7 @@ use Rattle.std.proofs.Common.{◌≡◌, ℕ, zero, suc, ◌+◌, ◌-◌, ◌*�
 use Rattle.std.specs.Prelude.{Option}
 use Rattle.std.specs.List.{AllByRecursion, flat_map}
 use Rattle.std.proofs.lemmas.Bool.{ltb-true, ltb-false}
-use Rattle.ffi3_type_spec.specs.Tree.{Tree, void, scalar, left_out, structure, array}
+use Rattle.ffi3_type_spec.specs.Tree.{Tree, void}
 use Rattle.ffi3_type_spec.specs.Layout.{size_of}
 use Rattle.ffi3_type_spec.specs.Signature.{Signature}
 use Rattle.ffi3_type_spec.specs.declared.Isa.TheVariants as isa
@@ -155,21 +155,14 @@ places_chain start copies fixed end i (t ∷ ts) =
 -- A result is nowhere, or as its place as a first named argument says.
 result_cases : (P : ResultSpot → Type 0) (t : Tree) → (t ≡ void → P nowhere) → P (result_from (spot_of untouched t (result_shape t))) → P (result_spot_of t)
 result_cases P void none h = none refl
-result_cases P (scalar s) none h = h
-result_cases P (left_out k) none h = h
-result_cases P (structure ts) none h = h
-result_cases P (array ts n) none h = h
+result_cases P _ none h = h
 
 abbrev first_taken : Shape → TakenWords
 first_taken shape = record { words = cond (is_by_reference shape) 1 0; floats = 0 }
 
 hidden_of : (t : Tree) (buffer : ℕ) (shape : Shape) → WordsChain (taken untouched) (hidden_locs (result_at riscv.copy_start buffer t (result_from (spot_of untouched t shape)))) (taken (first_taken shape))
-hidden_of t buffer OneF = at_most_self (taken untouched)
-hidden_of t buffer TwoF = at_most_self (taken untouched)
-hidden_of t buffer FI = at_most_self (taken untouched)
-hidden_of t buffer IF = at_most_self (taken untouched)
-hidden_of t buffer (Words n) = at_most_self (taken untouched)
 hidden_of t buffer ByRef = general_first 0 0 [] (taken_of 1 0) (omega arith) (at_most_self (taken_of 1 0))
+hidden_of t buffer _ = at_most_self (taken untouched)
 
 hidden_chain : (t : Tree) (buffer : ℕ) → WordsChain (taken untouched) (hidden_locs (result_at riscv.copy_start buffer t (result_spot_of t))) (taken (taken_at_first t))
 hidden_chain t buffer =
@@ -260,12 +253,8 @@ module _ (t : Tree) (buffer : ℕ) where
       result_cases (λ spot. ResultIsFilled riscv t (result_at riscv.copy_start buffer t spot)) t (λ e. tt) (filled_of t buffer (spot_of untouched t shape) fills)
 
 hidden_whole_of : (t : Tree) (buffer : ℕ) (shape : Shape) → AllByRecursion IsWhole (hidden_locs (result_at riscv.copy_start buffer t (result_from (spot_of untouched t shape))))
-hidden_whole_of t buffer OneF = tt
-hidden_whole_of t buffer TwoF = tt
-hidden_whole_of t buffer FI = tt
-hidden_whole_of t buffer IF = tt
-hidden_whole_of t buffer (Words n) = tt
 hidden_whole_of t buffer ByRef = (refl, tt)
+hidden_whole_of t buffer _ = tt
 
 hidden_whole : (t : Tree) (buffer : ℕ) → AllByRecursion IsWhole (hidden_locs (result_at riscv.copy_start buffer t (result_spot_of t)))
 hidden_whole t buffer =
@@ -309,11 +298,7 @@ in_floating_results k h =
 
 few_floats : (shape : Shape) → floats_of shape ≤ 2
 few_floats OneF = omega arith
-few_floats TwoF = omega arith
-few_floats FI = omega arith
-few_floats IF = omega arith
-few_floats (Words n) = omega arith
-few_floats ByRef = omega arith
+few_floats _ = omega arith
 
 no_stack_taken : (w : ℕ) → w ≤ 2 → 8 * (0 + w - 8) ≡ 0
 no_stack_taken w h = omega (arith, h)
@@ -327,12 +312,8 @@ result_loaded s =
     result_is t (frame_copies_end riscv s) (AllByRecursion (IsOneOf (result_loads isa.Riscv))) tt (chain_in integer_register floating_register 8 8 (result_loads isa.Riscv) (taken (taken_by_shape untouched shape)) (no_stack_taken (words_of shape) words) (λ k h. in_results k (omega (arith, h, words))) (λ k h. in_floating_results k (omega (arith, h, floats))) (taken untouched) _ (result_chain t (frame_copies_end riscv s)))
 
 hidden_saved_if : (t : Tree) (buffer : ℕ) (shape : Shape) → AllByRecursion (IsOneOf (G 10 ∷ [])) (hidden_locs (result_at riscv.copy_start buffer t (result_from (spot_of untouched t shape))))
-hidden_saved_if t buffer OneF = tt
-hidden_saved_if t buffer TwoF = tt
-hidden_saved_if t buffer FI = tt
-hidden_saved_if t buffer IF = tt
-hidden_saved_if t buffer (Words n) = tt
 hidden_saved_if t buffer ByRef = (one_of (G 10 ∷ []) (G 10) refl, tt)
+hidden_saved_if t buffer _ = tt
 
 pub hidden_saved : (s : Signature) → AllByRecursion (IsOneOf (G 10 ∷ [])) (hidden_locs (plan_of riscv s).res)
 hidden_saved s =

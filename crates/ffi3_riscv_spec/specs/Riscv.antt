@@ -122,6 +122,7 @@ boxing pointer = Free
 boxing x87 = Free
 boxing binary128 = Free
 
+-- a leaf in floating argument register number f
 abbrev pub floating_piece : ℕ → Leaf → Piece
 floating_piece f l = leaf_piece (F (floating_register f)) (boxing l.kind) l
 

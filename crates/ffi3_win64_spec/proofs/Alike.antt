@@ -8,7 +8,7 @@ use Rattle.ffi3_place_spec.specs.declared.Loc.TheVariants.{G}
 use Rattle.ffi3_place_spec.specs.declared.Ext.TheVariants.{Free}
 use Rattle.ffi3_place_spec.specs.Standard.{in_pieces, by_reference, in_result_pieces, in_buffer}
 use Rattle.ffi3_place_spec.specs.Alike.{AreAlike, same_type, same_layout, AllAlike, SignaturesAreAlike, GoesByLayout}
-use Rattle.ffi3_place_spec.proofs.Alike.{plan_alike}
+use Rattle.ffi3_place_spec.proofs.Alike.{all_alike, plan_alike}
 use Rattle.ffi3_win64_spec.specs.Win64.{win64, is_whole_size, position_place, spot_at, spots_from, first_position, result_spot_of, stack_of, placing_of}
 
 -- ---- one type
@@ -32,17 +32,13 @@ result_alike t u (same_layout e) =
 -- ---- all arguments
 
 spots_alike : (variadic : Bool) (p : ℕ) (ts us : List Tree) → AllAlike ts us → spots_from variadic p ts ≡ spots_from variadic p us
-spots_alike variadic p [] [] h = refl
-spots_alike variadic p [] (u ∷ us) h = absurd h
-spots_alike variadic p (t ∷ ts) [] h = absurd h
-spots_alike variadic p (t ∷ ts) (u ∷ us) h =
-    ap (λ s. s ∷ spots_from variadic (p + 1) ts) (spot_alike variadic p t u h.0) ∙ ap (λ ss. spot_at variadic p u ∷ ss) (spots_alike variadic (p + 1) ts us h.1)
+spots_alike variadic p ts us h =
+    all_alike (λ (ts : List Tree) (p : ℕ). spots_from variadic p ts)
+    (λ t u ts us here rest p. ap (λ s. s ∷ spots_from variadic (p + 1) ts) (spot_alike variadic p t u here) ∙ ap (λ ss. spot_at variadic p u ∷ ss) (rest (p + 1))) ts us h p
 
 length_alike : (ts us : List Tree) → AllAlike ts us → length ts ≡ length us
-length_alike [] [] h = refl
-length_alike [] (u ∷ us) h = absurd h
-length_alike (t ∷ ts) [] h = absurd h
-length_alike (t ∷ ts) (u ∷ us) h = ap suc (length_alike ts us h.1)
+length_alike ts us h =
+    all_alike (λ (ts : List Tree) (n : ℕ). length ts) (λ t u ts us here rest n. ap suc (rest n)) ts us h 0
 
 placing_alike : (s r : Signature) → SignaturesAreAlike s r → placing_of s ≡ placing_of r
 placing_alike s r h =

@@ -2,7 +2,7 @@
 use Rattle.std.proofs.Common.{◌≡◌, ℕ, ◌+◌, ◌*◌, ◌≤◌, Bool, true, false, not, ◌&&◌, ltb, cond, List, [], ◌∷◌, refl, arith}
 use Rattle.std.specs.List.{AllByRecursion}
 use Rattle.std.proofs.lemmas.Bool.Decides.{nat_tests}
-use Rattle.ffi3_type_spec.specs.Tree.{Tree, void, scalar, left_out, structure, array, Scalar, u8, s8, u16, s16, u32, s32}
+use Rattle.ffi3_type_spec.specs.Tree.{Tree, scalar, Scalar, u8, s8, u16, s16, u32, s32}
 use Rattle.ffi3_type_spec.specs.Layout.{size_of}
 use Rattle.ffi3_type_spec.specs.Integer.{is_floating_type}
 use Rattle.ffi3_place_spec.specs.declared.Loc.{Loc}
@@ -34,11 +34,8 @@ scalar_extended _ at is = tt
 
 -- only a lone narrow integer is extended
 whole_extended : (t : Tree) (at : Loc) → IsWhole at → IsExtended t (whole at t) (widening t)
-whole_extended void at is = tt
 whole_extended (scalar s) at is = scalar_extended s at is
-whole_extended (left_out k) at is = tt
-whole_extended (structure ts) at is = tt
-whole_extended (array ts n) at is = tt
+whole_extended _ at is = tt
 
 whole_are_pieces : (t : Tree) → size_of t ≤ 8 → (ls : List Loc) → AllByRecursion IsWhole ls → AllByRecursion (IsPieceOf t) (whole_in t ls)
 whole_are_pieces t h [] are = tt

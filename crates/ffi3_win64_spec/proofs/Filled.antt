@@ -1,7 +1,7 @@
 -- The rest of each place is filled as the standard says: a lone narrow integer is extended by its sign, all else is free.
 use Rattle.std.proofs.Common.{◌≡◌, ℕ, ◌+◌, ◌*◌, Bool, true, false, ◌&&◌, ltb, cond, List, [], ◌∷◌, refl}
 use Rattle.std.specs.List.{AllByRecursion}
-use Rattle.ffi3_type_spec.specs.Tree.{Tree, void, scalar, left_out, structure, array, Scalar, u8, s8, u16, s16, u32, s32, u64, s64, u128, s128, float, double, pointer, x87, binary128}
+use Rattle.ffi3_type_spec.specs.Tree.{Tree, scalar, Scalar, float, double}
 use Rattle.ffi3_type_spec.specs.Integer.{is_floating_type}
 use Rattle.ffi3_place_spec.specs.declared.Loc.{Loc}
 use Rattle.ffi3_place_spec.specs.declared.Loc.TheVariants.{G, F, S}
@@ -24,26 +24,11 @@ plain_filled t at plain wide =
 scalar_filled : (s : Scalar) (at : Loc) → IsWhole at → is_floating_type (scalar s) ≡ true → IsFilled win64 (scalar s) (whole at (scalar s))
 scalar_filled float at wide e = record { narrow = λ h _. cc; single = λ h k. refl; narrow_place = no_narrow_place at wide }
 scalar_filled double at wide e = record { narrow = λ h _. cc; single = λ h k. refl; narrow_place = no_narrow_place at wide }
-scalar_filled u8 at wide e = cc
-scalar_filled s8 at wide e = cc
-scalar_filled u16 at wide e = cc
-scalar_filled s16 at wide e = cc
-scalar_filled u32 at wide e = cc
-scalar_filled s32 at wide e = cc
-scalar_filled u64 at wide e = cc
-scalar_filled s64 at wide e = cc
-scalar_filled u128 at wide e = cc
-scalar_filled s128 at wide e = cc
-scalar_filled pointer at wide e = cc
-scalar_filled x87 at wide e = cc
-scalar_filled binary128 at wide e = cc
+scalar_filled _ at wide e = cc
 
 floating_filled : (t : Tree) (at : Loc) → IsWhole at → is_floating_type t ≡ true → IsFilled win64 t (whole at t)
-floating_filled void at wide e = cc
 floating_filled (scalar s) at wide e = scalar_filled s at wide e
-floating_filled (left_out k) at wide e = cc
-floating_filled (structure ts) at wide e = cc
-floating_filled (array ts n) at wide e = cc
+floating_filled _ at wide e = cc
 
 position_is_plain : (p : ℕ) → is_floating_place (position_place p) ≡ false
 position_is_plain p = by_test (ltb p 4)

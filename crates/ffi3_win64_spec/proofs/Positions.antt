@@ -2,7 +2,7 @@
 use Rattle.std.proofs.Common.{◌≡◌, ℕ, zero, suc, ◌+◌, ◌<◌, ◌≤◌, Bool, true, false, ◌&&◌, ltb, cond, List, [], ◌∷◌, take, length, ap, subst, sym, ◌∙◌, refl, arith}
 use Rattle.std.specs.Prelude.{Some, slice_get, is_some}
 use Rattle.std.proofs.lemmas.Bool.{lt-ltb}
-use Rattle.ffi3_type_spec.specs.Tree.{Tree, void, scalar, left_out, structure, array, tree_at}
+use Rattle.ffi3_type_spec.specs.Tree.{Tree, void, tree_at}
 use Rattle.ffi3_type_spec.specs.Layout.{size_of, least_multiple}
 use Rattle.ffi3_type_spec.specs.Signature.{Signature}
 use Rattle.ffi3_type_spec.specs.Integer.{is_floating_type}
@@ -91,25 +91,13 @@ place_if e c t at pieces false h = refl
 
 pub spot_of_copied : (t : Tree) → is_copied t ≡ true → result_spot_of t ≡ in_buffer (position_place 0)
 spot_of_copied void h = cc
-spot_of_copied (scalar s) h =
-    ap (λ b. cond b (in_buffer (position_place 0)) (in_result_pieces (whole (result_place (scalar s)) (scalar s) ∷ []))) h
-spot_of_copied (left_out k) h =
-    ap (λ b. cond b (in_buffer (position_place 0)) (in_result_pieces (whole (result_place (left_out k)) (left_out k) ∷ []))) h
-spot_of_copied (structure ts) h =
-    ap (λ b. cond b (in_buffer (position_place 0)) (in_result_pieces (whole (result_place (structure ts)) (structure ts) ∷ []))) h
-spot_of_copied (array ts n) h =
-    ap (λ b. cond b (in_buffer (position_place 0)) (in_result_pieces (whole (result_place (array ts n)) (array ts n) ∷ []))) h
+spot_of_copied t h =
+    ap (λ b. cond b (in_buffer (position_place 0)) (in_result_pieces (whole (result_place t) t ∷ []))) h
 
 spot_of_register : (t : Tree) → ¬ (t ≡ void) → is_copied t ≡ false → result_spot_of t ≡ in_result_pieces (whole (result_place t) t ∷ [])
 spot_of_register void some h = absurd (some refl)
-spot_of_register (scalar s) some h =
-    ap (λ b. cond b (in_buffer (position_place 0)) (in_result_pieces (whole (result_place (scalar s)) (scalar s) ∷ []))) h
-spot_of_register (left_out k) some h =
-    ap (λ b. cond b (in_buffer (position_place 0)) (in_result_pieces (whole (result_place (left_out k)) (left_out k) ∷ []))) h
-spot_of_register (structure ts) some h =
-    ap (λ b. cond b (in_buffer (position_place 0)) (in_result_pieces (whole (result_place (structure ts)) (structure ts) ∷ []))) h
-spot_of_register (array ts n) some h =
-    ap (λ b. cond b (in_buffer (position_place 0)) (in_result_pieces (whole (result_place (array ts n)) (array ts n) ∷ []))) h
+spot_of_register t some h =
+    ap (λ b. cond b (in_buffer (position_place 0)) (in_result_pieces (whole (result_place t) t ∷ []))) h
 
 buffer_rounds : (e : ℕ) (t : Tree) → round16 (buffer_end win64.copy_start e t (result_spot_of t)) ≡ round16 e + cond (is_copied t) (round16 (size_of t)) 0
 buffer_rounds e t =
@@ -118,25 +106,14 @@ buffer_rounds e t =
     (λ copied. more_where _ (round16 e) (round16 (size_of t)) (is_copied t) copied (round_behind e (size_of t)))
     (λ direct. none_where (round16 e) (round16 (size_of t)) (is_copied t) direct)
 
+either_copied : (a b d h : Res) (copied : Bool) → (copied ≡ false → a ≡ d) → (copied ≡ true → a ≡ h) → (copied ≡ false → b ≡ d) → (copied ≡ true → b ≡ h) → a ≡ b
+either_copied a b d h true da ha db hb = ha refl ∙ sym (hb refl)
+either_copied a b d h false da ha db hb = da refl ∙ sym (db refl)
+
 -- two results that both are as the type says
 same_result : (t : Tree) (d : Res) (h : Res) (a b : Res) → (t ≡ void → a ≡ Nothing) → (¬ (t ≡ void) → is_copied t ≡ false → a ≡ d) → (is_copied t ≡ true → a ≡ h) → (t ≡ void → b ≡ Nothing) → (¬ (t ≡ void) → is_copied t ≡ false → b ≡ d) → (is_copied t ≡ true → b ≡ h) → a ≡ b
-same_result t d h a b none_a direct_a hidden_a none_b direct_b hidden_b =
-    cases t none_a direct_a hidden_a none_b direct_b hidden_b
-  where
-    by_copied : (u : Tree) (c : Bool) → is_copied u ≡ c → ¬ (u ≡ void) → (¬ (u ≡ void) → is_copied u ≡ false → a ≡ d) → (is_copied u ≡ true → a ≡ h) → (¬ (u ≡ void) → is_copied u ≡ false → b ≡ d) → (is_copied u ≡ true → b ≡ h) → a ≡ b
-    by_copied u true e some da ha db hb = ha e ∙ sym (hb e)
-    by_copied u false e some da ha db hb = da some e ∙ sym (db some e)
-
-    cases : (u : Tree) → (u ≡ void → a ≡ Nothing) → (¬ (u ≡ void) → is_copied u ≡ false → a ≡ d) → (is_copied u ≡ true → a ≡ h) → (u ≡ void → b ≡ Nothing) → (¬ (u ≡ void) → is_copied u ≡ false → b ≡ d) → (is_copied u ≡ true → b ≡ h) → a ≡ b
-    cases void na da ha nb db hb = na refl ∙ sym (nb refl)
-    cases (scalar s) na da ha nb db hb =
-        by_copied (scalar s) (is_copied (scalar s)) refl (λ e. cc) da ha db hb
-    cases (left_out k) na da ha nb db hb =
-        by_copied (left_out k) (is_copied (left_out k)) refl (λ e. cc) da ha db hb
-    cases (structure ts) na da ha nb db hb =
-        by_copied (structure ts) (is_copied (structure ts)) refl (λ e. cc) da ha db hb
-    cases (array ts n) na da ha nb db hb =
-        by_copied (array ts n) (is_copied (array ts n)) refl (λ e. cc) da ha db hb
+same_result void d h a b na da ha nb db hb = na refl ∙ sym (nb refl)
+same_result t d h a b na da ha nb db hb = either_copied a b d h (is_copied t) (da (λ e. cc)) ha (db (λ e. cc)) hb
 
 -- ---- all of a call
 

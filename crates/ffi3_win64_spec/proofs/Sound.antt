@@ -4,7 +4,7 @@ use Rattle.std.specs.Prelude.{is_some}
 use Rattle.std.specs.List.{AllByRecursion, flat_map}
 use Rattle.std.proofs.lemmas.Bool.{ltb-true}
 use Rattle.ffi3_type_spec.specs.TargetIsa.{isa_of}
-use Rattle.ffi3_type_spec.specs.Tree.{Tree, void, scalar, left_out, structure, array}
+use Rattle.ffi3_type_spec.specs.Tree.{Tree, void}
 use Rattle.ffi3_type_spec.specs.Signature.{Signature}
 use Rattle.ffi3_type_spec.proofs.Layouts.{least_multiple-above}
 use Rattle.ffi3_type_spec.specs.Integer.{is_floating_type}
@@ -77,21 +77,13 @@ module _ (start : ℕ → Tree → ℕ) (variadic : Bool) where
 
 -- ---- where a result stands
 
-pub result_cases : (P : ResultSpot → Type 0) (t : Tree) → (t ≡ void → P not_passed) → (is_copied t ≡ true → P (in_buffer (position_place 0))) → (is_copied t ≡ false → P (in_result_pieces (whole (result_place t) t ∷ []))) → P (result_spot_of t)
-result_cases P t none hidden direct = cases t none hidden direct
-  where
-    by_copied : (u : Tree) (b : Bool) → is_copied u ≡ b → (is_copied u ≡ true → P (in_buffer (position_place 0))) → (is_copied u ≡ false → P (in_result_pieces (whole (result_place u) u ∷ []))) → P (cond b (in_buffer (position_place 0)) (in_result_pieces (whole (result_place u) u ∷ [])))
-    by_copied u true e hidden direct = hidden e
-    by_copied u false e hidden direct = direct e
+by_copied : (P : ResultSpot → Type 0) (t : Tree) (b : Bool) → is_copied t ≡ b → (is_copied t ≡ true → P (in_buffer (position_place 0))) → (is_copied t ≡ false → P (in_result_pieces (whole (result_place t) t ∷ []))) → P (cond b (in_buffer (position_place 0)) (in_result_pieces (whole (result_place t) t ∷ [])))
+by_copied P t true e hidden direct = hidden e
+by_copied P t false e hidden direct = direct e
 
-    cases : (u : Tree) → (u ≡ void → P not_passed) → (is_copied u ≡ true → P (in_buffer (position_place 0))) → (is_copied u ≡ false → P (in_result_pieces (whole (result_place u) u ∷ []))) → P (result_spot_of u)
-    cases void none hidden direct = none refl
-    cases (scalar s) none hidden direct = by_copied (scalar s) (is_copied (scalar s)) refl hidden direct
-    cases (left_out k) none hidden direct = by_copied (left_out k) (is_copied (left_out k)) refl hidden direct
-    cases (structure ts) none hidden direct =
-        by_copied (structure ts) (is_copied (structure ts)) refl hidden direct
-    cases (array ts n) none hidden direct =
-        by_copied (array ts n) (is_copied (array ts n)) refl hidden direct
+pub result_cases : (P : ResultSpot → Type 0) (t : Tree) → (t ≡ void → P not_passed) → (is_copied t ≡ true → P (in_buffer (position_place 0))) → (is_copied t ≡ false → P (in_result_pieces (whole (result_place t) t ∷ []))) → P (result_spot_of t)
+result_cases P void none hidden direct = none refl
+result_cases P t none hidden direct = by_copied P t (is_copied t) refl hidden direct
 
 -- the address of a hidden result has the first position
 hidden_chain : (s : Signature) → PlacesChain (before_position 0) (hidden_locs (plan_of win64 s).res) (before_position (first_position s.result_type))
