@@ -1,19 +1,19 @@
 -- What clap makes of words does not depend on where the program's texts lie in memory.
 use Rattle.std.proofs.Common.{◌≡◌, ◌∙◌, ◌||◌, ℕ, zero, suc, Bool, false, true, cond, List, [], ◌∷◌, drop, length, codes, Option, Some, None, is_some, refl, ap, ap₂}
-use Rattle.std.specs.Prelude.{encode_utf8, slice_get}
+use Rattle.std.specs.Prelude.{encode_utf8, slice_get, find}
 use Rattle.std.specs.List.{fold}
 use Rattle.std.specs.Str.{bytes_eq, chars}
 use Rattle.clap.specs.Lexer.{long_of, short_of}
 use Rattle.clap.specs.Words.{Text, Rule, Row, Shape, App, fault_of, subcommand_of, built}
 use Rattle.clap.specs.Kinds.{Kinds, or_else}
-use Rattle.clap.specs.Walk.{Held, Outcome, Step, Waiting, Walk, idle, option, positional, trailing, done, waits, plain, refused, walk, walked, walked_from, nothing_held, used, used_by_id, settled, settled_rows, reacted, long_met, arg_by_id, arg_by_index, arg_by_long, arg_by_short, attached_value, flag_met, option_met, takes_values, to_positional, bundle_met, bundle_step, short_met, next, subcommand, value, word_met, long_or_other, short_or_plain, after_flag, after_step, plain_word, option_word, with_default, rows_after}
-use Rattle.clap.specs.Simple.{argument_words, built_leaf, inherited, entered, names_of, rows_at, help_shape}
+use Rattle.clap.specs.Walk.{Held, Outcome, answers_to, Step, Waiting, Walk, idle, option, positional, trailing, done, waits, plain, refused, walk, walked, walked_from, nothing_held, used, used_by_id, settled, settled_rows, reacted, long_met, arg_by_id, arg_by_index, arg_by_long, arg_by_short, attached_value, flag_met, option_met, takes_values, to_positional, bundle_met, bundle_step, short_met, next, subcommand, value, word_met, long_or_other, short_or_plain, after_flag, after_step, plain_word, option_word, with_default, rows_after}
+use Rattle.clap.specs.Simple.{argument_words, entered, label_of, names_of, rows_at}
 use Rattle.std.specs.Option.{option_map, option_map_or}
 use Rattle.clap.specs.Faults.{bundle_fault, bundle_step_fault, defaults_fault, check_fault, flag_word_fault, flags_fault, level_fault, long_fault, option_fault, react_fault, settle_fault, short_fault, step_fault, turn_fault, use_fault, walk_fault, entered_fault, word_fault}
 use Rattle.clap.specs.declared.builder.value_parser.ValueParser.{ValueParser}
 use Rattle.clap.specs.declared.error.kind.ErrorKind.TheVariants.{TooManyValues}
-use Rattle.ffi3_cli_spec.specs.WordCommands.{Addresses, program, one_of_words, targets, arguments_shape, bench_shape, cdecl_shape, cplace_shape, explain_shape, layout_shape}
-use Rattle.ffi3_cli.proofs.Level.{above, built_beside, built_target, built_traced, built_with, help_alone, none_beside_help, none_beside_trace, trace_and_help}
+use Rattle.ffi3_cli_spec.specs.WordCommands.{Addresses, program, one_of_words, targets}
+use Rattle.ffi3_cli.proofs.Level.{built_beside, built_target, built_traced, built_with, help_alone, none_beside_help, none_beside_trace, trace_and_help}
 
 -- a rule that no position names
 to_alike : (c d : List Rule) (o : Option Rule) → o ≡ None → (word : Text) (w : Walk) (h : Held) → to_positional c o word w h ≡ to_positional d o word w h
@@ -181,16 +181,14 @@ module _ (called : Text) (others : List Rule) (none_by_index : (i : ℕ) → arg
   same_option_word false other id word h = refl
 
   same_plain : (waiting : Waiting) (word : Text) (h : Held) → plain_word c waiting word h ≡ plain_word d waiting word h
-  same_plain idle word h = refl
-  same_plain positional word h = refl
   same_plain (option id) word h =
       ap (λ (x : Held × Waiting). (x.0, next x.1)) (same_option_word (bytes_eq (codes "target") id) (arg_by_id others id) id word h)
+  same_plain _ word h = refl
 
   same_after : (waiting : Waiting) (word : Text) (h : Held) (o : Outcome) → after_flag c waiting word h o ≡ after_flag d waiting word h o
   same_after waiting word h done = refl
   same_after waiting word h (waits id) = refl
-  same_after waiting word h plain = same_plain waiting word h
-  same_after waiting word h refused = same_plain waiting word h
+  same_after waiting word h _ = same_plain waiting word h
 
   abbrev after_met : Waiting → Text → Met → Held × Step
   after_met waiting word met = after_flag d waiting word met.0 met.1
@@ -221,10 +219,8 @@ module _ (called : Text) (others : List Rule) (none_by_index : (i : ℕ) → arg
   same_word false positional position word h = same_other (bytes_eq word (45 ∷ 45 ∷ [])) positional position word h
 
   same_step : (word : Text) (w : Walk) (h : Held) (step : Step) → after_step c word w h step ≡ after_step d word w h step
-  same_step word w h (next waiting) = refl
-  same_step word w h (trailing position) = refl
-  same_step word w h (subcommand name) = refl
   same_step word w h value = to_alike c d (arg_by_index others w.position) (none_by_index w.position) word w h
+  same_step word w h _ = refl
 
   same_walked : (stopped : Option (Text × List Text)) (w : Walk) (word : Text) → walked_from c [] stopped w word ≡ walked_from d [] stopped w word
   same_walked (Some x) w word = refl
@@ -254,11 +250,9 @@ module _ (called : Text) (others : List Rule) (none_by_index : (i : ℕ) → arg
   same_word_fault false positional word h = same_other_fault (bytes_eq word (45 ∷ 45 ∷ [])) word h
 
   same_step_fault : (position : ℕ) (h : Held) (step : Step) → step_fault s position h step ≡ step_fault t position h step
-  same_step_fault position h (next waiting) = refl
-  same_step_fault position h (trailing position') = refl
-  same_step_fault position h (subcommand name) = refl
   same_step_fault position h value =
       stray_alike _ _ (arg_by_index others position) (none_by_index position) _
+  same_step_fault position h _ = refl
 
   abbrev standing : Option (Text × List Text) → Walk → Walk
   standing stopped w = record w { stopped = stopped }
@@ -306,27 +300,22 @@ module _ (called : Text) (others : List Rule) (none_by_index : (i : ℕ) → arg
       let pending = same_settle (at_end c words) ∙ ap (settle_fault d false) (same_end words) in
       ap₂ or_else (same_walk_fault words _) (ap₂ end_fault pending (ap (λ (h : Held). h.rows) (same_settled_end words)))
 
--- ---- the two commands with a target
+-- ---- a command with a target
 
-module _ (called : Text) (at bt : Addresses) where
-  same_level_alone : (words : List Text) → level_fault (built_with called (one_of_words at targets)) [] nothing_held words false [] ≡ level_fault (built_with called (one_of_words bt targets)) [] nothing_held words false []
-  same_level_alone = same_level called help_alone none_beside_help (one_of_words at targets) (one_of_words bt targets) (λ vs rows. refl) (λ vs rows. refl)
+module _ (called : Text) (others : List Rule) (none_by_index : (i : ℕ) → arg_by_index others i ≡ None) (at bt : Addresses) where
+  same_level_at : (words : List Text) → level_fault (built_beside others called (one_of_words at targets)) [] nothing_held words false [] ≡ level_fault (built_beside others called (one_of_words bt targets)) [] nothing_held words false []
+  same_level_at = same_level called others none_by_index (one_of_words at targets) (one_of_words bt targets) (λ vs rows. refl) (λ vs rows. refl)
 
-  same_level_traced : (words : List Text) → level_fault (built_traced called (one_of_words at targets)) [] nothing_held words false [] ≡ level_fault (built_traced called (one_of_words bt targets)) [] nothing_held words false []
-  same_level_traced = same_level called trace_and_help none_beside_trace (one_of_words at targets) (one_of_words bt targets) (λ vs rows. refl) (λ vs rows. refl)
-
-  abbrev rows_of_call : List Row → Text × List Row
-  rows_of_call rows = (called, rows)
-
-  same_rows_alone : (words : List Text) → rows_at (built_with called (one_of_words at targets)) words ≡ rows_at (built_with called (one_of_words bt targets)) words
-  same_rows_alone words =
-      ap rows_of_call (same_rows_after called help_alone none_beside_help (one_of_words at targets) (one_of_words bt targets) (λ vs rows. refl) (λ vs rows. refl) words)
-
-  same_rows_traced : (words : List Text) → rows_at (built_traced called (one_of_words at targets)) words ≡ rows_at (built_traced called (one_of_words bt targets)) words
-  same_rows_traced words =
-      ap rows_of_call (same_rows_after called trace_and_help none_beside_trace (one_of_words at targets) (one_of_words bt targets) (λ vs rows. refl) (λ vs rows. refl) words)
+  same_rows_at : (words : List Text) → Some (rows_at (built_beside others called (one_of_words at targets)) words) ≡ Some (rows_at (built_beside others called (one_of_words bt targets)) words)
+  same_rows_at words =
+      ap (λ (rows : List Row). Some (called, rows)) (same_rows_after called others none_by_index (one_of_words at targets) (one_of_words bt targets) (λ vs rows. refl) (λ vs rows. refl) words)
 
 -- ---- the program
+
+-- what is made of one of two shapes is the same, if it is of each
+of_either : {X : Type 0} (f : Option Shape → X) (b : Bool) (s t u v : Option Shape) → f s ≡ f t → f u ≡ f v → f (cond b s u) ≡ f (cond b t v)
+of_either f true s t u v first second = first
+of_either f false s t u v first second = second
 
 module _ (at at' bt bt' : Addresses) where
   abbrev app : App
@@ -335,52 +324,27 @@ module _ (at at' bt bt' : Addresses) where
   abbrev other : App
   other = built (program bt bt')
 
-  abbrev command : Addresses → Addresses → Bool → Bool → Bool → Bool → Bool → Bool → Bool → Bool → Bool → Option Shape
-  command x y is_layout is_place is_run is_bench is_cdecl is_cplace is_explain is_arguments is_help =
-      cond is_layout (Some (built_leaf (inherited above layout_shape))) (cond is_place (Some (built_with (codes "place") (one_of_words x targets))) (cond is_run (Some (built_traced (codes "run") (one_of_words y targets))) (cond is_bench (Some (built_leaf (inherited above bench_shape))) (cond is_cdecl (Some (built_leaf (inherited above cdecl_shape))) (cond is_cplace (Some (built_leaf (inherited above cplace_shape))) (cond is_explain (Some (built_leaf (inherited above explain_shape))) (cond is_arguments (Some (built_leaf (inherited above arguments_shape))) (cond is_help (Some (built_leaf help_shape)) None))))))))
-
-  abbrev level : List Text → Shape → Kinds
-  level words s = level_fault s [] nothing_held words false []
-
-  command_fault : (is_layout is_place is_run is_bench is_cdecl is_cplace is_explain is_arguments is_help : Bool) (words : List Text) → option_map_or (level words) (command at at' is_layout is_place is_run is_bench is_cdecl is_cplace is_explain is_arguments is_help) [] ≡ option_map_or (level words) (command bt bt' is_layout is_place is_run is_bench is_cdecl is_cplace is_explain is_arguments is_help) []
-  command_fault true b2 b3 b4 b5 b6 b7 b8 b9 words = refl
-  command_fault false true b3 b4 b5 b6 b7 b8 b9 words = same_level_alone (codes "place") at bt words
-  command_fault false false true b4 b5 b6 b7 b8 b9 words = same_level_traced (codes "run") at' bt' words
-  command_fault false false false true b5 b6 b7 b8 b9 words = refl
-  command_fault false false false false true b6 b7 b8 b9 words = refl
-  command_fault false false false false false true b7 b8 b9 words = refl
-  command_fault false false false false false false true b8 b9 words = refl
-  command_fault false false false false false false false true b9 words = refl
-  command_fault false false false false false false false false true words = refl
-  command_fault false false false false false false false false false words = refl
+  -- the command of a name, with a target's words at these addresses
+  abbrev command : Addresses → Addresses → Text → Option Shape
+  command x y name = find (λ s. answers_to name (label_of s)) (built (program x y)).subs
 
   abbrev is_word : Text → Text → Bool
-  is_word name word = bytes_eq name word || false
+  is_word word name = bytes_eq word name || false
+
+  -- what is made of the command that is met, if it is the same of the two with a target
+  same_made : {X : Type 0} (f : Option Shape → X) → f (Some (built_with (codes "place") (one_of_words at targets))) ≡ f (Some (built_with (codes "place") (one_of_words bt targets))) → f (Some (built_traced (codes "run") (one_of_words at' targets))) ≡ f (Some (built_traced (codes "run") (one_of_words bt' targets))) → (name : Text) → f (command at at' name) ≡ f (command bt bt' name)
+  same_made f places runs name =
+      of_either f (is_word (codes "layout") name) _ _ _ _ refl (of_either f (is_word (codes "place") name) _ _ _ _ places (of_either f (is_word (codes "run") name) _ _ _ _ runs refl))
 
   same_entered_fault : (stop : Option (Text × List Text)) → entered_fault app stop ≡ entered_fault other stop
   same_entered_fault None = refl
   same_entered_fault (Some x) =
-      command_fault (is_word (codes "layout") x.0) (is_word (codes "place") x.0) (is_word (codes "run") x.0) (is_word (codes "bench") x.0) (is_word (codes "cdecl") x.0) (is_word (codes "cplace") x.0) (is_word (codes "explain") x.0) (is_word (codes "arguments") x.0) (is_word (codes "help") x.0) x.1
-
-  abbrev rows_in : List Text → Shape → Text × List Row
-  rows_in words s = rows_at s words
-
-  command_rows : (is_layout is_place is_run is_bench is_cdecl is_cplace is_explain is_arguments is_help : Bool) (words : List Text) → option_map (rows_in words) (command at at' is_layout is_place is_run is_bench is_cdecl is_cplace is_explain is_arguments is_help) ≡ option_map (rows_in words) (command bt bt' is_layout is_place is_run is_bench is_cdecl is_cplace is_explain is_arguments is_help)
-  command_rows true b2 b3 b4 b5 b6 b7 b8 b9 words = refl
-  command_rows false true b3 b4 b5 b6 b7 b8 b9 words = ap (λ (x : Text × List Row). Some x) (same_rows_alone (codes "place") at bt words)
-  command_rows false false true b4 b5 b6 b7 b8 b9 words = ap (λ (x : Text × List Row). Some x) (same_rows_traced (codes "run") at' bt' words)
-  command_rows false false false true b5 b6 b7 b8 b9 words = refl
-  command_rows false false false false true b6 b7 b8 b9 words = refl
-  command_rows false false false false false true b7 b8 b9 words = refl
-  command_rows false false false false false false true b8 b9 words = refl
-  command_rows false false false false false false false true b9 words = refl
-  command_rows false false false false false false false false true words = refl
-  command_rows false false false false false false false false false words = refl
+      same_made (λ s. option_map_or (λ s. level_fault s [] nothing_held x.1 false []) s []) (same_level_at (codes "place") help_alone none_beside_help at bt x.1) (same_level_at (codes "run") trace_and_help none_beside_trace at' bt' x.1) x.0
 
   same_entered : (stop : Option (Text × List Text)) → entered app stop ≡ entered other stop
   same_entered None = refl
   same_entered (Some x) =
-      command_rows (is_word (codes "layout") x.0) (is_word (codes "place") x.0) (is_word (codes "run") x.0) (is_word (codes "bench") x.0) (is_word (codes "cdecl") x.0) (is_word (codes "cplace") x.0) (is_word (codes "explain") x.0) (is_word (codes "arguments") x.0) (is_word (codes "help") x.0) x.1
+      same_made (option_map (λ s. rows_at s x.1)) (same_rows_at (codes "place") help_alone none_beside_help at bt x.1) (same_rows_at (codes "run") trace_and_help none_beside_trace at' bt' x.1) x.0
 
   abbrev stop_at : List Text → Option (Text × List Text)
   stop_at words = (walk app.top.rules (names_of app) nothing_held (argument_words (program at at') words)).stopped

@@ -1,10 +1,9 @@
 -- From the matches to what they ask for.
-use Rattle.std.proofs.Common.{◌≡◌, ◌∙◌, List, Option, Some, None, refl, ap, ap₂, codes}
+use Rattle.std.proofs.Common.{◌≡◌, ◌∙◌, List, Option, Some, None, refl, ap, codes}
 use Rattle.std.specs.Option.{option_map}
 use Rattle.clap.specs.Words.{Row, Text, first_of, subcommand_name_of, subcommand_rows_of}
 use Rattle.clap.specs.declared.parser.matches.ArgMatches.{ArgMatches}
 use Rattle.clap.specs.declared.parser.matches.ArgMatches.TheViews.{out-ArgMatches}
-use Rattle.ffi3_cli_spec.specs.declared.words.Request.{Request}
 use Rattle.ffi3_cli_spec.specs.WordCommands.{asked, request_of}
 
 two_maps : {X Y Z : Type 0} (f : Y → Z) (g : X → Y) (o : Option X) → option_map f (option_map g o) ≡ option_map (λ x. f (g x)) o
@@ -20,9 +19,5 @@ asks None name rows target trace seed calls named with_rows is_target is_trace i
 asks (Some p) name rows target trace seed calls named with_rows is_target is_trace is_seed is_calls =
     let same_name : name ≡ p.0 = cc in
     let same_rows : rows ≡ p.1 = cc in
-    let same_target : request_of name target ≡ request_of p.0 (first_of (codes "target") p.1) = ap₂ request_of same_name (is_target ∙ ap (first_of (codes "target")) same_rows) in
-    let same_trace : request_of name target trace ≡ request_of p.0 (first_of (codes "target") p.1) (first_of (codes "trace") p.1) =
-    ap₂ (λ (f : Option Text → Option Text → Option Text → Option Request) (t : Option Text). f t) same_target (is_trace ∙ ap (first_of (codes "trace")) same_rows) in
-    let same_seed : request_of name target trace seed ≡ request_of p.0 (first_of (codes "target") p.1) (first_of (codes "trace") p.1) (first_of (codes "seed") p.1) =
-    ap₂ (λ (f : Option Text → Option Text → Option Request) (t : Option Text). f t) same_trace (is_seed ∙ ap (first_of (codes "seed")) same_rows) in
-    ap₂ (λ (f : Option Text → Option Request) (t : Option Text). f t) same_seed (is_calls ∙ ap (first_of (codes "calls")) same_rows)
+    let value = λ (word : Text). ap (first_of word) same_rows in
+    λ i. request_of (same_name i) ((is_target ∙ value (codes "target")) i) ((is_trace ∙ value (codes "trace")) i) ((is_seed ∙ value (codes "seed")) i) ((is_calls ∙ value (codes "calls")) i)

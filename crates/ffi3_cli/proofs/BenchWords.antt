@@ -117,32 +117,6 @@ module _ (u v : Text) (plain_u : IsPlainWord u) (plain_v : IsPlainWord v) where
       let w3 = standing (row (codes "calls") u ∷ []) (Some (codes "seed", [])) (option (codes "seed")) in
       one_more begun w1 with_calls_first (codes "--calls") (u ∷ codes "--seed" ∷ v ∷ []) refl refl (one_more w1 w2 with_calls_first u (codes "--seed" ∷ v ∷ []) (value_turn [] (Some (codes "calls", [])) (codes "calls") u plain_u) (value_walked [] (Some (codes "calls", [])) (codes "calls") u plain_u) (one_more w2 w3 with_calls_first (codes "--seed") (v ∷ []) refl refl (one_more w3 with_calls_first with_calls_first v [] (value_turn w3.held.rows w3.held.pending (codes "seed") v plain_v) (value_walked w3.held.rows w3.held.pending (codes "seed") v plain_v) (at_end with_calls_first))))
 
-  -- what follows the walk has no fault
-  abbrev rest_fault : Held → Kinds
-  rest_fault held =
-      or_else (settle_fault c false held) (or_else (defaults_fault (settled c held).rows c) (check_fault s (finished c held) false))
-
-  seed_level : level_fault s [] nothing_held (codes "--seed" ∷ u ∷ codes "--calls" ∷ v ∷ []) false [] ≡ []
-  unfolding defaults_fault
-  seed_level =
-      let end : rest_fault with_seed.held ≡ [] = refl in
-      ap₂ or_else seed_ends.fault (ap (λ (x : Walk). rest_fault x.held) seed_ends.walk ∙ end)
-
-  calls_level : level_fault s [] nothing_held (codes "--calls" ∷ u ∷ codes "--seed" ∷ v ∷ []) false [] ≡ []
-  unfolding defaults_fault
-  calls_level =
-      let end : rest_fault with_calls_first.held ≡ [] = refl in
-      ap₂ or_else calls_ends.fault (ap (λ (x : Walk). rest_fault x.held) calls_ends.walk ∙ end)
-
-  abbrev asked_at : Walk → Option Request
-  asked_at x = asked (Some (codes "bench", finished c x.held))
-
-  seed_asks : asked (Some (codes "bench", rows_after c [] (codes "--seed" ∷ u ∷ codes "--calls" ∷ v ∷ []))) ≡ bench_of (Some u) (Some v)
-  seed_asks = ap asked_at seed_ends.walk
-
-  calls_asks : asked (Some (codes "bench", rows_after c [] (codes "--calls" ∷ u ∷ codes "--seed" ∷ v ∷ []))) ≡ bench_of (Some v) (Some u)
-  calls_asks = ap asked_at calls_ends.walk
-
 -- ---- the program
 
 module _ (at at' : Addresses) (name a u b v : Text) where
@@ -165,6 +139,35 @@ module _ (at at' : Addresses) (name a u b v : Text) where
   unfolding clap_on_literals
   asks_below = refl
 
+-- what follows the walk has no fault
+abbrev rest_fault : Held → Kinds
+rest_fault held =
+    or_else (settle_fault c false held) (or_else (defaults_fault (settled c held).rows c) (check_fault s (finished c held) false))
+
+module _ (at at' : Addresses) (name : Text) where
+  abbrev Reads : List Text → Option Request → Type 0
+  Reads rest r =
+      (fault_of (program at at') (name ∷ rest) ≡ []) × (asked (subcommand_of (program at at') (name ∷ rest)) ≡ r)
+
+  abbrev asked_at : Walk → Option Request
+  asked_at x = asked (Some (codes "bench", finished c x.held))
+
+  -- words whose walk ends without fault
+  read : (a u b v : Text) (end : Walk) → Ends begun (a ∷ u ∷ b ∷ v ∷ []) end → rest_fault end.held ≡ [] → Reads (codes "bench" ∷ a ∷ u ∷ b ∷ v ∷ []) (asked_at end)
+  read a u b v end ends fine = (
+    enters at at' name a u b v (ap₂ or_else ends.fault (ap (λ (x : Walk). rest_fault x.held) ends.walk ∙ fine)),
+    asks_below at at' name a u b v ∙ ap asked_at ends.walk,
+  )
+
+  module _ (u v : Text) (plain_u : IsPlainWord u) (plain_v : IsPlainWord v) where
+    seed_read : Reads (codes "bench" ∷ codes "--seed" ∷ u ∷ codes "--calls" ∷ v ∷ []) (bench_of (Some u) (Some v))
+    unfolding defaults_fault
+    seed_read = read (codes "--seed") u (codes "--calls") v _ (seed_ends u v plain_u plain_v) refl
+
+    calls_read : Reads (codes "bench" ∷ codes "--calls" ∷ u ∷ codes "--seed" ∷ v ∷ []) (bench_of (Some v) (Some u))
+    unfolding defaults_fault
+    calls_read = read (codes "--calls") u (codes "--seed") v _ (calls_ends u v plain_u plain_v) refl
+
 -- ---- the numbers
 
 in_range : (a b : Bool) (r : Request) → a ≡ true → b ≡ true → cond (a && b) (Some r) None ≡ Some r
@@ -176,21 +179,15 @@ asks_bench seed calls few some not_many =
     ap (option_and_then (λ n. option_and_then (with_calls n) (number_of (decimal calls)))) (written seed few) ∙ (second ∙ in_range (nat_le 1 calls) (nat_le calls 1000) (Bench seed calls) (le-leb 1 calls some) (le-leb calls 1000 not_many))
 
 module _ (at at' : Addresses) (name : Text) (seed calls : ℕ) (few : seed < 2 ^ 32) (some : 1 ≤ calls) (not_many : calls ≤ 1000) where
-  abbrev Reads : List Text → Type 0
-  Reads rest =
-      (fault_of (program at at') (name ∷ rest) ≡ []) × (asked (subcommand_of (program at at') (name ∷ rest)) ≡ Some (Bench seed calls))
-
   plain_calls : IsPlainWord (decimal calls)
   plain_calls = plain_decimal calls (omega (arith, not_many))
 
-  pub seed_first : Reads (codes "bench" ∷ codes "--seed" ∷ decimal seed ∷ codes "--calls" ∷ decimal calls ∷ [])
-  seed_first = (
-    enters at at' name (codes "--seed") (decimal seed) (codes "--calls") (decimal calls) (seed_level (decimal seed) (decimal calls) (plain_decimal seed few) plain_calls),
-    asks_below at at' name (codes "--seed") (decimal seed) (codes "--calls") (decimal calls) ∙ (seed_asks (decimal seed) (decimal calls) (plain_decimal seed few) plain_calls ∙ asks_bench seed calls few some not_many),
-  )
+  pub seed_first : Reads at at' name (codes "bench" ∷ codes "--seed" ∷ decimal seed ∷ codes "--calls" ∷ decimal calls ∷ []) (Some (Bench seed calls))
+  seed_first =
+      let read = seed_read at at' name (decimal seed) (decimal calls) (plain_decimal seed few) plain_calls in
+      (read.0, read.1 ∙ asks_bench seed calls few some not_many)
 
-  pub calls_first : Reads (codes "bench" ∷ codes "--calls" ∷ decimal calls ∷ codes "--seed" ∷ decimal seed ∷ [])
-  calls_first = (
-    enters at at' name (codes "--calls") (decimal calls) (codes "--seed") (decimal seed) (calls_level (decimal calls) (decimal seed) plain_calls (plain_decimal seed few)),
-    asks_below at at' name (codes "--calls") (decimal calls) (codes "--seed") (decimal seed) ∙ (calls_asks (decimal calls) (decimal seed) plain_calls (plain_decimal seed few) ∙ asks_bench seed calls few some not_many),
-  )
+  pub calls_first : Reads at at' name (codes "bench" ∷ codes "--calls" ∷ decimal calls ∷ codes "--seed" ∷ decimal seed ∷ []) (Some (Bench seed calls))
+  calls_first =
+      let read = calls_read at at' name (decimal calls) (decimal seed) plain_calls (plain_decimal seed few) in
+      (read.0, read.1 ∙ asks_bench seed calls few some not_many)

@@ -1,6 +1,6 @@
 -- A command with a required target beside flags: where clap finds no fault in its words, they give the target one value, which is one of the target's words.
 use Rattle.std.proofs.Common.{◌≡◌, ◌||◌, ◌==◌, nat_lt, arith, eqb-true, ◌++◌, ℕ, zero, suc, Bool, true, false, cond, List, [], ◌∷◌, length, drop, codes, Option, Some, None, refl, sym, ap, subst, is_some, true≢false}
-use Rattle.std.specs.Prelude.{encode_utf8, slice_get, find}
+use Rattle.std.specs.Prelude.{IfSome, encode_utf8, slice_get}
 use Rattle.std.specs.List.{fold}
 use Rattle.std.specs.Str.{bytes_eq, chars}
 use Rattle.clap.specs.Lexer.{long_of, short_of}
@@ -17,6 +17,7 @@ use Rattle.clap.specs.declared.builder.value_parser.ValueParser.{ValueParser}
 use Rattle.clap.specs.declared.error.kind.ErrorKind.{ErrorKind}
 use Rattle.clap.specs.declared.error.kind.ErrorKind.TheVariants.{InvalidValue, TooManyValues, WrongNumberOfValues}
 use Rattle.clap.specs.declared.parser.matches.ValueSource.TheVariants.{CommandLine}
+use Rattle.ffi3_cli.proofs.Found.{Each, found}
 use Rattle.ffi3_cli_spec.specs.WordCommands.{program_alone, target_rule, trace_rule, with_target, with_trace}
 
 -- what the program hands down to its commands
@@ -82,9 +83,7 @@ passed false k e = cc
 target_used : (p : ValueParser) (rs : List Row) → Taken p rs → (v : Text) → use_fault false (built_target p) (v ∷ []) rs ≡ [] → Taken p (used (built_target p) (v ∷ []) rs)
 target_used p _ nothing v e = taken v (passed (accepts false p v) (refused_kind p) e)
 target_used p _ traced v e = traced_taken v (passed (accepts false p v) (refused_kind p) e)
-target_used p _ (taken w passes) v e = absurd (never e)
-target_used p _ (taken_traced w passes) v e = absurd (never e)
-target_used p _ (traced_taken w passes) v e = absurd (never e)
+target_used p _ _ v e = absurd (never e)
 
 -- a rule that takes no value, and whose use leaves the target's value
 record IsFlag (p : ValueParser) (a : Rule) : Type 0 where
@@ -96,30 +95,11 @@ help_is_flag p = record { takes_none = refl; uses = λ rs t e. absurd (never e) 
 
 trace_used : (p : ValueParser) (rs : List Row) → Taken p rs → use_fault false built_trace [] rs ≡ [] → Taken p (used built_trace [] rs)
 trace_used p _ nothing e = traced
-trace_used p _ traced e = absurd (never e)
 trace_used p _ (taken v passes) e = taken_traced v passes
-trace_used p _ (taken_traced v passes) e = absurd (never e)
-trace_used p _ (traced_taken v passes) e = absurd (never e)
+trace_used p _ _ e = absurd (never e)
 
 trace_is_flag : (p : ValueParser) → IsFlag p built_trace
 trace_is_flag p = record { takes_none = refl; uses = trace_used p }
-
-abbrev AreFlags : ValueParser → List Rule → Type 0
-AreFlags p [] = Unit {0}
-AreFlags p (a ∷ rest) = IsFlag p a × AreFlags p rest
-
-abbrev FlagIf : ValueParser → Option Rule → Type 0
-FlagIf p None = Unit {0}
-FlagIf p (Some a) = IsFlag p a
-
-first_flag : (p : ValueParser) (b : Bool) (a : Rule) (o : Option Rule) → IsFlag p a → FlagIf p o → FlagIf p (cond b (Some a) o)
-first_flag p true a o flag more = flag
-first_flag p false a o flag more = more
-
-found_flag : (p : ValueParser) (test : Rule → Bool) (rules : List Rule) → AreFlags p rules → FlagIf p (find test rules)
-found_flag p test [] flags = tt
-found_flag p test (a ∷ rest) flags =
-    first_flag p (test a) a (find test rest) flags.0 (found_flag p test rest flags.1)
 
 -- ---- the walk
 
@@ -156,7 +136,7 @@ abbrev pub HasTarget : ValueParser → List Row → Type 0
 HasTarget p rs =
     (v : Text) × (accepts false p v ≡ true) × (first_of (codes "target") rs ≡ Some v)
 
-module _ (called : Text) (p : ValueParser) (others : List Rule) (flags : AreFlags p others) (none_by_index : (i : ℕ) → arg_by_index others i ≡ None) (help_by_letter : (x : ℕ) → arg_by_short others x ≡ cond ((104 == x) || false) (Some built_help) None) where
+module _ (called : Text) (p : ValueParser) (others : List Rule) (flags : Each (IsFlag p) others) (none_by_index : (i : ℕ) → arg_by_index others i ≡ None) (help_by_letter : (x : ℕ) → arg_by_short others x ≡ cond ((104 == x) || false) (Some built_help) None) where
   abbrev s : Shape
   s = built_beside others called p
 
@@ -220,8 +200,7 @@ module _ (called : Text) (p : ValueParser) (others : List Rule) (flags : AreFlag
         (rs, t, Some (word ∷ []), cond (wants_more (held rs None)) for_target for_none, position, false, ap (walk_on (held rs (Some (word ∷ [])))) (waits_if (wants_more (held rs None))))
     plain_goes wait for_target (Some more) e =
         (rs, t, Some (more ++ word ∷ []), cond (wants_more (held rs (Some more))) for_target for_none, position, false, ap (walk_on (held rs (Some (more ++ word ∷ [])))) (waits_if (wants_more (held rs (Some more)))))
-    plain_goes wait for_none vs' e = absurd (stray _ _ _ (none_by_index position) e)
-    plain_goes wait for_more vs' e = absurd (stray _ _ _ (none_by_index position) e)
+    plain_goes wait _ vs' e = absurd (stray _ _ _ (none_by_index position) e)
 
     flagged : (wait : Wait) (after : List Row) → Taken p after → Goes (here wait) word (after_flag c (waiting_with wait) word (held after None) done)
     flagged wait after taken' e = (after, taken', None, for_none, position, false, refl)
@@ -240,7 +219,7 @@ module _ (called : Text) (p : ValueParser) (others : List Rule) (flags : AreFlag
         flagged wait (reacted c a [] (held rs vs)).rows (reacts a [] uses rs t vs fine) e
 
     -- `--name` or `--name=value`
-    long_goes : (wait : Wait) (is_target : Bool) (other : Option Rule) → FlagIf p other → (v : Option Text) → long_fault c false (named is_target other) v (held rs vs) ≡ [] → Goes (here wait) word (after_flag c (waiting_with wait) word (long_met c (named is_target other) v (held rs vs)).0 (long_met c (named is_target other) v (held rs vs)).1)
+    long_goes : (wait : Wait) (is_target : Bool) (other : Option Rule) → IfSome other (IsFlag p) → (v : Option Text) → long_fault c false (named is_target other) v (held rs vs) ≡ [] → Goes (here wait) word (after_flag c (waiting_with wait) word (long_met c (named is_target other) v (held rs vs)).0 (long_met c (named is_target other) v (held rs vs)).1)
     long_goes wait true other flag (Some x) fine e =
         flagged wait (reacted c (built_target p) (x ∷ []) (held rs vs)).rows (reacts (built_target p) (x ∷ []) (λ rs' t'. target_used p rs' t' x) rs t vs fine) e
     long_goes wait true other flag None fine e = awaited wait (rows_settled rs vs) (settles rs t vs fine) e
@@ -273,7 +252,7 @@ module _ (called : Text) (p : ValueParser) (others : List Rule) (flags : AreFlag
     other_goes : (wait : Wait) (name : Option (Text × Option Text)) → flag_word_fault c false name word (held rs vs) ≡ [] → Goes (here wait) word (long_or_other c (waiting_with wait) word name (held rs vs))
     other_goes wait None fine e = short_goes wait (short_of word) fine e
     other_goes wait (Some n) fine e =
-        long_goes wait (bytes_eq (codes "target") n.0 || false) (arg_by_long others n.0) (found_flag p _ others flags) n.1 fine e
+        long_goes wait (bytes_eq (codes "target") n.0 || false) (arg_by_long others n.0) (found (IsFlag p) _ others flags) n.1 fine e
 
     word_goes : (wait : Wait) (are_dashes : Bool) → cond are_dashes [] (flag_word_fault c false (long_of word) word (held rs vs)) ≡ [] → Goes (here wait) word (cond are_dashes (held rs vs, trailing position) (long_or_other c (waiting_with wait) word (long_of word) (held rs vs)))
     word_goes wait true fine e = (rs, t, vs, wait, position, true, refl)
@@ -330,18 +309,16 @@ none_beside_trace i = refl
 
 module _ (called : Text) (p : ValueParser) where
   checks_alone : (rs : List Row) → Taken p rs → check_fault (built_with called p) (fold with_default rs (built_target p ∷ help_alone)) false ≡ [] → HasTarget p (fold with_default rs (built_target p ∷ help_alone))
-  checks_alone _ nothing fine = absurd (never fine)
-  checks_alone _ traced fine = absurd (never fine)
   checks_alone _ (taken v passes) fine = (v, passes, refl)
   checks_alone _ (taken_traced v passes) fine = (v, passes, refl)
   checks_alone _ (traced_taken v passes) fine = (v, passes, refl)
+  checks_alone _ _ fine = absurd (never fine)
 
   checks_traced : (rs : List Row) → Taken p rs → check_fault (built_traced called p) (fold with_default rs (built_target p ∷ trace_and_help)) false ≡ [] → HasTarget p (fold with_default rs (built_target p ∷ trace_and_help))
-  checks_traced _ nothing fine = absurd (never fine)
-  checks_traced _ traced fine = absurd (never fine)
   checks_traced _ (taken v passes) fine = (v, passes, refl)
   checks_traced _ (taken_traced v passes) fine = (v, passes, refl)
   checks_traced _ (traced_taken v passes) fine = (v, passes, refl)
+  checks_traced _ _ fine = absurd (never fine)
 
   pub has_target : (words : List Text) → level_fault (built_with called p) [] nothing_held words false [] ≡ [] → HasTarget p (rows_after (built_target p ∷ help_alone) [] words)
   has_target words fine =

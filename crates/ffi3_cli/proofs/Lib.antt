@@ -3,6 +3,7 @@ pub mod Anywhere
 pub mod Asked
 pub mod Asks
 pub mod BenchWords
+pub mod Found
 pub mod Level
 pub mod Numbers
 pub mod Program

@@ -1,5 +1,7 @@
 -- Numbers as their decimal digits, with no sign and no leading zero.
 use Rattle.std.proofs.Common.{◌≡◌, ◌≢◌, ◌∙◌, ◌&&◌, ◌==◌, ◌<◌, ◌^◌, ℕ, Bool, true, false, cond, [], ◌∷◌, Option, Some, None, nat_lt, decimal, get_or, arith, refl, sym, ap, subst, lt-ltb, ltb-true, ne_eqb, true≢false}
+use Rattle.std.specs.Cmp.{first_so, second_so}
+use Rattle.std.specs.Cmp.Derive.{both_true}
 use Rattle.std.specs.Option.{option_and_then}
 use Rattle.std.specs.Str.{bytes_eq}
 use Rattle.std.specs.Str.Parse.{AllDigits, IsNumeral, digits_value, without_leading_plus}
@@ -11,18 +13,6 @@ use Rattle.clap.specs.Words.{Text}
 use Rattle.ffi3_cli_spec.specs.WordCommands.{number_of}
 
 -- ---- the number that a text writes
-
-both : (a b : Bool) → a ≡ true → b ≡ true → (a && b) ≡ true
-both true b first second = second
-both false b first second = absurd (true≢false (sym first))
-
-left : (a b : Bool) → (a && b) ≡ true → a ≡ true
-left true b e = refl
-left false b e = absurd (true≢false (sym e))
-
-right : (a b : Bool) → (a && b) ≡ true → b ≡ true
-right true b e = e
-right false b e = absurd (true≢false (sym e))
 
 none_where : (b : Bool) (n : ℕ) → (b ≡ true → ⊥) → None ≡ cond b (Some n) None
 none_where true n never = absurd (never refl)
@@ -40,7 +30,7 @@ pub written : (n : ℕ) → n < 2 ^ 32 → number_of (decimal n) ≡ Some n
 written n small =
     let value : digits_value 10 (decimal n) ≡ n = (decimal_is_IsNumeral n (omega (arith, small))).1 in
     let same : bytes_eq (decimal n) (decimal n) ≡ true = (bytes_eq-Decides (decimal n) (decimal n)).1 refl in
-    ap (number_if (decimal n)) value ∙ ap (λ (b : Bool). cond b (Some n) None) (both (nat_lt n (2 ^ 32)) _ (lt-ltb n (2 ^ 32) small) same)
+    ap (number_if (decimal n)) value ∙ ap (λ (b : Bool). cond b (Some n) None) (both_true (lt-ltb n (2 ^ 32) small) same)
 
 pub written_as : (word : Text) (n : ℕ) → n < 2 ^ 32 → bytes_eq (decimal n) word ≡ true → Some n ≡ number_of word
 written_as word n small is =
@@ -67,7 +57,7 @@ reads n few =
 pub not_written : (word : Text) → ((n : ℕ) → n < 2 ^ 32 → bytes_eq (decimal n) word ≡ true → ⊥) → None ≡ number_of word
 not_written word unlike =
     let n = digits_value 10 word in
-    none_where (nat_lt n (2 ^ 32) && bytes_eq (decimal n) word) n (λ e. unlike n (ltb-true n (2 ^ 32) (left (nat_lt n (2 ^ 32)) _ e)) (right (nat_lt n (2 ^ 32)) _ e))
+    none_where (nat_lt n (2 ^ 32) && bytes_eq (decimal n) word) n (λ e. unlike n (ltb-true n (2 ^ 32) (first_so (nat_lt n (2 ^ 32)) _ e)) (second_so (nat_lt n (2 ^ 32)) _ e))
 
 -- the digits after any plus are no numeral of 32 bits
 pub no_numeral : (word : Text) → (IsNumeral 10 (without_leading_plus word) × (digits_value 10 (without_leading_plus word) < 2 ^ 32) → ⊥) → None ≡ number_of word

@@ -1,13 +1,13 @@
 -- The program that the code builds is the one that is described.
 use Rattle.std.proofs.Common.{◌≡◌, ◌∙◌, ℕ, zero, suc, true, List, [], ◌∷◌, map, codes, refl, ap, ap₂}
 use Rattle.std.specs.Borrow.{Bor}
-use Rattle.clap.specs.Words.{App, Rule, Shape, Text, app_of, shape_of, is_simple, is_simple_and_free, new_app, with_rule, with_subcommand}
+use Rattle.clap.specs.Words.{App, Rule, Shape, Text, app_of, shape_of, is_simple, is_simple_and_free, new_app, with_rule}
 use Rattle.clap.specs.declared.builder.command.Command.{Command}
 use Rattle.clap.specs.declared.builder.value_parser.ValueParser.{ValueParser}
 use Rattle.clap.specs.declared.builder.value_parser.ValueParser.TheVariants as vp
 use Rattle.clap.proofs.OnLiterals.{clap_on_literals}
-use Rattle.ffi3_cli_spec.specs.WordCommands.{Addresses, lent, one_of_words, targets, target_rule, trace_rule, bench_shape, cdecl_shape, cplace_shape, explain_shape, arguments_shape, layout_shape, program_alone, program}
-use Rattle.ffi3_cli.specs.CommandParts.{IsProgram, IsTargetRule, HasTarget, IsTraceable}
+use Rattle.ffi3_cli_spec.specs.WordCommands.{Addresses, lent, one_of_words, targets, target_rule, trace_rule, program}
+use Rattle.ffi3_cli.specs.CommandParts.{IsTargetRule, HasTarget, IsTraceable}
 
 -- where texts lie
 abbrev addresses : List (Bor Text) → Addresses
@@ -44,14 +44,6 @@ is_traceable name ts xs b c before rule trace new is words added flag then_added
     record {
       at = all_addresses is.list xs;
       same = ap (λ (a : App). a.top) (then_added ∙ ap₂ with_rule target_added flag);
-    }
-
-pub is_program : (a b c d e f g h i : App) (l p r n v w x y : Shape) → a ≡ program_alone → l ≡ layout_shape → HasTarget (codes "place") targets p → IsTraceable (codes "run") targets r → n ≡ bench_shape → v ≡ cdecl_shape → w ≡ cplace_shape → x ≡ explain_shape → y ≡ arguments_shape → b ≡ with_subcommand a l → c ≡ with_subcommand b p → d ≡ with_subcommand c r → e ≡ with_subcommand d n → f ≡ with_subcommand e v → g ≡ with_subcommand f w → h ≡ with_subcommand g x → i ≡ with_subcommand h y → IsProgram i
-is_program a b c d e f g h i l p r n v w x y alone lays places runs benches declares declares_places explains reads_arguments first second third fourth fifth sixth seventh eighth =
-    record {
-      placing = places.at;
-      running = runs.at;
-      same = eighth ∙ ap₂ with_subcommand (seventh ∙ ap₂ with_subcommand (sixth ∙ ap₂ with_subcommand (fifth ∙ ap₂ with_subcommand (fourth ∙ ap₂ with_subcommand (third ∙ ap₂ with_subcommand (second ∙ ap₂ with_subcommand (first ∙ ap₂ with_subcommand alone lays) places.same) runs.same) benches) declares) declares_places) explains) reads_arguments;
     }
 
 pub is_free : (at at' : Addresses) → is_simple_and_free (program at at') ≡ true

@@ -33,22 +33,18 @@ runs_in : (trace : Bool) (t : Option Target) → IfInRange (option_map (λ x. On
 runs_in trace None = tt
 runs_in trace (Some t) = tt
 
-request_in : (is_layout is_cdecl is_cplace is_explain is_arguments is_bench is_place is_run : Bool) (target trace seed calls : Option Text) → IfInRange (cond is_layout (on_input Layout) (cond is_cdecl (on_input Cdecl) (cond is_cplace (on_input Cplace) (cond is_explain (on_input Explain) (cond is_arguments (on_input Arguments) (cond is_bench (bench_of seed calls) (cond is_place (with_target_of target (λ t. Place t)) (cond is_run (with_target_of target (λ t. Run t (is_set trace))) None))))))))
-request_in true b2 b3 b4 b5 b6 b7 b8 target trace seed calls = tt
-request_in false true b3 b4 b5 b6 b7 b8 target trace seed calls = tt
-request_in false false true b4 b5 b6 b7 b8 target trace seed calls = tt
-request_in false false false true b5 b6 b7 b8 target trace seed calls = tt
-request_in false false false false true b6 b7 b8 target trace seed calls = tt
-request_in false false false false false true b7 b8 target trace seed calls =
-    numbers_in (option_and_then number_of seed) (option_and_then number_of calls)
-request_in false false false false false false true b8 target trace seed calls = places_in (option_and_then target_of target)
-request_in false false false false false false false true target trace seed calls = runs_in (is_set trace) (option_and_then target_of target)
-request_in false false false false false false false false target trace seed calls = tt
+either_in : (b : Bool) (o p : Option Request) → IfInRange o → IfInRange p → IfInRange (cond b o p)
+either_in true o p first second = first
+either_in false o p first second = second
 
 asked_in : (met : Option (Text × List Row)) → IfInRange (asked met)
 asked_in None = tt
 asked_in (Some p) =
-    request_in (bytes_eq p.0 (codes "layout")) (bytes_eq p.0 (codes "cdecl")) (bytes_eq p.0 (codes "cplace")) (bytes_eq p.0 (codes "explain")) (bytes_eq p.0 (codes "arguments")) (bytes_eq p.0 (codes "bench")) (bytes_eq p.0 (codes "place")) (bytes_eq p.0 (codes "run")) (first_of (codes "target") p.1) (first_of (codes "trace") p.1) (first_of (codes "seed") p.1) (first_of (codes "calls") p.1)
+    let benches = numbers_in (option_and_then number_of (first_of (codes "seed") p.1)) (option_and_then number_of (first_of (codes "calls") p.1)) in
+    let places = places_in (option_and_then target_of (first_of (codes "target") p.1)) in
+    let runs = runs_in (is_set (first_of (codes "trace") p.1)) (option_and_then target_of (first_of (codes "target") p.1)) in
+    let is = λ (w : Text). bytes_eq p.0 w in
+    either_in (is (codes "layout")) _ _ tt (either_in (is (codes "cdecl")) _ _ tt (either_in (is (codes "cplace")) _ _ tt (either_in (is (codes "explain")) _ _ tt (either_in (is (codes "arguments")) _ _ tt (either_in (is (codes "bench")) _ _ benches (either_in (is (codes "place")) _ _ places (either_in (is (codes "run")) _ _ runs tt)))))))
 
 pub in_range : (met : Option (Text × List Row)) (r : Request) → asked met ≡ Some r → IsInRange r
 in_range met r is = subst IfInRange is (asked_in met)

@@ -1,4 +1,4 @@
--- Words that are refused are not taken.
+-- Words are taken as one request alone, and words that are refused as none.
 use Rattle.std.proofs.Common.{◌≡◌, ◌∙◌, List, Option, Some, None, inl, inr, sym, subst}
 use Rattle.clap.specs.Words.{Row, Text, subcommand_of}
 use Rattle.ffi3_cli_spec.specs.declared.words.Request.{Request}
@@ -8,8 +8,16 @@ use Rattle.ffi3_cli_spec.specs.Words.{IsRefused, Takes}
 none_is_some : {X : Type 0} (x : X) → None ≡ Some x → ⊥
 none_is_some x e = cc
 
+some_is : {X : Type 0} (x y : X) → Some x ≡ Some y → x ≡ y
+some_is x y e = cc
+
 abbrev nowhere : Addresses
 nowhere n = (0, 0)
+
+-- words are taken as one request alone
+pub one_request : (words : List Text) (q r : Request) → Takes words q → Takes words r → q ≡ r
+one_request words q r takes takes' =
+    some_is q r (sym (takes.means nowhere nowhere) ∙ takes'.means nowhere nowhere)
 
 -- `bench` without its numbers asks for nothing
 asks_nothing : (met : Option (Text × List Row)) (r : Request) → LacksNumbers met → asked met ≡ Some r → ⊥

@@ -18,70 +18,29 @@ module _ (at at' : Addresses) (name : Text) where
   Reads rest r =
       (fault_of (program at at') (name ∷ rest) ≡ []) × (asked (subcommand_of (program at at') (name ∷ rest)) ≡ Some r)
 
-  lays : Reads (codes "layout" ∷ []) (OnInput Layout)
+  -- the words of each command with a target
+  with_target : (t : Target) → Reads (codes "place" ∷ codes "--target" ∷ target_word t ∷ []) (OnInput (Place t)) × Reads (codes "run" ∷ codes "--target" ∷ target_word t ∷ []) (OnInput (Run t false)) × Reads (codes "run" ∷ codes "--trace" ∷ codes "--target" ∷ target_word t ∷ []) (OnInput (Run t true)) × Reads (codes "run" ∷ codes "--target" ∷ target_word t ∷ codes "--trace" ∷ []) (OnInput (Run t true))
   unfolding clap_on_literals
-  lays = (refl, refl)
+  with_target Amd64 = ((refl, refl), (refl, refl), (refl, refl), (refl, refl))
+  with_target Aapcs64 = ((refl, refl), (refl, refl), (refl, refl), (refl, refl))
+  with_target Riscv = ((refl, refl), (refl, refl), (refl, refl), (refl, refl))
+  with_target Win64 = ((refl, refl), (refl, refl), (refl, refl), (refl, refl))
+  with_target Apple = ((refl, refl), (refl, refl), (refl, refl), (refl, refl))
 
-  declares : Reads (codes "cdecl" ∷ []) (OnInput Cdecl)
-  unfolding clap_on_literals
-  declares = (refl, refl)
-
-  declares_places : Reads (codes "cplace" ∷ []) (OnInput Cplace)
-  unfolding clap_on_literals
-  declares_places = (refl, refl)
-
-  explains : Reads (codes "explain" ∷ []) (OnInput Explain)
-  unfolding clap_on_literals
-  explains = (refl, refl)
-
-  reads_arguments : Reads (codes "arguments" ∷ []) (OnInput Arguments)
-  unfolding clap_on_literals
-  reads_arguments = (refl, refl)
-
-  places : (t : Target) → Reads (codes "place" ∷ codes "--target" ∷ target_word t ∷ []) (OnInput (Place t))
-  unfolding clap_on_literals
-  places Amd64 = (refl, refl)
-  places Aapcs64 = (refl, refl)
-  places Riscv = (refl, refl)
-  places Win64 = (refl, refl)
-  places Apple = (refl, refl)
-
-  runs : (t : Target) → Reads (codes "run" ∷ codes "--target" ∷ target_word t ∷ []) (OnInput (Run t false))
-  unfolding clap_on_literals
-  runs Amd64 = (refl, refl)
-  runs Aapcs64 = (refl, refl)
-  runs Riscv = (refl, refl)
-  runs Win64 = (refl, refl)
-  runs Apple = (refl, refl)
-
-  traces_first : (t : Target) → Reads (codes "run" ∷ codes "--trace" ∷ codes "--target" ∷ target_word t ∷ []) (OnInput (Run t true))
-  unfolding clap_on_literals
-  traces_first Amd64 = (refl, refl)
-  traces_first Aapcs64 = (refl, refl)
-  traces_first Riscv = (refl, refl)
-  traces_first Win64 = (refl, refl)
-  traces_first Apple = (refl, refl)
-
-  traces_last : (t : Target) → Reads (codes "run" ∷ codes "--target" ∷ target_word t ∷ codes "--trace" ∷ []) (OnInput (Run t true))
-  unfolding clap_on_literals
-  traces_last Amd64 = (refl, refl)
-  traces_last Aapcs64 = (refl, refl)
-  traces_last Riscv = (refl, refl)
-  traces_last Win64 = (refl, refl)
-  traces_last Apple = (refl, refl)
+  read_as : (rest ws : List Text) (command : InputCommand) → rest ≡ ws → Reads ws (OnInput command) → Reads rest (OnInput command)
+  read_as rest ws command is reads = subst (λ ws. Reads ws (OnInput command)) (sym is) reads
 
   states_command : (rest : List Text) (command : InputCommand) → StatesCommand rest command → Reads rest (OnInput command)
-  states_command rest Layout is = subst (λ ws. Reads ws (OnInput Layout)) (sym is) lays
-  states_command rest Cdecl is = subst (λ ws. Reads ws (OnInput Cdecl)) (sym is) declares
-  states_command rest Cplace is = subst (λ ws. Reads ws (OnInput Cplace)) (sym is) declares_places
-  states_command rest Explain is = subst (λ ws. Reads ws (OnInput Explain)) (sym is) explains
-  states_command rest Arguments is = subst (λ ws. Reads ws (OnInput Arguments)) (sym is) reads_arguments
-  states_command rest (Place t) is = subst (λ ws. Reads ws (OnInput (Place t))) (sym is) (places t)
-  states_command rest (Run t false) is = subst (λ ws. Reads ws (OnInput (Run t false))) (sym is) (runs t)
-  states_command rest (Run t true) (inl is) =
-      subst (λ ws. Reads ws (OnInput (Run t true))) (sym is) (traces_first t)
-  states_command rest (Run t true) (inr is) =
-      subst (λ ws. Reads ws (OnInput (Run t true))) (sym is) (traces_last t)
+  unfolding clap_on_literals
+  states_command rest Layout is = read_as rest _ Layout is (refl, refl)
+  states_command rest Cdecl is = read_as rest _ Cdecl is (refl, refl)
+  states_command rest Cplace is = read_as rest _ Cplace is (refl, refl)
+  states_command rest Explain is = read_as rest _ Explain is (refl, refl)
+  states_command rest Arguments is = read_as rest _ Arguments is (refl, refl)
+  states_command rest (Place t) is = read_as rest _ (Place t) is (with_target t).0
+  states_command rest (Run t false) is = read_as rest _ (Run t false) is (with_target t).1
+  states_command rest (Run t true) (inl is) = read_as rest _ (Run t true) is (with_target t).2
+  states_command rest (Run t true) (inr is) = read_as rest _ (Run t true) is (with_target t).3
 
   states : (rest : List Text) (r : Request) → StatesAfterName rest r → Reads rest r
   states rest (OnInput command) is = states_command rest command is

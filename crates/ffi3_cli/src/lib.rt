@@ -1,4 +1,4 @@
-//! The words of the program, and its help.
+//! Reads the command line, and writes its help.
 #![tactic(auto)]
 
 mod command;

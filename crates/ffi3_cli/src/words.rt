@@ -3,7 +3,7 @@ ghost use Rattle.std.specs.Prelude.{◌≡◌, IfOk, IfErr, Some, map, option_ma
 ghost use Rattle.clap.specs.Words.{subcommand_rows_of};
 ghost use Rattle.ffi3_cli_spec.specs.WordCommands.{asked, bench_of, is_set, number_of, request_of, target_of};
 ghost use Rattle.ffi3_cli_spec.specs.Words.{IsStated, Takes, target_word};
-ghost use Rattle.ffi3_cli.specs.WordAnswers.{IsInRange, IsWordsRefusal, IsToldAs};
+ghost use Rattle.ffi3_cli.specs.WordAnswers.{IsAnswered, IsInRange, IsWordsRefusal, IsToldAs};
 
 use crate::command::program;
 use crate::help;
@@ -34,6 +34,13 @@ pub fn read_words(alloc: Global, words: Vec<String>) -> Result<Request, WordsFau
         IfOk result (λ q. q ≡ r) × IfErr result (λ e. e ≡ WordsFault.NoMemory) }
     ensures stated { (r : Request) → IsStated (map string_bytes words.items) r →
         IfOk result (λ q. q ≡ r) × IfErr result (λ e. e ≡ WordsFault.NoMemory) }
+{
+    answer(alloc, &words)
+}
+
+// The same: what `clap` makes of the words, from which all else follows.
+fn answer(alloc: Global, words: &Vec<String>) -> Result<Request, WordsFault>
+    ensures { IsAnswered (map string_bytes words.now.items) result }
 {
     let Ok(command) = program(alloc) else {
         return Err(WordsFault::NoMemory);
