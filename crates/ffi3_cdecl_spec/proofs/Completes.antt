@@ -1,9 +1,9 @@
 -- What the grammar has is accepted.
-use Rattle.std.proofs.Common.{◌≡◌, ℕ, zero, suc, ◌+◌, ◌<◌, ◌⊎◌, inl, inr, true, false, List, [], ◌∷◌, ◌++◌, length, Option, Some, None, option_map, ap, sym, subst, refl, ◌∙◌, append-nil, lt-ltb, true≢false, arith}
+use Rattle.std.proofs.Common.{◌≡◌, ℕ, zero, suc, ◌+◌, ◌<◌, ◌⊎◌, inl, inr, Bool, true, false, List, [], ◌∷◌, ◌++◌, length, Option, Some, None, option_map, ap, sym, subst, refl, ◌∙◌, append-nil, lt-ltb, true≢false, arith}
 use Rattle.ffi3_type_spec.specs.Tree.{Scalar, float, double, Tree, void, scalar, struct_of, array_of}
-use Rattle.ffi3_cdecl_spec.specs.Tokens.{Dialect, plain, wide, Token, Sign, signed, unsigned, type_word, sign_word, const_word, short_word, int_word, long_word, int128_word, char_word, complex_word, void_word, struct_word, name, number, open_round, close_round, open_curly, close_curly, open_square, close_square, star, comma, semicolon, dots}
-use Rattle.ffi3_cdecl_spec.specs.Grammar.{Kind, whole, bare, nothing, MOST_OPEN, pointer_type, short_of, int_of, long_of, Declaration, declared, IsIntOrNot, no_int, with_int, IsLongTail, one_long, two_longs, IsSized, a_short, an_int, a_long, an_int128, IsSigned, sign_alone, sign_of_char, sign_of_size, IsStars, one_star, more_stars, IsCounts, no_count, a_count, specifier_number, named_by, AreSpecifiers, no_more_words, a_word, Shape, a_value, an_array, handed, pointer_shape, array_shape, passed, member_type, returned, Naming, must_be_named, may_be_named, may_begin, opens_round, IsCalled, the_name, in_brackets, IsBase, by_word, by_size, by_sign, a_char, by_specifiers, a_void, a_tag, a_union, an_enum, a_name, a_struct, a_tagged_struct, IsQualified, unqualified, constant, IsType, itself, pointer_to, is_named_bound, IsSuffixes, no_suffix, known_array, open_array, named_array, a_list, IsDeclarator, a_pointer, a_named, unnamed, in_round, IsInner, inner_of, IsInners, last_inner, inner_dots, next_inner, IsInnerList, no_inners, inner_void, some_inners, IsMember, a_member, AreDeclared, one_declared, then_members, then_declared, IsMembers, last_member, next_member, of_a_base, IsParameter, without_name, with_name, a_declared_one, IsParameters, last_parameter, last_before_dots, before_types, next_parameter, IsParameterList, no_parameters, only_void, some_parameters, IsResult, a_result, no_result, Function, IsFunction, returns_pointer, a_function_here, a_function_inside, IsEnd, no_semicolon, one_semicolon, IsDeclarationIn, declares, declares_by}
-use Rattle.ffi3_cdecl_spec.specs.Machine.{Round, unstarred, starred, and_more, brackets, bracket_inside, Head, Where, at_result, at_parameter, at_member, at_inner, Settled, a_parameter, an_inner, a_pointer_member, the_function, plain_member, starred_member, depth, depth_of, onto, arrays, Said, a_float, a_double, words_of, nothing_said, say, State, wants_type, wants_base, after_words, after_sign, after_short, after_long, after_long_long, after_struct, wants_star, sole_void, typed, opened, after_comma, member_named, after_member, declarator, round_opened, member_at, settled, list_opened, list_void, list_comma, closed, dead, based, based_in, step_base, words_go_on, opened_struct, step_declarator, step_unnamed, declared_name, parameter_by, inner_by, list_with_room, member_ends, function_named, closing, list_ended, step_closing, fixing, function_name, bracket_or_end, itself_or_bracket, nothing_or_bracket, step_named_by, step_words, step, finish, begun, Accepts}
+use Rattle.ffi3_cdecl_spec.specs.Tokens.{Dialect, plain, wide, Token, Sign, signed, unsigned, type_word, sign_word, const_word, short_word, int_word, long_word, int128_word, char_word, complex_word, void_word, name, number, open_round, close_round, open_curly, close_curly, open_square, close_square, star, comma, semicolon, dots}
+use Rattle.ffi3_cdecl_spec.specs.Grammar.{Kind, whole, bare, nothing, MOST_OPEN, pointer_type, short_of, int_of, long_of, Declaration, declared, IsIntOrNot, no_int, with_int, IsLongTail, one_long, two_longs, IsSized, a_short, a_long, IsSigned, sign_alone, sign_of_char, sign_of_size, IsStars, one_star, more_stars, IsCounts, no_count, a_count, specifier_number, named_by, AreSpecifiers, no_more_words, a_word, Shape, a_value, an_array, handed, pointer_shape, array_shape, passed, member_type, returned, Naming, must_be_named, may_be_named, may_begin, opens_round, IsCalled, the_name, in_brackets, IsBase, by_word, by_size, by_sign, a_char, by_specifiers, a_void, a_tag, a_union, an_enum, a_name, a_struct, a_tagged_struct, IsQualified, unqualified, constant, IsType, itself, pointer_to, is_named_bound, IsSuffixes, no_suffix, known_array, open_array, named_array, a_list, IsDeclarator, a_pointer, a_named, unnamed, in_round, IsInner, inner_of, IsInners, last_inner, inner_dots, next_inner, IsInnerList, no_inners, inner_void, some_inners, IsMember, a_member, AreDeclared, one_declared, then_members, then_declared, IsMembers, last_member, next_member, of_a_base, IsParameter, without_name, with_name, a_declared_one, IsParameters, last_parameter, last_before_dots, before_types, next_parameter, IsParameterList, no_parameters, only_void, some_parameters, IsResult, a_result, no_result, Function, IsFunction, returns_pointer, a_function_here, a_function_inside, IsEnd, no_semicolon, one_semicolon, IsDeclarationIn, declares, declares_by}
+use Rattle.ffi3_cdecl_spec.specs.Machine.{Round, unstarred, starred, brackets, bracket_inside, Head, Where, at_result, at_parameter, at_member, at_inner, Settled, a_parameter, an_inner, a_pointer_member, the_function, plain_member, starred_member, depth, depth_of, onto, arrays, Said, a_float, a_double, words_of, nothing_said, say, State, wants_type, wants_base, after_words, after_sign, after_short, after_long, after_long_long, after_struct, wants_star, sole_void, typed, opened, after_comma, member_named, after_member, declarator, round_opened, member_at, settled, list_opened, list_void, list_comma, closed, dead, based, based_in, step_base, words_go_on, opened_struct, step_declarator, step_unnamed, declared_name, parameter_by, inner_by, list_with_room, member_ends, function_named, closing, list_ended, itself_ends, step_closing, fixing, function_name, step_named_by, step_words, step, after, finish, begun, Accepts}
 use Rattle.std.specs.Prelude.{⊤}
 use Rattle.ffi3_cdecl_spec.proofs.Shapes.{arrays_shape, handed_arrays, value_member}
 use Rattle.ffi3_cdecl_spec.proofs.Fixed.{more_fixed, more_again, one_more_fixed, none_before}
@@ -14,51 +14,43 @@ module _ (r : Dialect) (d : Declaration) where
   -- ---- where a word that may follow is left out
 
   short_ends : (g : Sign) (w : Where) (ts : List Token) → Accepts r (typed (scalar (short_of g)) w) ts d → Accepts r (after_short g w) ts d
-  short_ends g w [] h = h
   short_ends g w (int_word ∷ xs) h = absurd (never r d xs h)
-  short_ends g w (x ∷ xs) h = h
+  short_ends g w xs h = h
 
   long_ends : (g : Sign) (w : Where) (ts : List Token) → Accepts r (typed (scalar (long_of g)) w) ts d → Accepts r (after_long g w) ts d
-  long_ends g w [] h = h
   long_ends g w (int_word ∷ xs) h = absurd (never r d xs h)
   long_ends g w (long_word ∷ xs) h = absurd (never r d xs h)
-  long_ends g w (x ∷ xs) h = h
+  long_ends g w xs h = h
 
   long_long_ends : (g : Sign) (w : Where) (ts : List Token) → Accepts r (typed (scalar (long_of g)) w) ts d → Accepts r (after_long_long g w) ts d
-  long_long_ends g w [] h = h
   long_long_ends g w (int_word ∷ xs) h = absurd (never r d xs h)
-  long_long_ends g w (x ∷ xs) h = h
+  long_long_ends g w xs h = h
 
   sign_ends : (g : Sign) (w : Where) (ts : List Token) → Accepts r (typed (scalar (int_of g)) w) ts d → Accepts r (after_sign g w) ts d
-  sign_ends g w [] h = h
   sign_ends g w (char_word c ∷ xs) h = absurd (never r d xs h)
   sign_ends g w (short_word ∷ xs) h = absurd (never r d xs h)
   sign_ends g w (int_word ∷ xs) h = absurd (never r d xs h)
   sign_ends g w (long_word ∷ xs) h = absurd (never r d xs h)
   sign_ends g w (int128_word ∷ xs) h = absurd (never r d xs h)
-  sign_ends g w (x ∷ xs) h = h
+  sign_ends g w xs h = h
 
   -- a base has no `const` in front
   base_as_type : (w : Where) (ts : List Token) → Accepts r (wants_base w) ts d → Accepts r (wants_type w) ts d
-  base_as_type w [] h = h
   base_as_type w (const_word ∷ xs) h = absurd (never r d xs h)
-  base_as_type w (x ∷ xs) h = h
+  base_as_type w xs h = h
 
   -- a type does not begin with the mark that ends
   type_as_member : (ts : List Tree) (w : Where) (xs : List Token) → Accepts r (wants_type (at_member ts w)) xs d → Accepts r (after_member ts w) xs d
-  type_as_member ts w [] h = h
   type_as_member ts w (close_curly ∷ xs) h = absurd (never r d xs h)
-  type_as_member ts w (x ∷ xs) h = h
+  type_as_member ts w xs h = h
 
   type_as_next : (head : Head) (ts : List Tree) (xs : List Token) → Accepts r (wants_type (at_parameter head ts)) xs d → Accepts r (after_comma head ts) xs d
-  type_as_next head ts [] h = h
   type_as_next head ts (dots ∷ xs) h = absurd (never r d xs h)
-  type_as_next head ts (x ∷ xs) h = h
+  type_as_next head ts xs h = h
 
   type_as_list : (u : Settled) (xs : List Token) → Accepts r (wants_type (at_inner u)) xs d → Accepts r (list_comma u) xs d
-  type_as_list u [] h = h
   type_as_list u (dots ∷ xs) h = absurd (never r d xs h)
-  type_as_list u (x ∷ xs) h = h
+  type_as_list u xs h = h
 
 -- `void` first among the parameters
 star_as_void : (d : Declaration) (head : Head) (xs : List Token) → Accepts plain (wants_star (at_parameter head [])) xs d → Accepts plain (sole_void head) xs d
@@ -67,80 +59,45 @@ star_as_void d head (star ∷ xs) h = h
 star_as_void d head (x ∷ xs) h = absurd (never plain d xs h)
 
 declarator_as_void : (d : Declaration) (head : Head) (xs : List Token) → Accepts wide (declarator nothing (unstarred 0) (at_parameter head [])) xs d → Accepts wide (sole_void head) xs d
-declarator_as_void d head [] h = h
 declarator_as_void d head (close_round ∷ xs) h = absurd (never wide d xs h)
-declarator_as_void d head (x ∷ xs) h = h
+declarator_as_void d head xs h = h
 
 void_as_first : (r : Dialect) (d : Declaration) (head : Head) (xs : List Token) → Accepts r (based_in r nothing (at_parameter head [])) xs d → Accepts r (sole_void head) xs d
 void_as_first plain d head xs h = star_as_void d head xs h
 void_as_first wide d head xs h = declarator_as_void d head xs h
 
 declarator_as_inner_void : (d : Declaration) (u : Settled) (xs : List Token) → Accepts wide (declarator nothing (unstarred 0) (at_inner u)) xs d → Accepts wide (list_void u) xs d
-declarator_as_inner_void d u [] h = h
 declarator_as_inner_void d u (close_round ∷ xs) h = absurd (never wide d xs h)
-declarator_as_inner_void d u (x ∷ xs) h = h
+declarator_as_inner_void d u xs h = h
 
 type_as_opened : (d : Declaration) (u : Settled) (xs : List Token) → Accepts wide (wants_type (at_inner u)) xs d → Accepts wide (list_opened u) xs d
-type_as_opened d u [] h = h
 type_as_opened d u (close_round ∷ xs) h = absurd (never wide d xs h)
 type_as_opened d u (void_word ∷ xs) h = declarator_as_inner_void d u xs h
-type_as_opened d u (x ∷ xs) h = h
+type_as_opened d u xs h = h
 
 type_as_first : (r : Dialect) (d : Declaration) (head : Head) (xs : List Token) → Accepts r (wants_type (at_parameter head [])) xs d → Accepts r (opened head) xs d
-type_as_first r d head [] h = h
 type_as_first r d head (close_round ∷ xs) h = absurd (never r d xs h)
 type_as_first r d head (void_word ∷ xs) h = void_as_first r d head xs h
-type_as_first r d head (x ∷ xs) h = h
+type_as_first r d head xs h = h
 
 -- ---- words of a type in the wide reading
 
 -- no word of a type stands behind a base
-unnamed_dead : (k : Kind) (w : Where) (x : Token) → 0 < specifier_number x → step_unnamed k (unstarred zero) w x ≡ dead
-unnamed_dead k at_result x h = refl
-unnamed_dead k (at_member ts w) x h = refl
-unnamed_dead k (at_parameter head ts) open_square h = absurd (omega arith)
-unnamed_dead (whole t) (at_parameter head ts) close_round h = absurd (omega arith)
-unnamed_dead (whole t) (at_parameter head ts) comma h = absurd (omega arith)
-unnamed_dead (whole t) (at_parameter head ts) x h = refl
-unnamed_dead bare (at_parameter head ts) x h = refl
-unnamed_dead nothing (at_parameter head ts) x h = refl
-unnamed_dead k (at_inner u) open_square h = absurd (omega arith)
-unnamed_dead nothing (at_inner u) x h = refl
-unnamed_dead k (at_inner u) close_round h = absurd (omega arith)
-unnamed_dead k (at_inner u) comma h = absurd (omega arith)
-unnamed_dead (whole t) (at_inner u) x h = refl
-unnamed_dead bare (at_inner u) x h = refl
-
-pub specifier_dead : (k : Kind) (w : Where) (x : Token) → 0 < specifier_number x → step_declarator k (unstarred zero) w x ≡ dead
-specifier_dead k w star h = absurd (omega arith)
-specifier_dead k w (name called) h = absurd (omega arith)
-specifier_dead k w open_round h = absurd (omega arith)
-specifier_dead k w x h = unnamed_dead k w x h
+specifier_dead : (k : Kind) (w : Where) (x : Token) → 0 < specifier_number x → step_declarator k (unstarred zero) w x ≡ dead
+specifier_dead k w x h = grind arith
 
 -- a word of a type, behind others and first
-pub step_words_is : (s : Said) (w : Where) (x : Token) → 0 < specifier_number x → step_words s w x ≡ words_go_on w (say s x)
-step_words_is s w (sign_word g) h = refl
-step_words_is s w short_word h = refl
-step_words_is s w int_word h = refl
-step_words_is s w long_word h = refl
-step_words_is s w int128_word h = refl
-step_words_is s w (char_word c) h = refl
-step_words_is s w complex_word h = refl
+step_words_is : (s : Said) (w : Where) (x : Token) → 0 < specifier_number x → step_words s w x ≡ words_go_on w (say s x)
 step_words_is s w (type_word float) h = refl
-step_words_is s w (type_word double) h = refl
-step_words_is s w x h = absurd (omega arith)
+step_words_is s w (sign_word g) h = refl
+step_words_is s w (char_word c) h = refl
+step_words_is s w x h = grind arith
 
-pub first_word_is : (w : Where) (x : Token) → 0 < specifier_number x → step_base wide w x ≡ words_go_on w (say nothing_said x)
-first_word_is w (sign_word g) h = refl
-first_word_is w short_word h = refl
-first_word_is w int_word h = refl
-first_word_is w long_word h = refl
-first_word_is w int128_word h = refl
-first_word_is w (char_word c) h = refl
-first_word_is w complex_word h = refl
+first_word_is : (w : Where) (x : Token) → 0 < specifier_number x → step_base wide w x ≡ words_go_on w (say nothing_said x)
 first_word_is w (type_word float) h = refl
-first_word_is w (type_word double) h = refl
-first_word_is w x h = absurd (omega arith)
+first_word_is w (sign_word g) h = refl
+first_word_is w (char_word c) h = refl
+first_word_is w x h = grind arith
 
 none_kind : (k : Kind) → None ≡ Some k → ⊥
 none_kind k e = cc
@@ -149,9 +106,7 @@ module _ (d : Declaration) where
   -- no "{" stands behind a base
   curly_dead : (w : Where) (xs : List Token) → Accepts wide (declarator bare (unstarred zero) w) (open_curly ∷ xs) d → ⊥
   curly_dead at_result xs h = never wide d xs h
-  curly_dead (at_parameter head ts) xs h = never wide d xs h
-  curly_dead (at_member ts w) xs h = never wide d xs h
-  curly_dead (at_inner u) xs h = never wide d xs h
+  curly_dead _ xs h = never wide d xs h
 
   no_specifier : (k : Kind) (w : Where) (x : Token) (xs : List Token) → 0 < specifier_number x → Accepts wide (declarator k (unstarred zero) w) (x ∷ xs) d → ⊥
   no_specifier k w x xs h a =
@@ -217,9 +172,8 @@ module _ (d : Declaration) where
   -- a tag, in the plain reading and in the wide one
   tag_runs : (r : Dialect) (tag : List ℕ) (w : Where) (ts : List Token) → Accepts r (based_in r bare w) ts d → Accepts r (after_struct w) (name tag ∷ ts) d
   tag_runs plain tag w ts h = h
-  tag_runs wide tag w [] h = h
   tag_runs wide tag w (open_curly ∷ xs) h = absurd (curly_dead w xs h)
-  tag_runs wide tag w (x ∷ xs) h = h
+  tag_runs wide tag w ts h = h
 
 module _ (r : Dialect) (d : Declaration) where
   -- ---- bases
@@ -242,9 +196,8 @@ module _ (r : Dialect) (d : Declaration) where
 
   signed_size_runs : {before behind : List Token} {s : Scalar} (g : Sign) (w : Where) → IsSized g before behind s → Accepts r (typed (scalar s) w) behind d → Accepts r (after_sign g w) before d
   signed_size_runs g w (a_short i) h = short_runs g w i h
-  signed_size_runs g w an_int h = h
   signed_size_runs g w (a_long i) h = long_runs g w i h
-  signed_size_runs g w an_int128 h = h
+  signed_size_runs g w _ h = h
 
   sign_runs : {before behind : List Token} {s : Scalar} (g : Sign) (w : Where) → IsSigned g before behind s → Accepts r (typed (scalar s) w) behind d → Accepts r (after_sign g w) before d
   sign_runs {before = ts} g w sign_alone h = sign_ends r d g w ts h
@@ -268,21 +221,10 @@ module _ (r : Dialect) (d : Declaration) where
 
 size_runs : {before behind : List Token} {s : Scalar} (d : Declaration) (w : Where) → IsSized signed before behind s → Accepts plain (typed (scalar s) w) behind d → Accepts plain (wants_base w) before d
 size_runs d w (a_short i) h = short_runs plain d signed w i h
-size_runs d w an_int h = h
 size_runs d w (a_long i) h = long_runs plain d signed w i h
-size_runs d w an_int128 h = h
-
--- a struct that has a tag and members
-tagged_opens : (tag : List ℕ) (w : Where) (ts : List Token) (r : Dialect) (d : Declaration) → r ≡ wide → Accepts r (opened_struct w) ts d → Accepts r (wants_base w) (struct_word ∷ name tag ∷ open_curly ∷ ts) d
-tagged_opens tag w ts r d p =
-    subst (λ q. Accepts q (opened_struct w) ts d → Accepts q (wants_base w) (struct_word ∷ name tag ∷ open_curly ∷ ts) d) (sym p) (λ a. a)
+size_runs d w _ h = h
 
 module _ (r : Dialect) (d : Declaration) where
-  -- what holds in the reading that this is
-  in_reading : (q : Dialect) (s t : State) (xs ys : List Token) → r ≡ q → (Accepts q s xs d → Accepts q t ys d) → Accepts r s xs d → Accepts r t ys d
-  in_reading q s t xs ys p f =
-      subst (λ q. Accepts q s xs d → Accepts q t ys d) (sym p) f
-
   -- ---- the plain reading's types
 
   plain_starred : (k : Kind) (w : Where) {before behind : List Token} → IsStars before behind → Accepts r (typed pointer_type w) behind d → Accepts r (based k w) before d
@@ -364,99 +306,160 @@ Suits may_be_named (at_inner u) = ⊤
 Suits must_be_named (at_member ts w) = ⊤
 Suits m w = ⊥
 
--- tokens that begin a declarator and stand behind none
-abbrev EndsNothing : Token → Type 0
-EndsNothing star = ⊤
-EndsNothing (name called) = ⊤
-EndsNothing x = ⊥
+-- ---- one suffix, one bracket: the states there
 
-abbrev IsMemberEnd : Token → Type 0
-IsMemberEnd semicolon = ⊤
-IsMemberEnd comma = ⊤
-IsMemberEnd x = ⊥
+-- what is settled behind a suffix that is no known array
+abbrev lent_there : Where → Kind → Progress → Round → Option Settled
+lent_there (at_parameter head ts) k g o =
+    Some (a_parameter head ts (brackets o))
+lent_there (at_inner u) k g o = Some (an_inner u (brackets o))
+lent_there (at_member ts w) k (pointing ns) o =
+    Some (a_pointer_member k ns ts w (brackets o))
+lent_there w k g o = None
 
+abbrev there_or_dead : (Settled → State) → Option Settled → State
+there_or_dead state (Some u) = state u
+there_or_dead state None = dead
+
+abbrev IsSoDeep : ℕ → Option Settled → Type 0
+IsSoDeep n (Some u) = depth_of u ≡ n
+IsSoDeep n None = ⊤
+
+lent_is : (w : Where) (g : Progress) (k : Kind) (o : Round) → state_at w k o (with_other g) ≡ there_or_dead (λ u. settled u) (lent_there w k g o)
+lent_is (at_parameter head ts) lent k o = refl
+lent_is (at_inner u) lent k o = refl
+lent_is (at_member ts w) lent k o = refl
+lent_is w g k o = refl
+
+lent_depth : (w : Where) (g : Progress) (k : Kind) (o : Round) → IsSoDeep (depth w + brackets o) (lent_there w k g o)
+lent_depth at_result g k o = tt
+lent_depth (at_parameter head ts) g k o = omega arith
+lent_depth (at_inner u) g k o = refl
+lent_depth (at_member ts w) (pointing ns) k o = refl
+lent_depth (at_member ts w) g k o = tt
+
+bound_steps : (w : Where) (g : Progress) (o : Round) (k : Kind) (n : ℕ) → after wide (state_at w k o g) (open_square ∷ number n ∷ close_square ∷ []) ≡ state_at w k o (with_bound g n)
+bound_steps (at_parameter head ts) (still []) (unstarred i) k n = refl
+bound_steps (at_inner u) (still []) (unstarred i) (whole t) n = refl
+bound_steps (at_member ts w) (still ns) (unstarred i) (whole t) n = refl
+bound_steps w g o k n = refl
+
+open_steps : (w : Where) (g : Progress) (o : Round) (k : Kind) → after wide (state_at w k o g) (open_square ∷ close_square ∷ []) ≡ state_at w k o (with_other g)
+open_steps (at_parameter head ts) (still []) (unstarred i) k = refl
+open_steps (at_inner u) (still []) (unstarred i) (whole t) = refl
+open_steps (at_member ts w) (still ns) (unstarred i) (whole t) = refl
+open_steps w g o k = refl
+
+named_steps : (x : Token) (w : Where) (g : Progress) (o : Round) (k : Kind) → is_named_bound x ≡ true → after wide (state_at w k o g) (open_square ∷ x ∷ close_square ∷ []) ≡ state_at w k o (with_other g)
+named_steps star (at_parameter head ts) (still []) (unstarred i) k is = refl
+named_steps star (at_inner u) (still []) (unstarred i) (whole t) is = refl
+named_steps star (at_member ts w) (still ns) (unstarred i) (whole t) is = refl
+named_steps star w g o k is = refl
+named_steps (name called) (at_parameter head ts) (still []) (unstarred i) k is = refl
+named_steps (name called) (at_inner u) (still []) (unstarred i) (whole t) is = refl
+named_steps (name called) (at_member ts w) (still ns) (unstarred i) (whole t) is = refl
+named_steps (name called) w g o k is = refl
+named_steps x w g o k is = absurd (true≢false (sym is))
+
+no_list : (ts : List Tree) (w : Where) (k : Kind) (o : Round) (ns : List ℕ) → step wide (state_at (at_member ts w) k o (still ns)) open_round ≡ dead
+no_list ts w k o ns = grind arith
+
+list_begins : (w : Where) (g : Progress) (o : Round) (k : Kind) → step wide (state_at w k o g) open_round ≡ there_or_dead list_with_room (lent_there w k g o)
+list_begins (at_parameter head ts) (still []) (unstarred i) k = refl
+list_begins (at_inner u) (still []) (unstarred i) (whole t) = refl
+list_begins (at_member ts w) (still ns) o k = no_list ts w k o ns
+list_begins w g o k = refl
+
+close_steps : (o : Round) (w : Where) (g : Progress) (k : Kind) → step wide (state_at w k (bracket_inside o) g) close_round ≡ state_at w k o g
+close_steps (unstarred i) (at_parameter head ts) (still []) k = refl
+close_steps (unstarred i) (at_inner u) (still []) (whole t) = refl
+close_steps (unstarred i) (at_member ts w) (still ns) (whole t) = refl
+close_steps (starred i j) (at_parameter head ts) (still []) k = refl
+close_steps (starred i j) (at_inner u) (still []) k = refl
+close_steps (starred i j) (at_member ts w) (still ns) k = refl
+close_steps o w g k = refl
+
+star_close_steps : (w : Where) (g : Progress) (o : Round) (k : Kind) → step wide (state_at w k (starred 0 (suc (brackets o))) g) close_round ≡ state_at w k o (with_star g)
+star_close_steps (at_parameter head ts) (still []) o k = refl
+star_close_steps (at_inner u) (still []) o k = refl
+star_close_steps (at_member ts w) (still ns) o k = refl
+star_close_steps w g o k = refl
+
+one_less : (o : Round) → brackets (bracket_inside o) ≡ suc (brackets o)
+one_less (unstarred n) = refl
+one_less (starred n m) = refl
+
+-- ---- where a name is left out
+
+-- no star and no name stands there
+star_dead : (w : Where) (k : Kind) (o : Round) → Suits may_be_named w → step wide (state_at w k o (still [])) star ≡ dead
+star_dead w k o m = grind arith
+
+name_dead : (w : Where) (k : Kind) (o : Round) (called : List ℕ) → Suits may_be_named w → step wide (state_at w k o (still [])) (name called) ≡ dead
+name_dead w k o called m = grind arith
+
+place_unfinished : (w : Where) (k : Kind) (o : Round) → Suits may_be_named w → finish (state_at w k o (still [])) ≡ None
+place_unfinished w k o m = grind arith
+
+-- tokens but "("
 abbrev IsOther : Token → Type 0
 IsOther open_round = ⊥
 IsOther x = ⊤
 
+-- other tokens lead alike from where a name is left out and from behind it
+place_alike : (x : Token) (w : Where) (o : Round) (k : Kind) → IsOther x → Suits may_be_named w → step wide (state_at w k o (still [])) x ≡ step_unnamed k o w x
+place_alike open_round w o k e m = absurd e
+place_alike open_square (at_parameter head ts) (unstarred n) k e m = refl
+place_alike open_square (at_inner u) (unstarred n) (whole t) e m = refl
+place_alike x at_result o k e m = absurd m
+place_alike x (at_member ts w) o k e m = absurd m
+place_alike x (at_parameter head ts) (unstarred n) k e m = refl
+place_alike x (at_inner u) (unstarred n) (whole t) e m = refl
+place_alike x w o k e m = refl
+
+name_steps : (w : Where) (n : Naming) (o : Round) (k : Kind) (called : List ℕ) → Suits n w → declared_name k o w called ≡ state_at w k o (still [])
+name_steps at_result must_be_named o k called m = absurd m
+name_steps at_result may_be_named o k called m = absurd m
+name_steps (at_member ts w) n (unstarred i) (whole t) called m = refl
+name_steps w n o k called m = refl
+
+-- ---- the end of a member
+
+abbrev member_end : Bool → Token
+member_end true = semicolon
+member_end false = comma
+
+-- the type of a member, of a base of this kind
+abbrev member_there : Progress → Kind → Option Tree
+member_there (still ns) (whole t) = Some (arrays ns t)
+member_there (pointing ns) k = Some (arrays ns pointer_type)
+member_there g k = None
+
+member_is : (g : Progress) (k : Kind) → member_type (shape_with g (a_value k)) ≡ member_there g k
+member_is (still ns) (whole t) = value_member ns t
+member_is (still []) k = refl
+member_is (still (n ∷ ns)) k = ap member_type (handed_arrays ns)
+member_is (pointing ns) k = value_member ns pointer_type
+member_is lent k = refl
+
+abbrev ends_as : Kind → List Tree → Where → Token → Option Tree → State
+ends_as k ts w x (Some t) = member_ends k t ts w x
+ends_as k ts w x None = dead
+
+member_steps : (b : Bool) (g : Progress) (k : Kind) (ts : List Tree) (w : Where) → step wide (state_at (at_member ts w) k (unstarred zero) g) (member_end b) ≡ ends_as k ts w (member_end b) (member_there g k)
+member_steps true (still ns) (whole t) ts w = refl
+member_steps false (still ns) (whole t) ts w = refl
+member_steps b g k ts w = refl
+
+star_member_steps : (b : Bool) (g : Progress) (k : Kind) (ts : List Tree) (w : Where) → step wide (state_at (at_member ts w) k (starred zero zero) g) (member_end b) ≡ ends_as k ts w (member_end b) (member_there g (whole pointer_type))
+star_member_steps true (still ns) k ts w = refl
+star_member_steps false (still ns) k ts w = refl
+star_member_steps b g k ts w = refl
+
 module _ (d : Declaration) where
-  -- ---- one suffix, one bracket
-
-  bound_steps : (w : Where) (k : Kind) (o : Round) (g : Progress) (n : ℕ) (xs : List Token) → Accepts wide (state_at w k o (with_bound g n)) xs d → Accepts wide (state_at w k o g) (open_square ∷ number n ∷ close_square ∷ xs) d
-  bound_steps at_result k o g n xs h = absurd (never wide d xs h)
-  bound_steps (at_parameter head ts) k (unstarred i) (still []) n xs h = h
-  bound_steps (at_parameter head ts) k (starred i j) (still []) n xs h = h
-  bound_steps (at_parameter head ts) k o (still (i ∷ ns)) n xs h = h
-  bound_steps (at_parameter head ts) k o (pointing ns) n xs h = h
-  bound_steps (at_parameter head ts) k o lent n xs h = h
-  bound_steps (at_inner u) (whole t) (unstarred i) (still []) n xs h = h
-  bound_steps (at_inner u) bare (unstarred i) (still []) n xs h = h
-  bound_steps (at_inner u) nothing (unstarred i) (still []) n xs h = h
-  bound_steps (at_inner u) k (starred i j) (still []) n xs h = h
-  bound_steps (at_inner u) k o (still (i ∷ ns)) n xs h = h
-  bound_steps (at_inner u) k o (pointing ns) n xs h = h
-  bound_steps (at_inner u) k o lent n xs h = h
-  bound_steps (at_member ts w) (whole t) (unstarred i) (still ns) n xs h = h
-  bound_steps (at_member ts w) bare (unstarred i) (still ns) n xs h =
-      absurd (never wide d xs h)
-  bound_steps (at_member ts w) nothing (unstarred i) (still ns) n xs h =
-      absurd (never wide d xs h)
-  bound_steps (at_member ts w) k (starred i j) (still ns) n xs h = h
-  bound_steps (at_member ts w) k o (pointing ns) n xs h = h
-  bound_steps (at_member ts w) k o lent n xs h = absurd (never wide d xs h)
-
-  open_steps : (w : Where) (k : Kind) (o : Round) (g : Progress) (xs : List Token) → Accepts wide (state_at w k o (with_other g)) xs d → Accepts wide (state_at w k o g) (open_square ∷ close_square ∷ xs) d
-  open_steps at_result k o g xs h = absurd (never wide d xs h)
-  open_steps (at_parameter head ts) k (unstarred i) (still []) xs h = h
-  open_steps (at_parameter head ts) k (starred i j) (still []) xs h = h
-  open_steps (at_parameter head ts) k o (still (i ∷ ns)) xs h = h
-  open_steps (at_parameter head ts) k o (pointing ns) xs h = h
-  open_steps (at_parameter head ts) k o lent xs h = h
-  open_steps (at_inner u) (whole t) (unstarred i) (still []) xs h = h
-  open_steps (at_inner u) bare (unstarred i) (still []) xs h = h
-  open_steps (at_inner u) nothing (unstarred i) (still []) xs h = h
-  open_steps (at_inner u) k (starred i j) (still []) xs h = h
-  open_steps (at_inner u) k o (still (i ∷ ns)) xs h = h
-  open_steps (at_inner u) k o (pointing ns) xs h = h
-  open_steps (at_inner u) k o lent xs h = h
-  open_steps (at_member ts w) k o (still ns) xs h = absurd (never wide d xs h)
-  open_steps (at_member ts w) k o (pointing ns) xs h = h
-  open_steps (at_member ts w) k o lent xs h = absurd (never wide d xs h)
-
-  named_steps : (w : Where) (k : Kind) (o : Round) (g : Progress) (x : Token) (xs : List Token) → is_named_bound x ≡ true → Accepts wide (state_at w k o (with_other g)) xs d → Accepts wide (state_at w k o g) (open_square ∷ x ∷ close_square ∷ xs) d
-  named_steps at_result k o g star xs is h = absurd (never wide d xs h)
-  named_steps (at_parameter head ts) k (unstarred i) (still []) star xs is h = h
-  named_steps (at_parameter head ts) k (starred i j) (still []) star xs is h = h
-  named_steps (at_parameter head ts) k o (still (i ∷ ns)) star xs is h = h
-  named_steps (at_parameter head ts) k o (pointing ns) star xs is h = h
-  named_steps (at_parameter head ts) k o lent star xs is h = h
-  named_steps (at_inner u) (whole t) (unstarred i) (still []) star xs is h = h
-  named_steps (at_inner u) bare (unstarred i) (still []) star xs is h = h
-  named_steps (at_inner u) nothing (unstarred i) (still []) star xs is h = h
-  named_steps (at_inner u) k (starred i j) (still []) star xs is h = h
-  named_steps (at_inner u) k o (still (i ∷ ns)) star xs is h = h
-  named_steps (at_inner u) k o (pointing ns) star xs is h = h
-  named_steps (at_inner u) k o lent star xs is h = h
-  named_steps (at_member ts w) k o (still ns) star xs is h = absurd (never wide d xs h)
-  named_steps (at_member ts w) k o (pointing ns) star xs is h = h
-  named_steps (at_member ts w) k o lent star xs is h = absurd (never wide d xs h)
-  named_steps at_result k o g (name called) xs is h = absurd (never wide d xs h)
-  named_steps (at_parameter head ts) k (unstarred i) (still []) (name called) xs is h = h
-  named_steps (at_parameter head ts) k (starred i j) (still []) (name called) xs is h = h
-  named_steps (at_parameter head ts) k o (still (i ∷ ns)) (name called) xs is h = h
-  named_steps (at_parameter head ts) k o (pointing ns) (name called) xs is h = h
-  named_steps (at_parameter head ts) k o lent (name called) xs is h = h
-  named_steps (at_inner u) (whole t) (unstarred i) (still []) (name called) xs is h = h
-  named_steps (at_inner u) bare (unstarred i) (still []) (name called) xs is h = h
-  named_steps (at_inner u) nothing (unstarred i) (still []) (name called) xs is h = h
-  named_steps (at_inner u) k (starred i j) (still []) (name called) xs is h = h
-  named_steps (at_inner u) k o (still (i ∷ ns)) (name called) xs is h = h
-  named_steps (at_inner u) k o (pointing ns) (name called) xs is h = h
-  named_steps (at_inner u) k o lent (name called) xs is h = h
-  named_steps (at_member ts w) k o (still ns) (name called) xs is h = absurd (never wide d xs h)
-  named_steps (at_member ts w) k o (pointing ns) (name called) xs is h = h
-  named_steps (at_member ts w) k o lent (name called) xs is h = absurd (never wide d xs h)
-  named_steps w k o g x xs is h = absurd (true≢false (sym is))
+  -- a state by what it is
+  led : {s t : State} (xs : List Token) → s ≡ t → Accepts wide t xs d → Accepts wide s xs d
+  led xs e h = subst (λ s. Accepts wide s xs d) (sym e) h
 
   settled_named : (u : Settled) (x : Token) (xs : List Token) → is_named_bound x ≡ true → Accepts wide (settled u) xs d → Accepts wide (settled u) (open_square ∷ x ∷ close_square ∷ xs) d
   settled_named u star xs is h = h
@@ -472,182 +475,25 @@ module _ (d : Declaration) where
   Runs n xs mid =
       (u : Settled) → depth_of u ≡ n → Accepts wide (settled u) mid d → Accepts wide (list_opened u) xs d
 
-  list_of : (u : Settled) (n : ℕ) (xs mid : List Token) → depth_of u ≡ n → n < MOST_OPEN → Runs n xs mid → Accepts wide (settled u) mid d → Accepts wide (list_with_room u) xs d
-  list_of u n xs mid e room runs h =
-      list_opens u xs (subst (λ i. i < MOST_OPEN) (sym e) room) (runs u e h)
+  list_runs_in : (n : ℕ) (xs mid : List Token) (o : Option Settled) → IsSoDeep n o → n < MOST_OPEN → Runs n xs mid → Accepts wide (there_or_dead (λ u. settled u) o) mid d → Accepts wide (there_or_dead list_with_room o) xs d
+  list_runs_in n xs mid None deep room runs h = absurd (never wide d mid h)
+  list_runs_in n xs mid (Some u) deep room runs h =
+      list_opens u xs (subst (λ i. i < MOST_OPEN) (sym deep) room) (runs u deep h)
 
   list_steps : (w : Where) (k : Kind) (o : Round) (g : Progress) (n : ℕ) (xs mid : List Token) → n ≡ depth w + brackets o → n < MOST_OPEN → Runs n xs mid → Accepts wide (state_at w k o (with_other g)) mid d → Accepts wide (state_at w k o g) (open_round ∷ xs) d
-  list_steps at_result k o g n xs mid e room runs h = absurd (never wide d mid h)
-  list_steps (at_parameter head ts) k (unstarred i) (still []) n xs mid e room runs h =
-      list_of (a_parameter head ts i) n xs mid (omega (arith, e)) room runs h
-  list_steps (at_parameter head ts) k (starred i j) (still []) n xs mid e room runs h =
-      list_of (a_parameter head ts (and_more i j)) n xs mid (omega (arith, e)) room runs h
-  list_steps (at_parameter head ts) k o (still (i ∷ ns)) n xs mid e room runs h =
-      list_of (a_parameter head ts (brackets o)) n xs mid (omega (arith, e)) room runs h
-  list_steps (at_parameter head ts) k o (pointing ns) n xs mid e room runs h =
-      list_of (a_parameter head ts (brackets o)) n xs mid (omega (arith, e)) room runs h
-  list_steps (at_parameter head ts) k o lent n xs mid e room runs h =
-      list_of (a_parameter head ts (brackets o)) n xs mid (omega (arith, e)) room runs h
-  list_steps (at_inner u) (whole t) (unstarred i) (still []) n xs mid e room runs h =
-      list_of (an_inner u i) n xs mid (sym e) room runs h
-  list_steps (at_inner u) bare (unstarred i) (still []) n xs mid e room runs h =
-      list_of (an_inner u i) n xs mid (sym e) room runs h
-  list_steps (at_inner u) nothing (unstarred i) (still []) n xs mid e room runs h =
-      list_of (an_inner u i) n xs mid (sym e) room runs h
-  list_steps (at_inner u) k (starred i j) (still []) n xs mid e room runs h =
-      list_of (an_inner u (and_more i j)) n xs mid (sym e) room runs h
-  list_steps (at_inner u) k o (still (i ∷ ns)) n xs mid e room runs h =
-      list_of (an_inner u (brackets o)) n xs mid (sym e) room runs h
-  list_steps (at_inner u) k o (pointing ns) n xs mid e room runs h =
-      list_of (an_inner u (brackets o)) n xs mid (sym e) room runs h
-  list_steps (at_inner u) k o lent n xs mid e room runs h =
-      list_of (an_inner u (brackets o)) n xs mid (sym e) room runs h
-  list_steps (at_member ts w) k o (still ns) n xs mid e room runs h =
-      absurd (never wide d mid h)
-  list_steps (at_member ts w) k o (pointing ns) n xs mid e room runs h =
-      list_of (a_pointer_member k ns ts w (brackets o)) n xs mid (sym e) room runs h
-  list_steps (at_member ts w) k o lent n xs mid e room runs h =
-      absurd (never wide d mid h)
-
-  close_steps : (w : Where) (k : Kind) (o : Round) (g : Progress) (xs : List Token) → Accepts wide (state_at w k o g) xs d → Accepts wide (state_at w k (bracket_inside o) g) (close_round ∷ xs) d
-  close_steps at_result k o g xs h = absurd (never wide d xs h)
-  close_steps (at_parameter head ts) k (unstarred i) (still []) xs h = h
-  close_steps (at_parameter head ts) k (starred i j) (still []) xs h = h
-  close_steps (at_parameter head ts) k (unstarred i) (still (n ∷ ns)) xs h = h
-  close_steps (at_parameter head ts) k (starred i j) (still (n ∷ ns)) xs h = h
-  close_steps (at_parameter head ts) k (unstarred i) (pointing ns) xs h = h
-  close_steps (at_parameter head ts) k (starred i j) (pointing ns) xs h = h
-  close_steps (at_parameter head ts) k (unstarred i) lent xs h = h
-  close_steps (at_parameter head ts) k (starred i j) lent xs h = h
-  close_steps (at_inner u) (whole t) (unstarred i) (still []) xs h = h
-  close_steps (at_inner u) bare (unstarred i) (still []) xs h = h
-  close_steps (at_inner u) nothing (unstarred i) (still []) xs h = h
-  close_steps (at_inner u) k (starred i j) (still []) xs h = h
-  close_steps (at_inner u) k (unstarred i) (still (n ∷ ns)) xs h = h
-  close_steps (at_inner u) k (starred i j) (still (n ∷ ns)) xs h = h
-  close_steps (at_inner u) k (unstarred i) (pointing ns) xs h = h
-  close_steps (at_inner u) k (starred i j) (pointing ns) xs h = h
-  close_steps (at_inner u) k (unstarred i) lent xs h = h
-  close_steps (at_inner u) k (starred i j) lent xs h = h
-  close_steps (at_member ts w) (whole t) (unstarred i) (still ns) xs h = h
-  close_steps (at_member ts w) bare (unstarred i) (still ns) xs h =
-      absurd (never wide d xs h)
-  close_steps (at_member ts w) nothing (unstarred i) (still ns) xs h =
-      absurd (never wide d xs h)
-  close_steps (at_member ts w) k (starred i j) (still ns) xs h = h
-  close_steps (at_member ts w) k (unstarred i) (pointing ns) xs h = h
-  close_steps (at_member ts w) k (starred i j) (pointing ns) xs h = h
-  close_steps (at_member ts w) k o lent xs h = absurd (never wide d xs h)
-
-  star_close_steps : (w : Where) (k : Kind) (o : Round) (g : Progress) (xs : List Token) → Accepts wide (state_at w k o (with_star g)) xs d → Accepts wide (state_at w k (starred 0 (suc (brackets o))) g) (close_round ∷ xs) d
-  star_close_steps at_result k o g xs h = absurd (never wide d xs h)
-  star_close_steps (at_parameter head ts) k o (still []) xs h = h
-  star_close_steps (at_parameter head ts) k o (still (n ∷ ns)) xs h = h
-  star_close_steps (at_parameter head ts) k o (pointing ns) xs h = h
-  star_close_steps (at_parameter head ts) k o lent xs h = h
-  star_close_steps (at_inner u) k o (still []) xs h = h
-  star_close_steps (at_inner u) k o (still (n ∷ ns)) xs h = h
-  star_close_steps (at_inner u) k o (pointing ns) xs h = h
-  star_close_steps (at_inner u) k o lent xs h = h
-  star_close_steps (at_member ts w) k o (still ns) xs h = h
-  star_close_steps (at_member ts w) k o (pointing ns) xs h = h
-  star_close_steps (at_member ts w) k o lent xs h = absurd (never wide d xs h)
-
-  one_less : (o : Round) → brackets (bracket_inside o) ≡ suc (brackets o)
-  one_less (unstarred n) = refl
-  one_less (starred n m) = refl
-
-  -- ---- where a name is left out
-
-  bracket_dead : (n : ℕ) (u : Settled) (x : Token) → EndsNothing x → bracket_or_end n u x ≡ dead
-  bracket_dead zero (a_parameter head ts i) star e = refl
-  bracket_dead zero (a_parameter head ts i) (name called) e = refl
-  bracket_dead zero (an_inner u i) star e = refl
-  bracket_dead zero (an_inner u i) (name called) e = refl
-  bracket_dead zero (a_pointer_member k ns ts w i) star e = refl
-  bracket_dead zero (a_pointer_member k ns ts w i) (name called) e = refl
-  bracket_dead zero (the_function f i) star e = refl
-  bracket_dead zero (the_function f i) (name called) e = refl
-  bracket_dead (suc n) u star e = refl
-  bracket_dead (suc n) u (name called) e = refl
-  bracket_dead n u x e = absurd e
-
-  itself_dead : (k : Kind) (n : ℕ) (head : Head) (ts : List Tree) (x : Token) → EndsNothing x → itself_or_bracket k n head ts x ≡ dead
-  itself_dead (whole t) zero head ts star e = refl
-  itself_dead (whole t) zero head ts (name called) e = refl
-  itself_dead bare zero head ts x e = refl
-  itself_dead nothing zero head ts x e = refl
-  itself_dead k (suc n) head ts star e = refl
-  itself_dead k (suc n) head ts (name called) e = refl
-  itself_dead k n head ts x e = absurd e
-
-  nothing_dead : (n : ℕ) (u : Settled) (x : Token) → EndsNothing x → nothing_or_bracket n u x ≡ dead
-  nothing_dead zero u star e = refl
-  nothing_dead zero u (name called) e = refl
-  nothing_dead (suc n) u star e = refl
-  nothing_dead (suc n) u (name called) e = refl
-  nothing_dead n u x e = absurd e
-
-  -- no star and no name stands behind a name, or where one is left out
-  place_dead : (w : Where) (k : Kind) (o : Round) (x : Token) → EndsNothing x → Suits may_be_named w → step wide (state_at w k o (still [])) x ≡ dead
-  place_dead (at_parameter head ts) k (unstarred n) star e m = itself_dead k n head ts star e
-  place_dead (at_parameter head ts) k (unstarred n) (name called) e m = itself_dead k n head ts (name called) e
-  place_dead (at_parameter head ts) k (starred i j) star e m = bracket_dead (and_more i j) (a_parameter head ts (and_more i j)) star e
-  place_dead (at_parameter head ts) k (starred i j) (name called) e m = bracket_dead (and_more i j) (a_parameter head ts (and_more i j)) (name called) e
-  place_dead (at_inner u) (whole t) (unstarred n) star e m = bracket_dead n (an_inner u n) star e
-  place_dead (at_inner u) (whole t) (unstarred n) (name called) e m = bracket_dead n (an_inner u n) (name called) e
-  place_dead (at_inner u) bare (unstarred n) star e m = bracket_dead n (an_inner u n) star e
-  place_dead (at_inner u) bare (unstarred n) (name called) e m = bracket_dead n (an_inner u n) (name called) e
-  place_dead (at_inner u) nothing (unstarred n) star e m = nothing_dead n u star e
-  place_dead (at_inner u) nothing (unstarred n) (name called) e m = nothing_dead n u (name called) e
-  place_dead (at_inner u) k (starred i j) star e m = bracket_dead (and_more i j) (an_inner u (and_more i j)) star e
-  place_dead (at_inner u) k (starred i j) (name called) e m = bracket_dead (and_more i j) (an_inner u (and_more i j)) (name called) e
-  place_dead at_result k o x e m = absurd m
-  place_dead (at_member ts w) k o x e m = absurd m
-  place_dead w k o x e m = absurd e
-
-  place_unfinished : (w : Where) (k : Kind) (o : Round) → Suits may_be_named w → finish (state_at w k o (still [])) ≡ None
-  place_unfinished (at_parameter head ts) k (unstarred n) m = refl
-  place_unfinished (at_parameter head ts) k (starred i j) m = refl
-  place_unfinished (at_inner u) (whole t) (unstarred n) m = refl
-  place_unfinished (at_inner u) bare (unstarred n) m = refl
-  place_unfinished (at_inner u) nothing (unstarred n) m = refl
-  place_unfinished (at_inner u) k (starred i j) m = refl
-  place_unfinished at_result k o m = absurd m
-  place_unfinished (at_member ts w) k o m = absurd m
-
-  -- other tokens lead alike from where a name is left out and from behind it
-  place_alike : (w : Where) (k : Kind) (o : Round) (x : Token) → IsOther x → Suits may_be_named w → step wide (state_at w k o (still [])) x ≡ step_unnamed k o w x
-  place_alike (at_parameter head ts) k (unstarred n) open_square e m = refl
-  place_alike (at_parameter head ts) k (starred i j) open_square e m = refl
-  place_alike (at_parameter head ts) k o open_round e m = absurd e
-  place_alike (at_parameter head ts) k (unstarred n) x e m = refl
-  place_alike (at_parameter head ts) k (starred i j) x e m = refl
-  place_alike (at_inner u) (whole t) (unstarred n) open_square e m = refl
-  place_alike (at_inner u) bare (unstarred n) open_square e m = refl
-  place_alike (at_inner u) nothing (unstarred n) open_square e m = refl
-  place_alike (at_inner u) k (starred i j) open_square e m = refl
-  place_alike (at_inner u) k o open_round e m = absurd e
-  place_alike (at_inner u) (whole t) (unstarred n) x e m = refl
-  place_alike (at_inner u) bare (unstarred n) x e m = refl
-  place_alike (at_inner u) nothing (unstarred n) x e m = refl
-  place_alike (at_inner u) k (starred i j) x e m = refl
-  place_alike at_result k o x e m = absurd m
-  place_alike (at_member ts w) k o x e m = absurd m
-
-  to_state : {s t : State} (xs : List Token) → s ≡ t → Accepts wide s xs d → Accepts wide t xs d
-  to_state xs e = subst (λ s. Accepts wide s xs d) e
+  list_steps w k o g n xs mid e room runs h =
+      led xs (list_begins w g o k) (list_runs_in n xs mid (lent_there w k g o) (subst (λ i. IsSoDeep i (lent_there w k g o)) (sym e) (lent_depth w g k o)) room runs (led mid (sym (lent_is w g k o)) h))
 
   unnamed_steps : (w : Where) (k : Kind) (o : Round) (xs : List Token) → Suits may_be_named w → opens_round xs ≡ false → Accepts wide (state_at w k o (still [])) xs d → Accepts wide (declarator k o w) xs d
   unnamed_steps w k o [] m e h =
       absurd (none_some (sym (place_unfinished w k o m) ∙ h))
   unnamed_steps w k o (star ∷ xs) m e h =
-      absurd (never wide d xs (subst (λ s. Accepts wide s xs d) (place_dead w k o star tt m) h))
+      absurd (never wide d xs (led xs (sym (star_dead w k o m)) h))
   unnamed_steps w k o (name called ∷ xs) m e h =
-      absurd (never wide d xs (subst (λ s. Accepts wide s xs d) (place_dead w k o (name called) tt m) h))
+      absurd (never wide d xs (led xs (sym (name_dead w k o called m)) h))
   unnamed_steps w k o (open_round ∷ xs) m e h = absurd (true≢false e)
   unnamed_steps w k o (x ∷ xs) m e h =
-      subst (λ s. Accepts wide s xs d) (place_alike w k o x tt m) h
+      led xs (sym (place_alike x w o k tt m)) h
 
   -- ---- what stands in brackets begins as a declarator
 
@@ -665,73 +511,23 @@ module _ (d : Declaration) where
   opens_bracket n w k o i xs e room m begins h =
       rw (lt-ltb (depth w + brackets o) MOST_OPEN (subst (λ j. j < MOST_OPEN) e room)) (round_begins n w k (bracket_inside o) xs m begins h)
 
-  name_steps : (w : Where) (n : Naming) (k : Kind) (o : Round) (called : List ℕ) → Suits n w → declared_name k o w called ≡ state_at w k o (still [])
-  name_steps (at_parameter head ts) n k o called m = refl
-  name_steps (at_inner u) n k o called m = refl
-  name_steps (at_member ts w) n (whole t) (unstarred i) called m = refl
-  name_steps (at_member ts w) n bare (unstarred i) called m = refl
-  name_steps (at_member ts w) n nothing (unstarred i) called m = refl
-  name_steps (at_member ts w) n k (starred i j) called m = refl
-  name_steps at_result must_be_named k o called m = absurd m
-  name_steps at_result may_be_named k o called m = absurd m
-
   -- ---- the end of a member and of a parameter that is not kept
 
-  none_tree : (t : Tree) → None ≡ Some t → ⊥
-  none_tree t e = cc
+  member_done : (b : Bool) (k : Kind) (g : Progress) (t : Tree) {s : Shape} (ts : List Tree) (w : Where) (xs : List Token) → shape_with g (a_value k) ≡ s → member_type s ≡ Some t → Accepts wide (member_ends k t ts w (member_end b)) xs d → Accepts wide (state_at (at_member ts w) k (unstarred zero) g) (member_end b ∷ xs) d
+  member_done b k g t ts w xs same is h =
+      led xs (member_steps b g k ts w ∙ ap (λ o. ends_as k ts w (member_end b) o) (sym (member_is g k) ∙ ap member_type same ∙ is)) h
 
-  same_tree : (t u : Tree) → Some t ≡ Some u → t ≡ u
-  same_tree t u e = cc
+  star_member_done : (b : Bool) (k : Kind) (g : Progress) (t : Tree) {s : Shape} (ts : List Tree) (w : Where) (xs : List Token) → shape_with g pointer_shape ≡ s → member_type s ≡ Some t → Accepts wide (member_ends k t ts w (member_end b)) xs d → Accepts wide (state_at (at_member ts w) k (starred zero zero) g) (member_end b ∷ xs) d
+  star_member_done b k g t ts w xs same is h =
+      led xs (star_member_steps b g k ts w ∙ ap (λ o. ends_as k ts w (member_end b) o) (sym (member_is g (whole pointer_type)) ∙ ap member_type same ∙ is)) h
 
-  bare_member : (ns : List ℕ) → member_type (arrays_shape ns (a_value bare)) ≡ None
-  bare_member [] = refl
-  bare_member (n ∷ ns) = ap member_type (handed_arrays ns)
+  inner_done : (g : Progress) (k : Kind) (u : Settled) (s : Shape) (xs : List Token) → (s ≡ a_value nothing → ⊥) → shape_with g (a_value k) ≡ s → Accepts wide (settled (an_inner u zero)) xs d → Accepts wide (state_at (at_inner u) k (unstarred zero) g) xs d
+  inner_done (still []) nothing u s xs isnt e h = absurd (isnt (sym e))
+  inner_done g k u s xs isnt e h = h
 
-  nothing_member : (ns : List ℕ) → member_type (arrays_shape ns (a_value nothing)) ≡ None
-  nothing_member [] = refl
-  nothing_member (n ∷ ns) = ap member_type (handed_arrays ns)
-
-  member_done : (k : Kind) (g : Progress) (t : Tree) (ts : List Tree) (w : Where) (x : Token) (xs : List Token) → IsMemberEnd x → member_type (shape_with g (a_value k)) ≡ Some t → Accepts wide (member_ends k t ts w x) xs d → Accepts wide (state_at (at_member ts w) k (unstarred zero) g) (x ∷ xs) d
-  member_done (whole u) (still ns) t ts w semicolon xs is e h =
-      subst (λ v. Accepts wide (member_ends (whole u) v ts w semicolon) xs d) (same_tree t (arrays ns u) (sym e ∙ value_member ns u)) h
-  member_done (whole u) (still ns) t ts w comma xs is e h =
-      subst (λ v. Accepts wide (member_ends (whole u) v ts w comma) xs d) (same_tree t (arrays ns u) (sym e ∙ value_member ns u)) h
-  member_done bare (still ns) t ts w x xs is e h =
-      absurd (none_tree t (sym (bare_member ns) ∙ e))
-  member_done nothing (still ns) t ts w x xs is e h =
-      absurd (none_tree t (sym (nothing_member ns) ∙ e))
-  member_done k (pointing ns) t ts w semicolon xs is e h =
-      subst (λ v. Accepts wide (member_ends k v ts w semicolon) xs d) (same_tree t (arrays ns pointer_type) (sym e ∙ value_member ns pointer_type)) h
-  member_done k (pointing ns) t ts w comma xs is e h =
-      subst (λ v. Accepts wide (member_ends k v ts w comma) xs d) (same_tree t (arrays ns pointer_type) (sym e ∙ value_member ns pointer_type)) h
-  member_done k lent t ts w x xs is e h = absurd (none_tree t e)
-  member_done k g t ts w x xs is e h = absurd is
-
-  star_member_done : (k : Kind) (g : Progress) (t : Tree) (ts : List Tree) (w : Where) (x : Token) (xs : List Token) → IsMemberEnd x → member_type (shape_with g pointer_shape) ≡ Some t → Accepts wide (member_ends k t ts w x) xs d → Accepts wide (state_at (at_member ts w) k (starred zero zero) g) (x ∷ xs) d
-  star_member_done k (still ns) t ts w semicolon xs is e h =
-      subst (λ v. Accepts wide (member_ends k v ts w semicolon) xs d) (same_tree t (arrays ns pointer_type) (sym e ∙ value_member ns pointer_type)) h
-  star_member_done k (still ns) t ts w comma xs is e h =
-      subst (λ v. Accepts wide (member_ends k v ts w comma) xs d) (same_tree t (arrays ns pointer_type) (sym e ∙ value_member ns pointer_type)) h
-  star_member_done k (pointing ns) t ts w semicolon xs is e h =
-      subst (λ v. Accepts wide (member_ends k v ts w semicolon) xs d) (same_tree t (arrays ns pointer_type) (sym e ∙ value_member ns pointer_type)) h
-  star_member_done k (pointing ns) t ts w comma xs is e h =
-      subst (λ v. Accepts wide (member_ends k v ts w comma) xs d) (same_tree t (arrays ns pointer_type) (sym e ∙ value_member ns pointer_type)) h
-  star_member_done k lent t ts w x xs is e h = absurd (none_tree t e)
-  star_member_done k g t ts w x xs is e h = absurd is
-
-  inner_done : (k : Kind) (g : Progress) (u : Settled) (s : Shape) (xs : List Token) → (s ≡ a_value nothing → ⊥) → shape_with g (a_value k) ≡ s → Accepts wide (settled (an_inner u zero)) xs d → Accepts wide (state_at (at_inner u) k (unstarred zero) g) xs d
-  inner_done (whole t) (still []) u s xs isnt e h = h
-  inner_done bare (still []) u s xs isnt e h = h
-  inner_done nothing (still []) u s xs isnt e h = absurd (isnt (sym e))
-  inner_done k (still (n ∷ ns)) u s xs isnt e h = h
-  inner_done k (pointing ns) u s xs isnt e h = h
-  inner_done k lent u s xs isnt e h = h
-
-  star_inner_done : (k : Kind) (g : Progress) (u : Settled) (xs : List Token) → Accepts wide (settled (an_inner u zero)) xs d → Accepts wide (state_at (at_inner u) k (starred zero zero) g) xs d
-  star_inner_done k (still []) u xs p = p
-  star_inner_done k (still (n ∷ ns)) u xs p = p
-  star_inner_done k (pointing ns) u xs p = p
-  star_inner_done k lent u xs p = p
+  star_inner_done : (g : Progress) (k : Kind) (u : Settled) (xs : List Token) → Accepts wide (settled (an_inner u zero)) xs d → Accepts wide (state_at (at_inner u) k (starred zero zero) g) xs d
+  star_inner_done (still []) k u xs p = p
+  star_inner_done g k u xs p = p
 
 -- ---- types, declarators, and what stands in them
 
@@ -815,32 +611,32 @@ module _ (d : Declaration) where
 
     wide_declared : {n : ℕ} {before behind : List Token} {ms : List Tree} {k : Kind} (ts : List Tree) (w : Where) → suc (depth w) ≡ n → AreDeclared wide n k before behind ms → Accepts wide (declarator (whole (struct_of (onto ts ms))) (unstarred zero) w) behind d → Accepts wide (declarator k (unstarred zero) (at_member ts w)) before d
     wide_declared {k = k} ts w e (one_declared {after = xs} {t = t} q is) h =
-        wide_declarator (at_member ts w) must_be_named k (unstarred zero) tt (omega (arith, e)) q (λ g s. member_done d k g t ts w semicolon (close_curly ∷ xs) tt (ap member_type s ∙ is) h) (λ g s. star_member_done d k g t ts w semicolon (close_curly ∷ xs) tt (ap member_type s ∙ is) h)
+        wide_declarator (at_member ts w) must_be_named k (unstarred zero) tt (omega (arith, e)) q (λ g same. member_done d true k g t ts w (close_curly ∷ xs) same is h) (λ g same. star_member_done d true k g t ts w (close_curly ∷ xs) same is h)
     wide_declared {k = k} ts w e (then_members {middle = xs} {t = t} q is ms) h =
         let more : Accepts wide (after_member (t ∷ ts) w) xs d = type_as_member wide d (t ∷ ts) w xs (wide_members (t ∷ ts) w e ms h) in
-        wide_declarator (at_member ts w) must_be_named k (unstarred zero) tt (omega (arith, e)) q (λ g s. member_done d k g t ts w semicolon xs tt (ap member_type s ∙ is) more) (λ g s. star_member_done d k g t ts w semicolon xs tt (ap member_type s ∙ is) more)
+        wide_declarator (at_member ts w) must_be_named k (unstarred zero) tt (omega (arith, e)) q (λ g same. member_done d true k g t ts w xs same is more) (λ g same. star_member_done d true k g t ts w xs same is more)
     wide_declared {k = k} ts w e (then_declared {middle = xs} {t = t} q is ms) h =
         let more : Accepts wide (declarator k (unstarred zero) (at_member (t ∷ ts) w)) xs d = wide_declared (t ∷ ts) w e ms h in
-        wide_declarator (at_member ts w) must_be_named k (unstarred zero) tt (omega (arith, e)) q (λ g s. member_done d k g t ts w comma xs tt (ap member_type s ∙ is) more) (λ g s. star_member_done d k g t ts w comma xs tt (ap member_type s ∙ is) more)
+        wide_declarator (at_member ts w) must_be_named k (unstarred zero) tt (omega (arith, e)) q (λ g same. member_done d false k g t ts w xs same is more) (λ g same. star_member_done d false k g t ts w xs same is more)
 
     wide_declarator : {n : ℕ} {before behind : List Token} {s t : Shape} (w : Where) (m : Naming) (k : Kind) (o : Round) → Suits m w → n ≡ depth w + brackets o → IsDeclarator wide m n before behind s t → ((g : Progress) → shape_with g s ≡ t → Accepts wide (state_at w k o g) behind d) → ((g : Progress) → shape_with g pointer_shape ≡ t → Accepts wide (state_at w k (starred zero (brackets o)) g) behind d) → Accepts wide (declarator k o w) before d
     wide_declarator w m k o fit e (a_pointer q) here starry =
         wide_declarator w m k (starred zero (brackets o)) fit e q starry starry
     wide_declarator w m k o fit e (a_named {before = xs} {called = called} q) here starry =
-        subst (λ s. Accepts wide s xs d) (sym (name_steps d w m k o called fit)) (wide_suffixes w k o (still []) e q here)
+        led d xs (name_steps w m o k called fit) (wide_suffixes w k o (still []) e q here)
     wide_declarator w may_be_named k o fit e (unnamed {before = xs} no_list q) here starry =
         unnamed_steps d w k o xs fit no_list (wide_suffixes w k o (still []) e q here)
     wide_declarator {n = n} w m k o fit e (in_round {before = xs} {middle = ys} {e = f} begins room q r) here starry =
-        opens_bracket d m w k o n xs e room fit begins (wide_declarator w m k (bracket_inside o) fit (omega (arith, e, one_less d o)) q (λ g is. close_steps d w k o g ys (wide_suffixes w k o g e r (λ j same. here j (same ∙ is)))) (λ g is. subst (λ i. Accepts wide (state_at w k (starred zero i) g) (close_round ∷ ys) d) (sym (one_less d o)) (star_close_steps d w k o g ys (wide_suffixes w k o (with_star g) e r (λ j same. here j (same ∙ shape_star g f ∙ is))))))
+        opens_bracket d m w k o n xs e room fit begins (wide_declarator w m k (bracket_inside o) fit (omega (arith, e, one_less o)) q (λ g is. led d ys (close_steps o w g k) (wide_suffixes w k o g e r (λ j same. here j (same ∙ is)))) (λ g is. subst (λ i. Accepts wide (state_at w k (starred zero i) g) (close_round ∷ ys) d) (sym (one_less o)) (led d ys (star_close_steps w g o k) (wide_suffixes w k o (with_star g) e r (λ j same. here j (same ∙ shape_star g f ∙ is))))))
 
     wide_suffixes : {n : ℕ} {before behind : List Token} {s t : Shape} (w : Where) (k : Kind) (o : Round) (g : Progress) → n ≡ depth w + brackets o → IsSuffixes wide n before behind s t → ((j : Progress) → shape_with j s ≡ shape_with g t → Accepts wide (state_at w k o j) behind d) → Accepts wide (state_at w k o g) before d
     wide_suffixes w k o g e no_suffix here = here g refl
     wide_suffixes w k o g e (known_array {before = xs} {n = i} {e = f} q is) here =
-        bound_steps d w k o g i xs (wide_suffixes w k o (with_bound g i) e q (λ j same. here j (same ∙ shape_bound g f i ∙ ap (shape_with g) is)))
+        led d xs (bound_steps w g o k i) (wide_suffixes w k o (with_bound g i) e q (λ j same. here j (same ∙ shape_bound g f i ∙ ap (shape_with g) is)))
     wide_suffixes w k o g e (open_array {before = xs} {e = f} q) here =
-        open_steps d w k o g xs (wide_suffixes w k o (with_other g) e q (λ j same. here j (same ∙ shape_other g f)))
+        led d xs (open_steps w g o k) (wide_suffixes w k o (with_other g) e q (λ j same. here j (same ∙ shape_other g f)))
     wide_suffixes w k o g e (named_array {before = xs} {x = x} {e = f} is q) here =
-        named_steps d w k o g x xs is (wide_suffixes w k o (with_other g) e q (λ j same. here j (same ∙ shape_other g f)))
+        led d xs (named_steps x w g o k is) (wide_suffixes w k o (with_other g) e q (λ j same. here j (same ∙ shape_other g f)))
     wide_suffixes {n = n} w k o g e (a_list {before = xs} {middle = ys} {e = f} room l q) here =
         list_steps d w k o g n xs ys e room (λ u deep h. wide_list u (ap suc (sym deep)) l h) (wide_suffixes w k o (with_other g) e q (λ j same. here j (same ∙ shape_other g f)))
 
@@ -859,7 +655,7 @@ module _ (d : Declaration) where
 
     wide_inner : {n : ℕ} {before behind : List Token} (u : Settled) → n ≡ suc (depth_of u) → IsInner wide n before behind → Accepts wide (settled (an_inner u zero)) behind d → Accepts wide (wants_type (at_inner u)) before d
     wide_inner {behind = xs} u e (inner_of {k = k} {s = s} q p isnt) h =
-        wide_qualified (at_inner u) (sym e) q (wide_declarator (at_inner u) may_be_named k (unstarred zero) tt (omega (arith, e)) p (λ g is. inner_done d k g u s xs isnt is h) (λ g is. star_inner_done d k g u xs h))
+        wide_qualified (at_inner u) (sym e) q (wide_declarator (at_inner u) may_be_named k (unstarred zero) tt (omega (arith, e)) p (λ g is. inner_done d g k u s xs isnt is h) (λ g is. star_inner_done d g k u xs h))
 
 -- ---- parameters
 
@@ -868,26 +664,34 @@ abbrev new_head : List ℕ → Tree → Round → Head
 new_head called t o =
     record { called = called; result_type = t; fixed = None; round = o }
 
-abbrev ClosesParameter : Token → Type 0
-ClosesParameter close_round = ⊤
-ClosesParameter comma = ⊤
-ClosesParameter x = ⊥
+abbrev parameter_end : Bool → Token
+parameter_end true = close_round
+parameter_end false = comma
 
 passed_array : (ns : List ℕ) (t : Tree) → passed (arrays_shape ns (an_array t)) ≡ Some pointer_type
 passed_array [] t = refl
 passed_array (n ∷ ns) t = passed_array ns (array_of t n)
 
-passed_handed : (ns : List ℕ) → passed (arrays_shape ns handed) ≡ Some pointer_type
-passed_handed ns = ap passed (handed_arrays ns)
+-- the type of a parameter, of a base of this kind
+abbrev passed_there : Progress → Kind → Option Tree
+passed_there (still []) k = passed (a_value k)
+passed_there g k = Some pointer_type
 
-passed_arrays : (n : ℕ) (ns : List ℕ) (k : Kind) → passed (arrays_shape (n ∷ ns) (a_value k)) ≡ Some pointer_type
-passed_arrays n ns (whole t) = passed_array ns (array_of t n)
-passed_arrays n ns bare = passed_handed ns
-passed_arrays n ns nothing = passed_handed ns
+passed_is : (g : Progress) (k : Kind) → passed (shape_with g (a_value k)) ≡ passed_there g k
+passed_is (still (n ∷ ns)) (whole t) = passed_array ns (array_of t n)
+passed_is (still (n ∷ ns)) k = ap passed (handed_arrays ns)
+passed_is (pointing (n ∷ ns)) k = passed_array ns (array_of pointer_type n)
+passed_is g k = refl
 
-passed_pointers : (ns : List ℕ) → passed (arrays_shape ns pointer_shape) ≡ Some pointer_type
-passed_pointers [] = refl
-passed_pointers (n ∷ ns) = passed_array ns (array_of pointer_type n)
+parameter_steps : (b : Bool) (g : Progress) (k : Kind) (head : Head) (ts : List Tree) → step wide (state_at (at_parameter head ts) k (unstarred zero) g) (parameter_end b) ≡ itself_ends (passed_there g k) head ts (parameter_end b)
+parameter_steps true (still []) k head ts = refl
+parameter_steps false (still []) k head ts = refl
+parameter_steps b g k head ts = refl
+
+star_parameter_steps : (b : Bool) (g : Progress) (k : Kind) (head : Head) (ts : List Tree) → step wide (state_at (at_parameter head ts) k (starred zero zero) g) (parameter_end b) ≡ itself_ends (passed_there g (whole pointer_type)) head ts (parameter_end b)
+star_parameter_steps true (still []) k head ts = refl
+star_parameter_steps false (still []) k head ts = refl
+star_parameter_steps b g k head ts = refl
 
 no_tree : (t : Tree) → None ≡ Some t → ⊥
 no_tree t e = cc
@@ -896,60 +700,26 @@ one_tree : (t u : Tree) → Some t ≡ Some u → t ≡ u
 one_tree t u e = cc
 
 module _ (d : Declaration) where
-  by_type : (head : Head) (ts : List Tree) (t u : Tree) (x : Token) (xs : List Token) → t ≡ u → Accepts wide (step_closing wide head (u ∷ ts) x) xs d → Accepts wide (step_closing wide head (t ∷ ts) x) xs d
-  by_type head ts t u x xs e h =
-      subst (λ v. Accepts wide (step_closing wide head (v ∷ ts) x) xs d) (sym e) h
-
-  pointer_closes : (head : Head) (ts : List Tree) (x : Token) (xs : List Token) → ClosesParameter x → Accepts wide (step_closing wide head (pointer_type ∷ ts) x) xs d → Accepts wide (settled (a_parameter head ts zero)) (x ∷ xs) d
-  pointer_closes head ts close_round xs is h = h
-  pointer_closes head ts comma xs is h = h
-  pointer_closes head ts x xs is h = absurd is
-
-  parameter_done : (k : Kind) (g : Progress) (head : Head) (ts : List Tree) (t : Tree) (x : Token) (xs : List Token) → ClosesParameter x → passed (shape_with g (a_value k)) ≡ Some t → Accepts wide (step_closing wide head (t ∷ ts) x) xs d → Accepts wide (state_at (at_parameter head ts) k (unstarred zero) g) (x ∷ xs) d
-  parameter_done (whole u) (still []) head ts t close_round xs is e h =
-      by_type head ts u t close_round xs (one_tree u t e) h
-  parameter_done (whole u) (still []) head ts t comma xs is e h =
-      by_type head ts u t comma xs (one_tree u t e) h
-  parameter_done bare (still []) head ts t x xs is e h = absurd (no_tree t e)
-  parameter_done nothing (still []) head ts t x xs is e h = absurd (no_tree t e)
-  parameter_done k (still (n ∷ ns)) head ts t x xs is e h =
-      pointer_closes head ts x xs is (by_type head ts pointer_type t x xs (one_tree pointer_type t (sym (passed_arrays n ns k) ∙ e)) h)
-  parameter_done k (pointing ns) head ts t x xs is e h =
-      pointer_closes head ts x xs is (by_type head ts pointer_type t x xs (one_tree pointer_type t (sym (passed_pointers ns) ∙ e)) h)
-  parameter_done k lent head ts t x xs is e h =
-      pointer_closes head ts x xs is (by_type head ts pointer_type t x xs (one_tree pointer_type t e) h)
-  parameter_done k (still []) head ts t x xs is e h = absurd is
-
-  star_parameter_done : (k : Kind) (g : Progress) (head : Head) (ts : List Tree) (t : Tree) (x : Token) (xs : List Token) → ClosesParameter x → passed (shape_with g pointer_shape) ≡ Some t → Accepts wide (step_closing wide head (t ∷ ts) x) xs d → Accepts wide (state_at (at_parameter head ts) k (starred zero zero) g) (x ∷ xs) d
-  star_parameter_done k (still []) head ts t x xs is e h =
-      pointer_closes head ts x xs is (by_type head ts pointer_type t x xs (one_tree pointer_type t e) h)
-  star_parameter_done k (still (n ∷ ns)) head ts t x xs is e h =
-      pointer_closes head ts x xs is (by_type head ts pointer_type t x xs (one_tree pointer_type t (sym (passed_arrays n ns (whole pointer_type)) ∙ e)) h)
-  star_parameter_done k (pointing ns) head ts t x xs is e h =
-      pointer_closes head ts x xs is (by_type head ts pointer_type t x xs (one_tree pointer_type t (sym (passed_pointers ns) ∙ e)) h)
-  star_parameter_done k lent head ts t x xs is e h =
-      pointer_closes head ts x xs is (by_type head ts pointer_type t x xs (one_tree pointer_type t e) h)
+  parameter_done : (b : Bool) (k : Kind) (g : Progress) (t : Tree) (s : State) (head : Head) (ts : List Tree) (xs : List Token) → step wide s (parameter_end b) ≡ itself_ends (passed_there g k) head ts (parameter_end b) → passed (shape_with g (a_value k)) ≡ Some t → Accepts wide (step_closing wide head (t ∷ ts) (parameter_end b)) xs d → Accepts wide s (parameter_end b ∷ xs) d
+  parameter_done b k g t s head ts xs steps is h =
+      led d xs (steps ∙ ap (λ o. itself_ends o head ts (parameter_end b)) (sym (passed_is g k) ∙ is)) h
 
   -- a parameter, by what follows it
-  parameter_runs : (r : Dialect) (head : Head) (ts : List Tree) (t : Tree) {before : List Token} (x : Token) (xs : List Token) → ClosesParameter x → IsParameter r before (x ∷ xs) t → Accepts r (step_closing r head (t ∷ ts) x) xs d → Accepts r (wants_type (at_parameter head ts)) before d
-  parameter_runs plain head ts t close_round xs is (without_name p q) h =
+  parameter_runs : (r : Dialect) (b : Bool) (head : Head) (ts : List Tree) (t : Tree) {before : List Token} (xs : List Token) → IsParameter r before (parameter_end b ∷ xs) t → Accepts r (step_closing r head (t ∷ ts) (parameter_end b)) xs d → Accepts r (wants_type (at_parameter head ts)) before d
+  parameter_runs plain true head ts t xs (without_name p q) h =
       plain_type d (at_parameter head ts) refl q h
-  parameter_runs plain head ts t comma xs is (without_name p q) h =
+  parameter_runs plain false head ts t xs (without_name p q) h =
       plain_type d (at_parameter head ts) refl q h
-  parameter_runs plain head ts t close_round xs is (with_name p q) h =
+  parameter_runs plain b head ts t xs (with_name p q) h =
       plain_type d (at_parameter head ts) refl q h
-  parameter_runs plain head ts t comma xs is (with_name p q) h =
-      plain_type d (at_parameter head ts) refl q h
-  parameter_runs plain head ts t x xs is (a_declared_one p q f e) h =
+  parameter_runs plain b head ts t xs (a_declared_one p q f e) h =
       absurd (plain_isnt_wide p)
-  parameter_runs wide head ts t x xs is (without_name p q) h =
+  parameter_runs wide b head ts t xs (without_name p q) h =
       absurd (wide_isnt_plain p)
-  parameter_runs wide head ts t x xs is (with_name p q) h =
+  parameter_runs wide b head ts t xs (with_name p q) h =
       absurd (wide_isnt_plain p)
-  parameter_runs wide head ts t x xs is (a_declared_one {k = k} p q f e) h =
-      wide_qualified d (at_parameter head ts) refl q (wide_declarator d (at_parameter head ts) may_be_named k (unstarred zero) tt (omega arith) f (λ g s. parameter_done k g head ts t x xs is (ap passed s ∙ e) h) (λ g s. star_parameter_done k g head ts t x xs is (ap passed s ∙ e) h))
-  parameter_runs plain head ts t x xs is (without_name p q) h = absurd is
-  parameter_runs plain head ts t x xs is (with_name p q) h = absurd is
+  parameter_runs wide b head ts t xs (a_declared_one {k = k} p q f e) h =
+      wide_qualified d (at_parameter head ts) refl q (wide_declarator d (at_parameter head ts) may_be_named k (unstarred zero) tt (omega arith) f (λ g s. parameter_done b k g t (state_at (at_parameter head ts) k (unstarred zero) g) head ts xs (parameter_steps b g k head ts) (ap passed s ∙ e) h) (λ g s. parameter_done b (whole pointer_type) g t (state_at (at_parameter head ts) k (starred zero zero) g) head ts xs (star_parameter_steps b g k head ts) (ap passed s ∙ e) h))
 
   by_fixed : {f g : Option ℕ} (r : Dialect) (head : Head) (ts : List Tree) (xs : List Token) → f ≡ g → Accepts r (list_ended r head ts g) xs d → Accepts r (list_ended r head ts f) xs d
   by_fixed r head ts xs e h =
@@ -962,30 +732,27 @@ module _ (d : Declaration) where
   -- behind the dots
   types_run : {before behind : List Token} {us : List Tree} {f : Option ℕ} (head : Head) (n : ℕ) (ts : List Tree) → IsParameters wide before behind us f → None ≡ f → Accepts wide (list_ended wide (fixing head n) (onto ts us) (Some n)) behind d → Accepts wide (wants_type (at_parameter (fixing head n) ts)) before d
   types_run head n ts (last_parameter {after = xs} {t = t} p) e h =
-      parameter_runs wide (fixing head n) ts t close_round xs tt p h
+      parameter_runs wide true (fixing head n) ts t xs p h
   types_run head n ts (last_before_dots p) e h = absurd (cc)
   types_run head n ts (before_types p q ps) e h = absurd (cc)
   types_run head n ts (next_parameter {middle = xs} {t = t} {fixed = g} p ps) e h =
-      parameter_runs wide (fixing head n) ts t comma xs tt p (types_run head n (t ∷ ts) ps (none_mapped g e) h)
+      parameter_runs wide false (fixing head n) ts t xs p (types_run head n (t ∷ ts) ps (none_mapped g e) h)
 
   dots_run : (r : Dialect) (called : List ℕ) (result : Tree) (o : Round) (ts : List Tree) (xs : List Token) → Accepts r (list_ended r (new_head called result o) (onto ts []) (Some (length ts))) xs d → Accepts r (after_comma (new_head called result o) ts) (dots ∷ close_round ∷ xs) d
   dots_run plain called result o ts xs h = h
   dots_run wide called result o ts xs h = h
 
-  dots_types_run : (called : List ℕ) (result : Tree) (o : Round) (ts : List Tree) (xs : List Token) → Accepts wide (wants_type (at_parameter (fixing (new_head called result o) (length ts)) ts)) xs d → Accepts wide (after_comma (new_head called result o) ts) (dots ∷ comma ∷ xs) d
-  dots_types_run called result o ts xs h = h
-
   parameters_run : (r : Dialect) {before behind : List Token} {us : List Tree} {f : Option ℕ} (called : List ℕ) (result : Tree) (o : Round) (ts : List Tree) → IsParameters r before behind us f → Accepts r (list_ended r (new_head called result o) (onto ts us) (more_fixed (length ts) f)) behind d → Accepts r (wants_type (at_parameter (new_head called result o) ts)) before d
   parameters_run r called result o ts (last_parameter {after = xs} {t = t} p) h =
-      parameter_runs r (new_head called result o) ts t close_round xs tt p h
+      parameter_runs r true (new_head called result o) ts t xs p h
   parameters_run r called result o ts (last_before_dots {after = xs} {t = t} p) h =
-      parameter_runs r (new_head called result o) ts t comma (dots ∷ close_round ∷ xs) tt p (dots_run r called result o (t ∷ ts) xs (by_fixed r (new_head called result o) (onto (t ∷ ts) []) xs (one_more_fixed (length ts)) h))
+      parameter_runs r false (new_head called result o) ts t (dots ∷ close_round ∷ xs) p (dots_run r called result o (t ∷ ts) xs (by_fixed r (new_head called result o) (onto (t ∷ ts) []) xs (one_more_fixed (length ts)) h))
   parameters_run plain called result o ts (before_types p q ps) h =
       absurd (plain_isnt_wide p)
   parameters_run wide {behind = ys} called result o ts (before_types {middle = xs} {t = t} {ts = us} p q ps) h =
-      parameter_runs wide (new_head called result o) ts t comma (dots ∷ comma ∷ xs) tt q (dots_types_run called result o (t ∷ ts) xs (types_run (new_head called result o) (length (t ∷ ts)) (t ∷ ts) ps refl (by_fixed wide (new_head called result o) (onto (t ∷ ts) us) ys (one_more_fixed (length ts)) h)))
+      parameter_runs wide false (new_head called result o) ts t (dots ∷ comma ∷ xs) q (types_run (new_head called result o) (length (t ∷ ts)) (t ∷ ts) ps refl (by_fixed wide (new_head called result o) (onto (t ∷ ts) us) ys (one_more_fixed (length ts)) h))
   parameters_run r {behind = ys} called result o ts (next_parameter {middle = xs} {t = t} {ts = us} {fixed = g} p ps) h =
-      parameter_runs r (new_head called result o) ts t comma xs tt p (type_as_next r d (new_head called result o) (t ∷ ts) xs (parameters_run r called result o (t ∷ ts) ps (by_fixed r (new_head called result o) (onto (t ∷ ts) us) ys (sym (more_again (length ts) g)) h)))
+      parameter_runs r false (new_head called result o) ts t xs p (type_as_next r d (new_head called result o) (t ∷ ts) xs (parameters_run r called result o (t ∷ ts) ps (by_fixed r (new_head called result o) (onto (t ∷ ts) us) ys (sym (more_again (length ts) g)) h)))
 
   list_runs : (r : Dialect) {before behind : List Token} {us : List Tree} {f : Option ℕ} (called : List ℕ) (result : Tree) (o : Round) → IsParameterList r before behind us f → Accepts r (list_ended r (new_head called result o) us f) behind d → Accepts r (opened (new_head called result o)) before d
   list_runs r called result o no_parameters h = h
@@ -1006,10 +773,7 @@ StandsOutside s k o = (returned s ≡ None) ⊎ (s ≡ value_in k o)
 
 returned_array : (s : Shape) (n : ℕ) → returned (array_shape s n) ≡ None
 returned_array (a_value (whole t)) n = refl
-returned_array (a_value bare) n = refl
-returned_array (a_value nothing) n = refl
-returned_array (an_array t) n = refl
-returned_array handed n = refl
+returned_array _ n = refl
 
 -- no suffix, or one behind which no function returns what stands inside
 suffix_returned : {r : Dialect} {n : ℕ} {before behind : List Token} {s t : Shape} → IsSuffixes r n before behind s t → ((before ≡ behind) × (t ≡ s)) ⊎ (returned t ≡ None)
@@ -1045,7 +809,7 @@ module _ (d : Declaration) where
   called_run {after = xs} k o t e by (the_name {called = called}) h =
       subst (λ s. Accepts wide s xs d) (sym (by o refl)) h
   called_run {n = n} {after = ys} k o t e by (in_brackets {before = xs} {called = called} room c) h =
-      function_bracket k o n xs e room (called_run k (bracket_inside o) t (ap suc e ∙ sym (one_less d o)) (λ p is. by p (is ∙ sym (value_inside k o))) c (named_closes called t o ys h))
+      function_bracket k o n xs e room (called_run k (bracket_inside o) t (ap suc e ∙ sym (one_less o)) (λ p is. by p (is ∙ sym (value_inside k o))) c (named_closes called t o ys h))
 
   name_by : (called : List ℕ) (k : Kind) (o : Round) (s : Shape) (t : Tree) → s ≡ value_in k o → returned s ≡ Some t → (p : Round) → value_in k p ≡ value_in k o → function_name called k p ≡ function_named called t p
   name_by called k o s t is e (unstarred n) same =
@@ -1094,7 +858,7 @@ module _ (d : Declaration) where
   function_runs {f = f} {s = s} k o e (a_function_here {middle = xs} c is l) (inr same) ends starry settles =
       called_run k o f.result_type e (name_by f.called k o s f.result_type same is) c (list_runs d wide f.called f.result_type o l (ends f.result_type is))
   function_runs {f = f} {n = n} {behind = zs} {s = s} k o e (a_function_inside {before = xs} {middle = ys} {e = g} room q r) stands ends starry settles =
-      function_bracket k o n xs e room (function_runs k (bracket_inside o) (ap suc e ∙ sym (one_less d o)) q (stands_inside k o r stands) inner_ends inner_starry inner_settles)
+      function_bracket k o n xs e room (function_runs k (bracket_inside o) (ap suc e ∙ sym (one_less o)) q (stands_inside k o r stands) inner_ends inner_starry inner_settles)
     where
       inner_ends : (t : Tree) → returned g ≡ Some t → Accepts wide (closing (bracket_inside o) (declares_it f)) (close_round ∷ ys) d
       inner_ends t is =
@@ -1109,11 +873,11 @@ module _ (d : Declaration) where
 
       inner_starry : Accepts wide (closing (starred zero (brackets (bracket_inside o))) (declares_it f)) (close_round ∷ ys) d
       inner_starry =
-          subst (λ i. Accepts wide (closing (starred zero i) (declares_it f)) (close_round ∷ ys) d) (sym (one_less d o)) inside_settles
+          subst (λ i. Accepts wide (closing (starred zero i) (declares_it f)) (close_round ∷ ys) d) (sym (one_less o)) inside_settles
 
       inner_settles : Accepts wide (settled (the_function (declares_it f) (brackets (bracket_inside o)))) (close_round ∷ ys) d
       inner_settles =
-          subst (λ i. Accepts wide (settled (the_function (declares_it f) i)) (close_round ∷ ys) d) (sym (one_less d o)) inside_settles
+          subst (λ i. Accepts wide (settled (the_function (declares_it f) i)) (close_round ∷ ys) d) (sym (one_less o)) inside_settles
 
   -- ---- the whole
 

@@ -1,6 +1,6 @@
 -- The kinds of token that could stand behind a beginning are computed.
-use Rattle.std.proofs.Common.{◌≡◌, ℕ, ◌<◌, Bool, true, false, List, [], ◌∷◌, ◌++◌, Option, Some, None, refl, ap, sym, ◌∙◌, true≢false, arith, lt-ltb}
-use Rattle.std.specs.Prelude.{⊤, cond, not, ◌&&◌, ◌||◌, is_some}
+use Rattle.std.proofs.Common.{◌≡◌, ℕ, ◌<◌, Bool, true, false, List, [], ◌∷◌, ◌++◌, inl, inr, Option, Some, None, refl, ap, sym, ◌∙◌, true≢false, arith, lt-ltb}
+use Rattle.std.specs.Prelude.{⊤, cond, not, is_some}
 use Rattle.ffi3_type_spec.specs.Tree.{float, double}
 use Rattle.ffi3_cdecl_spec.specs.Tokens.{wide, signed, unsigned, Token, type_word, sign_word, const_word, short_word, int_word, long_word, int128_word, char_word, void_word, struct_word, union_word, enum_word, complex_word, attribute_word, other_keyword, name, number, open_round, close_round, open_curly, close_curly, open_square, close_square, comma, semicolon, star, dots}
 use Rattle.ffi3_cdecl_spec.specs.Grammar.{specifier_number}
@@ -8,45 +8,15 @@ use Rattle.ffi3_cdecl_spec.specs.Reading.{IsViableIn}
 use Rattle.ffi3_cdecl_spec.specs.Machine.{State, step, after, finish, begun, is_dead}
 use Rattle.ffi3_cdecl_spec.specs.Expected.{Expected, a_type, a_name, a_number, closing_round, a_comma, a_semicolon, the_end, a_star, closing_square, closing_curly, opening_curly, opening_round, opening_square, the_dots, a_word, every_kind, sample, is_of, CouldStand, AreThose, no_kinds, one_could, one_could_not, AreExpected}
 use Rattle.ffi3_cdecl_spec.specs.Telling.{lives, wants_a_type, specifier_words, one_lives, could, those, expected}
+use Rattle.std.proofs.lemmas.Bool.{and_parts, and_from, or_cases, or_left, or_right, not-true}
+use Rattle.ffi3_cdecl_spec.proofs.Saying.{IsAmong, at_front, further, specifier_among}
 use Rattle.ffi3_cdecl_spec.proofs.Completes.{accepted}
 use Rattle.ffi3_cdecl_spec.proofs.Sound.{declaration_of}
 use Rattle.ffi3_cdecl_spec.proofs.Ways.{after-append}
 use Rattle.ffi3_cdecl_spec.proofs.Readings.{viable_lives, lives_viable}
-use Rattle.ffi3_cdecl_spec.proofs.Followed.{IsQuiet, quiet_dead, attribute_dead, keyword_dead, void_lives, void_dead, numbers_alike, names_alike}
+use Rattle.ffi3_cdecl_spec.proofs.Followed.{IsQuiet, quiet_dead, attribute_dead, keyword_dead, void_lives, void_dead, numbers_alike, names_alike, by_wanted}
 
 -- ---- truth values
-
-pub not_true : (b : Bool) → not b ≡ true → b ≡ false
-not_true true e = absurd (true≢false (sym e))
-not_true false e = refl
-
-and_first : (a b : Bool) → a && b ≡ true → a ≡ true
-and_first true b e = refl
-and_first false b e = absurd (true≢false (sym e))
-
-and_second : (a b : Bool) → a && b ≡ true → b ≡ true
-and_second true b e = e
-and_second false b e = absurd (true≢false (sym e))
-
-both_true : (a b : Bool) → a ≡ true → b ≡ true → a && b ≡ true
-both_true true b e f = f
-both_true false b e f = absurd (true≢false (sym e))
-
-or_first : (a b : Bool) → a ≡ true → a || b ≡ true
-or_first true b e = refl
-or_first false b e = absurd (true≢false (sym e))
-
-or_second : (a b : Bool) → b ≡ true → a || b ≡ true
-or_second true b e = refl
-or_second false b e = e
-
-by_or : {A : Type 0} (a b : Bool) → a || b ≡ true → (a ≡ true → A) → (b ≡ true → A) → A
-by_or true b e f g = f refl
-by_or false b e f g = g e
-
-by_either : {A : Type 0} (b : Bool) → (b ≡ true → A) → (b ≡ false → A) → A
-by_either true f g = f refl
-by_either false f g = g refl
 
 some_of : {A : Type 0} (o : Option A) → is_some o ≡ true → (a : A) × (o ≡ Some a)
 some_of None e = absurd (true≢false (sym e))
@@ -65,39 +35,12 @@ all_words =
 a_word_lives : (s : State) (xs : List Token) → AllWords xs → one_lives s xs ≡ true → (x : Token) × (0 < specifier_number x) × (lives s x ≡ true)
 a_word_lives s [] all e = absurd (true≢false (sym e))
 a_word_lives s (x ∷ xs) all e =
-    by_or (lives s x) (one_lives s xs) e (λ f. (x, all.0, f)) (λ f. a_word_lives s xs all.1 f)
-
--- one of these
-data IsAmong : Token → List Token → Type 0 where
-  at_front : {x : Token} {xs : List Token} → IsAmong x (x ∷ xs)
-  further : {x y : Token} {xs : List Token} → IsAmong x xs → IsAmong x (y ∷ xs)
+    elim (or_cases (lives s x) (one_lives s xs) e) [ inl f ↦ (x, all.0, f) | inr f ↦ a_word_lives s xs all.1 f ]
 
 among_lives : {x : Token} {xs : List Token} (s : State) → IsAmong x xs → lives s x ≡ true → one_lives s xs ≡ true
-among_lives {x = x} s (at_front {xs = xs}) e = or_first (lives s x) (one_lives s xs) e
+among_lives {x = x} s (at_front {xs = xs}) e = or_left (lives s x) (one_lives s xs) e
 among_lives s (further {y = y} {xs = xs} i) e =
-    or_second (lives s y) (one_lives s xs) (among_lives s i e)
-
-word_among : (x : Token) → 0 < specifier_number x → IsAmong x specifier_words
-word_among (sign_word signed) h = at_front
-word_among (sign_word unsigned) h = further at_front
-word_among (char_word signed) h = further (further at_front)
-word_among (char_word unsigned) h = further (further (further at_front))
-word_among short_word h = further (further (further (further at_front)))
-word_among int_word h = further (further (further (further (further at_front))))
-word_among long_word h =
-    further (further (further (further (further (further at_front)))))
-word_among int128_word h =
-    further (further (further (further (further (further (further at_front))))))
-word_among (type_word float) h =
-    further (further (further (further (further (further (further (further at_front)))))))
-word_among (type_word double) h =
-    further (further (further (further (further (further (further (further (further at_front))))))))
-word_among complex_word h =
-    further (further (further (further (further (further (further (further (further (further at_front)))))))))
-word_among x h = absurd (omega arith)
-
-word_lives : (s : State) (x : Token) → 0 < specifier_number x → lives s x ≡ true → one_lives s specifier_words ≡ true
-word_lives s x h e = among_lives s (word_among x h) e
+    or_right (lives s y) (one_lives s xs) (among_lives s i e)
 
 module _ (start : List Token) where
   abbrev pub here : State
@@ -105,7 +48,7 @@ module _ (start : List Token) where
 
   pub viable_as : (x : Token) → lives here x ≡ true → IsViableIn wide (start ++ x ∷ [])
   viable_as x e =
-      lives_viable wide signed (start ++ x ∷ []) (ap is_dead (after-append wide begun start (x ∷ [])) ∙ not_true (is_dead (step wide here x)) e)
+      lives_viable wide signed (start ++ x ∷ []) (ap is_dead (after-append wide begun start (x ∷ [])) ∙ not-true (is_dead (step wide here x)) e)
 
   pub lives_as : (x : Token) → IsViableIn wide (start ++ x ∷ []) → lives here x ≡ true
   lives_as x v =
@@ -122,36 +65,36 @@ module _ (start : List Token) where
 
   type_is_wanted : IsViableIn wide (start ++ void_word ∷ []) → wants_a_type here ≡ true
   type_is_wanted v =
-      by_either (wants_a_type here) (λ e. e) (λ e. absurd (no_type e v))
+      by_wanted (wants_a_type here) (λ e. e) (λ e. absurd (no_type e v))
 
   none_is_wanted : ¬ IsViableIn wide (start ++ void_word ∷ []) → not (wants_a_type here) ≡ true
   none_is_wanted isnt =
-      by_either (wants_a_type here) (λ e. absurd (isnt (type_could e))) (λ e. ap not e)
+      by_wanted (wants_a_type here) (λ e. absurd (isnt (type_could e))) (λ e. ap not e)
 
   -- ---- what could is what is computed
 
   is_could : (k : Expected) → could here k ≡ true → CouldStand wide start k
   is_could a_type e = type_could e
   is_could a_name e =
-      (([], viable_as (name []) (and_first (lives here (name [])) (not (wants_a_type here)) e)), no_type (not_true (wants_a_type here) (and_second (lives here (name [])) (not (wants_a_type here)) e)))
+      (([], viable_as (name []) (and_parts (lives here (name [])) (not (wants_a_type here)) e).0), no_type (not-true (wants_a_type here) (and_parts (lives here (name [])) (not (wants_a_type here)) e).1))
   is_could a_number e = (0, viable_as (number 0) e)
   is_could the_end e =
       let some = some_of (finish here) e in
       (some.0, declaration_of wide some.0 start some.1)
   is_could a_word e =
-      let some = a_word_lives here specifier_words all_words (and_first (one_lives here specifier_words) (not (wants_a_type here)) e) in
-      ((some.0, some.1, viable_as some.0 some.2), no_type (not_true (wants_a_type here) (and_second (one_lives here specifier_words) (not (wants_a_type here)) e)))
+      let some = a_word_lives here specifier_words all_words (and_parts (one_lives here specifier_words) (not (wants_a_type here)) e).0 in
+      ((some.0, some.1, viable_as some.0 some.2), no_type (not-true (wants_a_type here) (and_parts (one_lives here specifier_words) (not (wants_a_type here)) e).1))
   is_could k e = viable_as (sample k) e
 
   could_is : (k : Expected) → CouldStand wide start k → could here k ≡ true
   could_is a_type v = type_is_wanted v
   could_is a_name (some, isnt) =
-      both_true (lives here (name [])) (not (wants_a_type here)) (ap not (names_alike [] some.0 here) ∙ lives_as (name some.0) some.1) (none_is_wanted isnt)
+      and_from (lives here (name [])) (not (wants_a_type here)) (ap not (names_alike [] some.0 here) ∙ lives_as (name some.0) some.1) (none_is_wanted isnt)
   could_is a_number (n, v) =
       ap not (numbers_alike here 0 n) ∙ lives_as (number n) v
   could_is the_end (d, p) = ap is_some (accepted wide p)
   could_is a_word (some, isnt) =
-      both_true (one_lives here specifier_words) (not (wants_a_type here)) (word_lives here some.0 some.1 (lives_as some.0 some.2)) (none_is_wanted isnt)
+      and_from (one_lives here specifier_words) (not (wants_a_type here)) (among_lives here (specifier_among some.0 some.1) (lives_as some.0 some.2)) (none_is_wanted isnt)
   could_is k v = lives_as (sample k) v
 
   those_by : (k : Expected) (ks : List Expected) (b : Bool) → could here k ≡ b → AreThose wide start ks (those here ks) → AreThose wide start (k ∷ ks) (cond b (k ∷ those here ks) (those here ks))
@@ -178,15 +121,15 @@ module _ (start : List Token) where
   -- a word of no list, where it could stand
   quiet_type : (x : Token) → IsQuiet x → IsViableIn wide (start ++ x ∷ []) → CouldStand wide start a_type
   quiet_type x q v =
-      by_either (wants_a_type here) type_could (λ e. lives_dead x v (ap is_dead (quiet_dead here e x q)))
+      by_wanted (wants_a_type here) type_could (λ e. lives_dead x v (ap is_dead (quiet_dead here e x q)))
 
   word_kind : (x : Token) → 0 < specifier_number x → is_of a_type x ≡ true → IsViableIn wide (start ++ x ∷ []) → IsOfKind x
   word_kind x h t v =
-      by_either (wants_a_type here) (λ e. (a_type, t, type_could e)) (λ e. (a_word, lt-ltb 0 (specifier_number x) h, ((x, h, v), no_type e)))
+      by_wanted (wants_a_type here) (λ e. (a_type, t, type_could e)) (λ e. (a_word, lt-ltb 0 (specifier_number x) h, ((x, h, v), no_type e)))
 
   name_kind : (called : List ℕ) → IsViableIn wide (start ++ name called ∷ []) → IsOfKind (name called)
   name_kind called v =
-      by_either (wants_a_type here) (λ e. (a_type, refl, type_could e)) (λ e. (a_name, refl, ((called, v), no_type e)))
+      by_wanted (wants_a_type here) (λ e. (a_type, refl, type_could e)) (λ e. (a_name, refl, ((called, v), no_type e)))
 
   pub of_a_kind : (x : Token) → IsViableIn wide (start ++ x ∷ []) → IsOfKind x
   of_a_kind (type_word float) v = word_kind (type_word float) (omega arith) refl v

@@ -4,8 +4,8 @@ use Rattle.std.specs.Prelude.{⊤}
 use Rattle.ffi3_type_spec.specs.Tree.{Scalar, float, double, s32, s128, Tree, void, scalar, struct_of}
 use Rattle.ffi3_cdecl_spec.specs.Tokens.{Dialect, plain, wide, Token, Sign, type_word, sign_word, const_word, short_word, int_word, long_word, int128_word, char_word, complex_word, void_word, struct_word, union_word, enum_word, name, number, open_round, close_round, open_curly, close_curly, open_square, close_square, comma, semicolon, star, dots}
 use Rattle.ffi3_cdecl_spec.specs.Grammar.{Kind, whole, bare, nothing, kind_of_name, named_by, MOST_OPEN, pointer_type, char_of, short_of, int_of, long_of, int128_of, Declaration}
-use Rattle.ffi3_cdecl_spec.specs.Machine.{Round, unstarred, starred, and_more, brackets, bracket_inside, Head, declared_by, Where, at_result, at_parameter, at_member, at_inner, Settled, a_parameter, an_inner, a_pointer_member, the_function, Member, plain_member, starred_member, depth, depth_of, onto, arrays, Said, words_of, say, State, wants_type, wants_base, after_words, after_struct_tag, wants_tag, after_sign, after_short, after_long, after_long_long, after_struct, wants_star, sole_void, typed, named, opened, parameter_named, after_comma, after_dots, member_named, wants_count, counted, after_member, declarator, round_opened, function_named, closing, parameter_itself, inner_nothing, member_at, member_bound, member_bounded, settled, square_opened, square_filled, list_opened, list_void, list_comma, list_dots, wide_dots, closed, ended, dead, based, either, based_in, word_said, step_base, words_go_on, step_type, list_ended, comma_of, step_closing, fewer, brackets_of, member_ends, inner_ends, function_ends, settled_ends, bracket_or_end, list_with_room, step_settled, step_square, step_filled, open_bracket, function_name, member_name, parameter_by, inner_by, declared_name, itself_or_bracket, step_itself, nothing_or_bracket, step_inner_nothing, step_unnamed, step_declarator, name_in_bracket, step_round_opened, step_function_named, step_round_closing, step_member_at, step_member_bound, step_member_bounded, step_list_opened, step_list_void, step_list_comma, step_list_dots, name_behind, close_behind, comma_behind, step_typed, step_sign, step_short, step_long, step_long_long, opened_struct, step_struct, step_tag, step_star, step_struct_tag, step_named_by, step_words, plain_void, step_sole_void, step_named, step_opened, step_comma, step_dots, fixing, step_wide_dots, step_member, step_count, step_counted, step_closed, step_after_member, step, finish, is_dead}
-use Rattle.ffi3_cdecl_spec.specs.OnePass.{with_count, keep_count, keep_bound, keeping}
+use Rattle.ffi3_cdecl_spec.specs.Machine.{Round, unstarred, starred, and_more, brackets, bracket_inside, Head, declared_by, Where, at_result, at_parameter, at_member, at_inner, Settled, a_parameter, an_inner, a_pointer_member, the_function, Member, plain_member, starred_member, depth, depth_of, onto, arrays, Said, words_of, say, State, wants_type, wants_base, after_words, after_struct_tag, wants_tag, after_sign, after_short, after_long, after_long_long, after_struct, wants_star, sole_void, typed, named, opened, parameter_named, after_comma, after_dots, member_named, wants_count, counted, after_member, declarator, round_opened, function_named, closing, parameter_itself, inner_nothing, member_at, member_bound, member_bounded, settled, square_opened, square_filled, list_opened, list_void, list_comma, list_dots, wide_dots, closed, ended, dead, based, either, based_in, word_said, step_base, words_go_on, step_type, list_ended, comma_of, step_closing, fewer, brackets_of, member_ends, inner_ends, function_ends, settled_ends, bracket_or_end, list_with_room, open_bracket, function_name, member_name, parameter_by, inner_by, declared_name, itself_or_bracket, nothing_or_bracket, step_unnamed, step_declarator, name_in_bracket, step_member_at, name_behind, close_behind, comma_behind, step_typed, opened_struct, step_named_by, plain_void, fixing, step, finish, is_dead}
+use Rattle.ffi3_cdecl_spec.specs.OnePass.{with_count, keeping}
 use Rattle.ffi3_cdecl_spec.proofs.Alike.{AllSame, no_types, one_type}
 
 pub all_length : (Same : Tree → Tree → Type 0) {ts us : List Tree} → AllSame Same ts us → length ts ≡ length us
@@ -110,15 +110,8 @@ module _ (Taken : ℕ → Type 0) (Same : Tree → Tree → Type 0) (SameCounts 
   pub end_same : {s r : State} → SameState s r → SameEnd (finish s) (finish r)
   end_same (both_closed d) = d
   end_same (both_closing {o = unstarred zero} d) = d
-  end_same (both_closing {o = unstarred (suc n)} d) = tt
   end_same (both_closing {o = starred zero zero} d) = d
-  end_same (both_closing {o = starred zero (suc m)} d) = tt
-  end_same (both_closing {o = starred (suc n) m} d) = tt
   end_same (both_settled (both_functions {n = zero} d)) = d
-  end_same (both_settled (both_functions {n = suc n} d)) = tt
-  end_same (both_settled (both_parameters h ts)) = tt
-  end_same (both_settled (both_inners u)) = tt
-  end_same (both_settled (both_pointers k c ts w)) = tt
   end_same (both_ended d) = d
   end_same x = tt
 
@@ -153,9 +146,7 @@ module _ (Taken : ℕ → Type 0) (Same : Tree → Tree → Type 0) (SameCounts 
 
     void_same : {w v : Where} → SamePlace w v → SameState (based nothing w) (based nothing v)
     void_same results = both_typed (itself void) results
-    void_same (parameters h ts) = both_want_star (parameters h ts)
-    void_same (members ts p) = both_want_star (members ts p)
-    void_same (inners s) = both_want_star (inners s)
+    void_same p = both_want_star p
 
     kind_itself : (k : Kind) → SameKind k k
     kind_itself (whole t) = both_whole (itself t)
@@ -237,9 +228,7 @@ module _ (Taken : ℕ → Type 0) (Same : Tree → Tree → Type 0) (SameCounts 
 
     brackets_same : {u v : Settled} → SameSettled u v → brackets_of u ≡ brackets_of v
     brackets_same (both_parameters h ts) = refl
-    brackets_same (both_inners s) = refl
-    brackets_same (both_pointers k c ts w) = refl
-    brackets_same (both_functions d) = refl
+    brackets_same s = refl
 
     ends_same : {k l : Kind} {t u : Tree} {ts us : List Tree} {w v : Where} → SameKind k l → Same t u → AllSame Same ts us → SamePlace w v → (x : Token) → SameState (member_ends k t ts w x) (member_ends l u us v x)
     ends_same k s all p semicolon = both_after_member (one_type s all) p
@@ -279,22 +268,6 @@ module _ (Taken : ℕ → Type 0) (Same : Tree → Tree → Type 0) (SameCounts 
     settled_others : {u v : Settled} → SameSettled u v → (x : Token) → SameState (bracket_or_end (brackets_of u) u x) (bracket_or_end (brackets_of v) v x)
     settled_others {u = u} {v = v} s x =
         subst (λ n. SameState (bracket_or_end (brackets_of u) u x) (bracket_or_end n v x)) (brackets_same s) (bracket_same (brackets_of u) s x)
-
-    settled_same : {u v : Settled} → SameSettled u v → (x : Token) → SameState (step_settled u x) (step_settled v x)
-    settled_same s open_square = both_square s
-    settled_same s open_round = list_with_room_same s
-    settled_same s x = settled_others s x
-
-    square_same : {u v : Settled} → SameSettled u v → (x : Token) → SameState (step_square u x) (step_square v x)
-    square_same s (number n) = both_filled s
-    square_same s star = both_filled s
-    square_same s (name called) = both_filled s
-    square_same s close_square = both_settled s
-    square_same s x = both_dead
-
-    filled_same : {u v : Settled} → SameSettled u v → (x : Token) → SameState (step_filled u x) (step_filled v x)
-    filled_same s close_square = both_settled s
-    filled_same s x = both_dead
 
     -- ---- declarators
 
@@ -349,26 +322,12 @@ module _ (Taken : ℕ → Type 0) (Same : Tree → Tree → Type 0) (SameCounts 
     itself_or_same (suc n) k h all close_round = both_itself k h all
     itself_or_same (suc n) k h all x = both_dead
 
-    step_itself_same : {k l : Kind} {h j : Head} {ts us : List Tree} (n : ℕ) → SameKind k l → SameHead h j → AllSame Same ts us → (x : Token) → SameState (step_itself k n h ts x) (step_itself l n j us x)
-    step_itself_same n k h all open_square =
-        both_square (both_parameters h all)
-    step_itself_same n k h all open_round =
-        list_with_room_same (both_parameters h all)
-    step_itself_same n k h all x = itself_or_same n k h all x
-
     nothing_or_same : {u v : Settled} (n : ℕ) → SameSettled u v → (x : Token) → SameState (nothing_or_bracket n u x) (nothing_or_bracket n v x)
     nothing_or_same zero s x = both_dead
     nothing_or_same (suc n) s close_round = both_inner_nothing s
     nothing_or_same (suc n) s x = both_dead
 
-    step_nothing_same : {u v : Settled} (n : ℕ) → SameSettled u v → (x : Token) → SameState (step_inner_nothing n u x) (step_inner_nothing n v x)
-    step_nothing_same n s open_square = both_square (both_inners s)
-    step_nothing_same n s open_round = list_with_room_same (both_inners s)
-    step_nothing_same n s x = nothing_or_same n s x
-
     unnamed_same : {k l : Kind} {w v : Where} (o : Round) → SameKind k l → SamePlace w v → (x : Token) → SameState (step_unnamed k o w x) (step_unnamed l o v x)
-    unnamed_same o k results x = both_dead
-    unnamed_same o k (members all p) x = both_dead
     unnamed_same o k (parameters h all) open_square =
         both_square (both_parameters h all)
     unnamed_same (unstarred n) k (parameters h all) x =
@@ -382,6 +341,7 @@ module _ (Taken : ℕ → Type 0) (Same : Tree → Tree → Type 0) (SameCounts 
     unnamed_same (unstarred n) both_nothing (inners s) x = nothing_or_same n s x
     unnamed_same (starred n m) k (inners s) x =
         bracket_same (and_more n m) (both_inners s) x
+    unnamed_same o k p x = both_dead
 
     declarator_same : {k l : Kind} {w v : Where} (o : Round) → SameKind k l → SamePlace w v → (x : Token) → SameState (step_declarator k o w x) (step_declarator l o v x)
     declarator_same o k p star = both_declarator k p
@@ -391,39 +351,8 @@ module _ (Taken : ℕ → Type 0) (Same : Tree → Tree → Type 0) (SameCounts 
 
     in_bracket_same : {k l : Kind} {w v : Where} (o : Round) (called : List ℕ) → SameKind k l → SamePlace w v → SameState (name_in_bracket k o w called) (name_in_bracket l o v called)
     in_bracket_same o called k results = function_name_same called o k
-    in_bracket_same o called k (parameters h all) = both_dead
     in_bracket_same o called k (members all p) = member_name_same o k all p
-    in_bracket_same o called k (inners s) = both_dead
-
-    round_opened_same : {k l : Kind} {w v : Where} (o : Round) → SameKind k l → SamePlace w v → (x : Token) → SameState (step_round_opened k o w x) (step_round_opened l o v x)
-    round_opened_same o k p star = both_declarator k p
-    round_opened_same o k p open_round = open_bracket_same o k p
-    round_opened_same o k p (name called) = in_bracket_same o called k p
-    round_opened_same o k p x = both_dead
-
-    function_named_same : {t u : Tree} (called : List ℕ) (o : Round) → Same t u → (x : Token) → SameState (step_function_named called t o x) (step_function_named called u o x)
-    function_named_same called o s open_round =
-        both_opened (record { same_name = refl; same_result = s; same_dots = refl; same_round = refl })
-    function_named_same called (unstarred zero) s close_round = both_dead
-    function_named_same called (unstarred (suc n)) s close_round =
-        both_function s
-    function_named_same called (starred zero m) s close_round = both_dead
-    function_named_same called (starred (suc n) m) s close_round =
-        both_function s
-    function_named_same called o s x = both_dead
-
-    round_closing_same : {d e : Declaration} (o : Round) → SameDeclaration d e → (x : Token) → SameState (step_round_closing o d x) (step_round_closing o e x)
-    round_closing_same (unstarred zero) d semicolon = both_ended d
-    round_closing_same (unstarred zero) d x = both_dead
-    round_closing_same (unstarred (suc n)) d close_round = both_closing d
-    round_closing_same (unstarred (suc n)) d x = both_dead
-    round_closing_same (starred (suc n) m) d close_round = both_closing d
-    round_closing_same (starred (suc n) m) d x = both_dead
-    round_closing_same (starred zero zero) d semicolon = both_ended d
-    round_closing_same (starred zero zero) d x = both_dead
-    round_closing_same (starred zero (suc m)) d close_round =
-        both_settled (both_functions d)
-    round_closing_same (starred zero (suc m)) d x = both_dead
+    in_bracket_same o called k p = both_dead
 
     -- ---- members
 
@@ -443,36 +372,7 @@ module _ (Taken : ℕ → Type 0) (Same : Tree → Tree → Type 0) (SameCounts 
         both_settled (both_pointers k c all p)
     member_at_same (both_starred {n = zero} {m = suc m} k c) all p x = both_dead
 
-    bound_same : {b c : Member} {ts us : List Tree} {w v : Where} → SameMember b c → AllSame Same ts us → SamePlace w v → (x : Token) → TakenToken Taken x → SameState (step_member_bound b ts w x) (keep_bound c us v x)
-    bound_same (both_plain {ns = ns} {ms = ms} s c) all p (number n) taken =
-        both_member_bounded (both_plain s (one_more n ns ms taken c)) all p
-    bound_same (both_starred {ns = ns} {ms = ms} k c) all p (number n) taken =
-        both_member_bounded (both_starred k (one_more n ns ms taken c)) all p
-    bound_same b all p x taken = both_dead
-
-    bounded_same : {b c : Member} {ts us : List Tree} {w v : Where} → SameMember b c → AllSame Same ts us → SamePlace w v → (x : Token) → SameState (step_member_bounded b ts w x) (step_member_bounded c us v x)
-    bounded_same b all p close_square = both_member_at b all p
-    bounded_same b all p x = both_dead
-
     -- ---- lists that are not kept
-
-    list_opened_same : {u v : Settled} (q : Dialect) → SameSettled u v → (x : Token) → SameState (step_list_opened q u x) (step_list_opened q v x)
-    list_opened_same q s close_round = both_settled s
-    list_opened_same q s void_word = both_list_void s
-    list_opened_same q s x = type_same q (inners s) x
-
-    list_void_same : {u v : Settled} → SameSettled u v → (x : Token) → SameState (step_list_void u x) (step_list_void v x)
-    list_void_same s close_round = both_settled s
-    list_void_same s x =
-        declarator_same (unstarred 0) both_nothing (inners s) x
-
-    list_comma_same : {u v : Settled} (q : Dialect) → SameSettled u v → (x : Token) → SameState (step_list_comma q u x) (step_list_comma q v x)
-    list_comma_same q s dots = both_list_dots s
-    list_comma_same q s x = type_same q (inners s) x
-
-    list_dots_same : {u v : Settled} → SameSettled u v → (x : Token) → SameState (step_list_dots u x) (step_list_dots v x)
-    list_dots_same s close_round = both_settled s
-    list_dots_same s x = both_dead
 
     -- ---- types of the plain reading
 
@@ -484,17 +384,13 @@ module _ (Taken : ℕ → Type 0) (Same : Tree → Tree → Type 0) (SameCounts 
     name_same (inners i) s called = both_settled (both_inners i)
 
     close_same : {w v : Where} {t u : Tree} (q : Dialect) → SamePlace w v → Same t u → SameState (close_behind q w t) (close_behind q v u)
-    close_same q results s = both_dead
     close_same q (parameters h all) s =
         list_same q h (in_order (one_type s all)) h.same_dots
-    close_same q (members all p) s = both_dead
-    close_same q (inners i) s = both_dead
+    close_same q p s = both_dead
 
     comma_same : {w v : Where} {t u : Tree} → SamePlace w v → Same t u → SameState (comma_behind w t) (comma_behind v u)
-    comma_same results s = both_dead
     comma_same (parameters h all) s = comma_of_same h (one_type s all)
-    comma_same (members all p) s = both_dead
-    comma_same (inners i) s = both_dead
+    comma_same p s = both_dead
 
     typed_same : {t u : Tree} {w v : Where} (q : Dialect) → Same t u → SamePlace w v → (x : Token) → SameState (step_typed q t w x) (step_typed q u v x)
     typed_same q s p star = both_typed (itself pointer_type) p
@@ -503,27 +399,6 @@ module _ (Taken : ℕ → Type 0) (Same : Tree → Tree → Type 0) (SameCounts 
     typed_same q s p comma = comma_same p s
     typed_same q s p x = both_dead
 
-    sign_same : {w v : Where} (q : Dialect) (g : Sign) → SamePlace w v → (x : Token) → SameState (step_sign q g w x) (step_sign q g v x)
-    sign_same q g p (char_word c) = both_typed (itself (scalar (char_of g))) p
-    sign_same q g p short_word = both_short p
-    sign_same q g p int_word = both_typed (itself (scalar (int_of g))) p
-    sign_same q g p long_word = both_long p
-    sign_same q g p int128_word = both_typed (itself (scalar (int128_of g))) p
-    sign_same q g p x = typed_same q (itself (scalar (int_of g))) p x
-
-    short_same : {w v : Where} (q : Dialect) (g : Sign) → SamePlace w v → (x : Token) → SameState (step_short q g w x) (step_short q g v x)
-    short_same q g p int_word = both_typed (itself (scalar (short_of g))) p
-    short_same q g p x = typed_same q (itself (scalar (short_of g))) p x
-
-    long_same : {w v : Where} (q : Dialect) (g : Sign) → SamePlace w v → (x : Token) → SameState (step_long q g w x) (step_long q g v x)
-    long_same q g p long_word = both_long_long p
-    long_same q g p int_word = both_typed (itself (scalar (long_of g))) p
-    long_same q g p x = typed_same q (itself (scalar (long_of g))) p x
-
-    long_long_same : {w v : Where} (q : Dialect) (g : Sign) → SamePlace w v → (x : Token) → SameState (step_long_long q g w x) (step_long_long q g v x)
-    long_long_same q g p int_word = both_typed (itself (scalar (long_of g))) p
-    long_long_same q g p x = typed_same q (itself (scalar (long_of g))) p x
-
     room_same : {w v : Where} → SamePlace w v → (b : Bool) → SameState (cond b (wants_type (at_member [] w)) dead) (cond b (wants_type (at_member [] v)) dead)
     room_same p true = both_want_type (members no_types p)
     room_same p false = both_dead
@@ -531,24 +406,6 @@ module _ (Taken : ℕ → Type 0) (Same : Tree → Tree → Type 0) (SameCounts 
     opened_same_struct : {w v : Where} → SamePlace w v → SameState (opened_struct w) (opened_struct v)
     opened_same_struct {w = w} {v = v} p =
         subst (λ n. SameState (cond (ltb (depth w) MOST_OPEN) (wants_type (at_member [] w)) dead) (cond (ltb n MOST_OPEN) (wants_type (at_member [] v)) dead)) (depth_same p) (room_same p (ltb (depth w) MOST_OPEN))
-
-    struct_same : {w v : Where} (q : Dialect) → SamePlace w v → (x : Token) → SameState (step_struct q w x) (step_struct q v x)
-    struct_same q p (name tag) =
-        either_same q (both_want_star p) (both_struct_tag p)
-    struct_same q p open_curly = opened_same_struct p
-    struct_same q p x = both_dead
-
-    star_same : {w v : Where} → SamePlace w v → (x : Token) → SameState (step_star w x) (step_star v x)
-    star_same p star = both_typed (itself pointer_type) p
-    star_same p x = both_dead
-
-    tag_same : {w v : Where} → SamePlace w v → (x : Token) → SameState (step_tag w x) (step_tag v x)
-    tag_same p (name tag) = both_declarator both_bare p
-    tag_same p x = both_dead
-
-    struct_tag_same : {w v : Where} → SamePlace w v → (x : Token) → SameState (step_struct_tag w x) (step_struct_tag v x)
-    struct_tag_same p open_curly = opened_same_struct p
-    struct_tag_same p x = declarator_same (unstarred 0) both_bare p x
 
     named_by_same : {w v : Where} (o : Option Kind) → SamePlace w v → (x : Token) → SameState (step_named_by o w x) (step_named_by o v x)
     named_by_same (Some k) p x =
@@ -559,126 +416,153 @@ module _ (Taken : ℕ → Type 0) (Same : Tree → Tree → Type 0) (SameCounts 
     go_on_same (Some s) p = both_words p
     go_on_same None p = both_dead
 
-    words_same : {w v : Where} (s : Said) → SamePlace w v → (x : Token) → SameState (step_words s w x) (step_words s v x)
-    words_same s p (sign_word g) = go_on_same (say s (sign_word g)) p
-    words_same s p short_word = go_on_same (say s short_word) p
-    words_same s p int_word = go_on_same (say s int_word) p
-    words_same s p long_word = go_on_same (say s long_word) p
-    words_same s p int128_word = go_on_same (say s int128_word) p
-    words_same s p (char_word c) = go_on_same (say s (char_word c)) p
-    words_same s p complex_word = go_on_same (say s complex_word) p
-    words_same s p (type_word float) = go_on_same (say s (type_word float)) p
-    words_same s p (type_word double) = go_on_same (say s (type_word double)) p
-    words_same s p x = named_by_same (named_by (words_of s)) p x
-
     plain_void_same : {h k : Head} → SameHead h k → (x : Token) → SameState (plain_void h x) (plain_void k x)
     plain_void_same h star =
         both_typed (itself pointer_type) (parameters h no_types)
     plain_void_same h x = both_dead
 
-    sole_void_same : {h k : Head} (q : Dialect) → SameHead h k → (x : Token) → SameState (step_sole_void q h x) (step_sole_void q k x)
-    sole_void_same q h close_round = list_same q h no_types refl
-    sole_void_same q h x =
-        either_same q (plain_void_same h x) (declarator_same (unstarred 0) both_nothing (parameters h no_types) x)
-
-    named_same : {h k : Head} → SameHead h k → (x : Token) → SameState (step_named h x) (step_named k x)
-    named_same h open_round = both_opened h
-    named_same h x = both_dead
-
-    opened_same : {h k : Head} (q : Dialect) → SameHead h k → (x : Token) → SameState (step_opened q h x) (step_opened q k x)
-    opened_same q h close_round = list_same q h no_types refl
-    opened_same q h void_word = both_sole_void h
-    opened_same q h x = type_same q (parameters h no_types) x
-
     as_many : {ts us : List Tree} → AllSame Same ts us → Some (length ts) ≡ Some (length us)
     as_many all = ap Some (all_length Same all)
-
-    next_same : {h k : Head} {ts us : List Tree} (q : Dialect) → SameHead h k → AllSame Same ts us → (x : Token) → SameState (step_comma q h ts x) (step_comma q k us x)
-    next_same q h all dots =
-        either_same q (both_dots (declared_same h (in_order all) (as_many all))) (both_wide_dots h all)
-    next_same q h all x = type_same q (parameters h all) x
-
-    dots_same : {d e : Declaration} → SameDeclaration d e → (x : Token) → SameState (step_dots d x) (step_dots e x)
-    dots_same d close_round = both_closed d
-    dots_same d x = both_dead
 
     fixing_same : {h k : Head} {n m : ℕ} → SameHead h k → n ≡ m → SameHead (fixing h n) (fixing k m)
     fixing_same h e =
         record { same_name = h.same_name; same_result = h.same_result; same_dots = ap Some e; same_round = h.same_round }
 
-    wide_dots_same : {h k : Head} {ts us : List Tree} → SameHead h k → AllSame Same ts us → (x : Token) → SameState (step_wide_dots h ts x) (step_wide_dots k us x)
-    wide_dots_same h all close_round =
-        list_same wide h (in_order all) (as_many all)
-    wide_dots_same h all comma =
-        both_want_type (parameters (fixing_same h (all_length Same all)) all)
-    wide_dots_same h all x = both_dead
-
-    member_same : {t u : Tree} {ns ms : List ℕ} {ts us : List Tree} {w v : Where} → Same t u → SameCounts ns ms → AllSame Same ts us → SamePlace w v → (x : Token) → SameState (step_member t ns ts w x) (step_member u ms us v x)
-    member_same s c all p open_square = both_want_count s c all p
-    member_same {t = t} {u = u} {ns = ns} {ms = ms} s c all p semicolon =
-        both_after_member (one_type (made ns ms t u c s) all) p
-    member_same s c all p x = both_dead
-
-    counted_same : {t u : Tree} {ns ms : List ℕ} {ts us : List Tree} {w v : Where} → Same t u → SameCounts ns ms → AllSame Same ts us → SamePlace w v → (x : Token) → SameState (step_counted t ns ts w x) (step_counted u ms us v x)
-    counted_same s c all p close_square = both_member_named s c all p
-    counted_same s c all p x = both_dead
-
-    after_member_same : {ts us : List Tree} {w v : Where} (q : Dialect) → AllSame Same ts us → SamePlace w v → (x : Token) → SameState (step_after_member q ts w x) (step_after_member q us v x)
-    after_member_same {ts = ts} {us = us} q all p close_curly =
-        based_in_same q (both_whole (structs (onto ts []) (onto us []) (in_order all))) p
-    after_member_same q all p x = type_same q (members all p) x
-
-    closed_same : {d e : Declaration} → SameDeclaration d e → (x : Token) → SameState (step_closed d x) (step_closed e x)
-    closed_same d semicolon = both_ended d
-    closed_same d x = both_dead
-
-    count_same : {t u : Tree} {ns ms : List ℕ} {ts us : List Tree} {w v : Where} → Same t u → SameCounts ns ms → AllSame Same ts us → SamePlace w v → (x : Token) → TakenToken Taken x → SameState (step_count t ns ts w x) (keep_count u ms us v x)
-    count_same {ns = ns} {ms = ms} s c all p (number n) taken =
-        both_counted s (one_more n ns ms taken c) all p
-    count_same s c all p x taken = both_dead
-
     pub step_same : {s r : State} (q : Dialect) → SameState s r → (x : Token) → TakenToken Taken x → SameState (step q s x) (keeping q r x)
     step_same q (both_want_type p) x taken = type_same q p x
     step_same q (both_want_base p) x taken = base_same q p x
-    step_same q (both_signs {g = g} p) x taken = sign_same q g p x
-    step_same q (both_short {g = g} p) x taken = short_same q g p x
-    step_same q (both_long {g = g} p) x taken = long_same q g p x
-    step_same q (both_long_long {g = g} p) x taken = long_long_same q g p x
-    step_same q (both_struct p) x taken = struct_same q p x
-    step_same q (both_words {s = s} p) x taken = words_same s p x
-    step_same q (both_struct_tag p) x taken = struct_tag_same p x
-    step_same q (both_want_tag p) x taken = tag_same p x
-    step_same q (both_want_star p) x taken = star_same p x
-    step_same q (both_sole_void h) x taken = sole_void_same q h x
+    step_same q (both_signs {g = g} p) (char_word c) taken =
+        both_typed (itself (scalar (char_of g))) p
+    step_same q (both_signs p) short_word taken = both_short p
+    step_same q (both_signs {g = g} p) int_word taken =
+        both_typed (itself (scalar (int_of g))) p
+    step_same q (both_signs p) long_word taken = both_long p
+    step_same q (both_signs {g = g} p) int128_word taken =
+        both_typed (itself (scalar (int128_of g))) p
+    step_same q (both_signs {g = g} p) x taken =
+        typed_same q (itself (scalar (int_of g))) p x
+    step_same q (both_short {g = g} p) int_word taken =
+        both_typed (itself (scalar (short_of g))) p
+    step_same q (both_short {g = g} p) x taken =
+        typed_same q (itself (scalar (short_of g))) p x
+    step_same q (both_long p) long_word taken = both_long_long p
+    step_same q (both_long {g = g} p) int_word taken =
+        both_typed (itself (scalar (long_of g))) p
+    step_same q (both_long {g = g} p) x taken =
+        typed_same q (itself (scalar (long_of g))) p x
+    step_same q (both_long_long {g = g} p) int_word taken =
+        both_typed (itself (scalar (long_of g))) p
+    step_same q (both_long_long {g = g} p) x taken =
+        typed_same q (itself (scalar (long_of g))) p x
+    step_same q (both_struct p) (name tag) taken =
+        either_same q (both_want_star p) (both_struct_tag p)
+    step_same q (both_struct p) open_curly taken = opened_same_struct p
+    step_same q (both_words {s = s} p) (sign_word g) taken =
+        go_on_same (say s (sign_word g)) p
+    step_same q (both_words {s = s} p) short_word taken =
+        go_on_same (say s short_word) p
+    step_same q (both_words {s = s} p) int_word taken =
+        go_on_same (say s int_word) p
+    step_same q (both_words {s = s} p) long_word taken =
+        go_on_same (say s long_word) p
+    step_same q (both_words {s = s} p) int128_word taken =
+        go_on_same (say s int128_word) p
+    step_same q (both_words {s = s} p) (char_word c) taken =
+        go_on_same (say s (char_word c)) p
+    step_same q (both_words {s = s} p) complex_word taken =
+        go_on_same (say s complex_word) p
+    step_same q (both_words {s = s} p) (type_word float) taken =
+        go_on_same (say s (type_word float)) p
+    step_same q (both_words {s = s} p) (type_word double) taken =
+        go_on_same (say s (type_word double)) p
+    step_same q (both_words {s = s} p) x taken =
+        named_by_same (named_by (words_of s)) p x
+    step_same q (both_struct_tag p) open_curly taken = opened_same_struct p
+    step_same q (both_struct_tag p) x taken =
+        declarator_same (unstarred 0) both_bare p x
+    step_same q (both_want_tag p) (name tag) taken = both_declarator both_bare p
+    step_same q (both_want_star p) star taken = both_typed (itself pointer_type) p
+    step_same q (both_sole_void h) close_round taken = list_same q h no_types refl
+    step_same q (both_sole_void h) x taken =
+        either_same q (plain_void_same h x) (declarator_same (unstarred 0) both_nothing (parameters h no_types) x)
     step_same q (both_typed s p) x taken = typed_same q s p x
-    step_same q (both_named h) x taken = named_same h x
-    step_same q (both_opened h) x taken = opened_same q h x
+    step_same q (both_named h) open_round taken = both_opened h
+    step_same q (both_opened h) close_round taken = list_same q h no_types refl
+    step_same q (both_opened h) void_word taken = both_sole_void h
+    step_same q (both_opened h) x taken = type_same q (parameters h no_types) x
     step_same q (both_parameter_named h all) x taken = closing_same q h all x
-    step_same q (both_comma h all) x taken = next_same q h all x
-    step_same q (both_dots d) x taken = dots_same d x
-    step_same q (both_member_named s c all p) x taken = member_same s c all p x
-    step_same q (both_want_count s c all p) x taken = count_same s c all p x taken
-    step_same q (both_counted s c all p) x taken = counted_same s c all p x
-    step_same q (both_after_member all p) x taken = after_member_same q all p x
+    step_same q (both_comma h all) dots taken =
+        either_same q (both_dots (declared_same h (in_order all) (as_many all))) (both_wide_dots h all)
+    step_same q (both_comma h all) x taken = type_same q (parameters h all) x
+    step_same q (both_dots d) close_round taken = both_closed d
+    step_same q (both_member_named s c all p) open_square taken =
+        both_want_count s c all p
+    step_same q (both_member_named {t = t} {u = u} {ns = ns} {ms = ms} s c all p) semicolon taken =
+        both_after_member (one_type (made ns ms t u c s) all) p
+    step_same q (both_want_count {ns = ns} {ms = ms} s c all p) (number n) taken =
+        both_counted s (one_more n ns ms taken c) all p
+    step_same q (both_counted s c all p) close_square taken =
+        both_member_named s c all p
+    step_same q (both_after_member {ts = ts} {us = us} all p) close_curly taken =
+        based_in_same q (both_whole (structs (onto ts []) (onto us []) (in_order all))) p
+    step_same q (both_after_member all p) x taken = type_same q (members all p) x
     step_same q (both_declarator {o = o} k p) x taken = declarator_same o k p x
-    step_same q (both_round {o = o} k p) x taken = round_opened_same o k p x
-    step_same q (both_function {called = called} {o = o} s) x taken =
-        function_named_same called o s x
-    step_same q (both_closing {o = o} d) x taken = round_closing_same o d x
-    step_same q (both_itself {n = n} k h all) x taken =
-        step_itself_same n k h all x
-    step_same q (both_inner_nothing {n = n} s) x taken = step_nothing_same n s x
+    step_same q (both_round k p) star taken = both_declarator k p
+    step_same q (both_round {o = o} k p) open_round taken = open_bracket_same o k p
+    step_same q (both_round {o = o} k p) (name called) taken =
+        in_bracket_same o called k p
+    step_same q (both_function s) open_round taken =
+        both_opened (record { same_name = refl; same_result = s; same_dots = refl; same_round = refl })
+    step_same q (both_function {o = unstarred (suc n)} s) close_round taken =
+        both_function s
+    step_same q (both_function {o = starred (suc n) m} s) close_round taken =
+        both_function s
+    step_same q (both_closing {o = unstarred zero} d) semicolon taken = both_ended d
+    step_same q (both_closing {o = unstarred (suc n)} d) close_round taken =
+        both_closing d
+    step_same q (both_closing {o = starred (suc n) m} d) close_round taken =
+        both_closing d
+    step_same q (both_closing {o = starred zero zero} d) semicolon taken =
+        both_ended d
+    step_same q (both_closing {o = starred zero (suc m)} d) close_round taken =
+        both_settled (both_functions d)
+    step_same q (both_itself k h all) open_square taken =
+        both_square (both_parameters h all)
+    step_same q (both_itself k h all) open_round taken =
+        list_with_room_same (both_parameters h all)
+    step_same q (both_itself {n = n} k h all) x taken = itself_or_same n k h all x
+    step_same q (both_inner_nothing s) open_square taken =
+        both_square (both_inners s)
+    step_same q (both_inner_nothing s) open_round taken =
+        list_with_room_same (both_inners s)
+    step_same q (both_inner_nothing {n = n} s) x taken = nothing_or_same n s x
     step_same q (both_member_at b all p) x taken = member_at_same b all p x
-    step_same q (both_member_bound b all p) x taken = bound_same b all p x taken
-    step_same q (both_member_bounded b all p) x taken = bounded_same b all p x
-    step_same q (both_settled s) x taken = settled_same s x
-    step_same q (both_square s) x taken = square_same s x
-    step_same q (both_filled s) x taken = filled_same s x
-    step_same q (both_list s) x taken = list_opened_same q s x
-    step_same q (both_list_void s) x taken = list_void_same s x
-    step_same q (both_list_comma s) x taken = list_comma_same q s x
-    step_same q (both_list_dots s) x taken = list_dots_same s x
-    step_same q (both_wide_dots h all) x taken = wide_dots_same h all x
-    step_same q (both_closed d) x taken = closed_same d x
-    step_same q (both_ended d) x taken = both_dead
-    step_same q both_dead x taken = both_dead
+    step_same q (both_member_bound (both_plain {ns = ns} {ms = ms} s c) all p) (number n) taken =
+        both_member_bounded (both_plain s (one_more n ns ms taken c)) all p
+    step_same q (both_member_bound (both_starred {ns = ns} {ms = ms} k c) all p) (number n) taken =
+        both_member_bounded (both_starred k (one_more n ns ms taken c)) all p
+    step_same q (both_member_bounded b all p) close_square taken =
+        both_member_at b all p
+    step_same q (both_settled s) open_square taken = both_square s
+    step_same q (both_settled s) open_round taken = list_with_room_same s
+    step_same q (both_settled s) x taken = settled_others s x
+    step_same q (both_square s) (number n) taken = both_filled s
+    step_same q (both_square s) star taken = both_filled s
+    step_same q (both_square s) (name called) taken = both_filled s
+    step_same q (both_square s) close_square taken = both_settled s
+    step_same q (both_filled s) close_square taken = both_settled s
+    step_same q (both_list s) close_round taken = both_settled s
+    step_same q (both_list s) void_word taken = both_list_void s
+    step_same q (both_list s) x taken = type_same q (inners s) x
+    step_same q (both_list_void s) close_round taken = both_settled s
+    step_same q (both_list_void s) x taken =
+        declarator_same (unstarred 0) both_nothing (inners s) x
+    step_same q (both_list_comma s) dots taken = both_list_dots s
+    step_same q (both_list_comma s) x taken = type_same q (inners s) x
+    step_same q (both_list_dots s) close_round taken = both_settled s
+    step_same q (both_wide_dots h all) close_round taken =
+        list_same wide h (in_order all) (as_many all)
+    step_same q (both_wide_dots h all) comma taken =
+        both_want_type (parameters (fixing_same h (all_length Same all)) all)
+    step_same q (both_closed d) semicolon taken = both_ended d
+    step_same q s x taken = both_dead

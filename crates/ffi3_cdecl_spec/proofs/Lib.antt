@@ -22,6 +22,7 @@ pub mod SpokenNumbers
 pub mod SpokenTexts
 pub mod Widened
 pub mod Readings
+pub mod Tokenwise
 pub mod Identifiers
 pub mod WideNames
 pub mod PrototypeTexts

@@ -3,13 +3,14 @@ use Rattle.std.proofs.Common.{◌≡◌, ℕ, zero, suc, ◌+◌, Bool, true, fa
 use Rattle.std.specs.Prelude.{⊤, unwrap_or}
 use Rattle.std.proofs.lemmas.Bool.{leb-false}
 use Rattle.ffi3_type_spec.specs.Tree.{Tree}
-use Rattle.ffi3_cdecl_spec.specs.Tokens.{Dialect, plain, Sign, signed, Token, number, TOO_GREAT, Found, blank, skipped, nothing_known, found, found_in, Placed, Cut, tokens, bad_at, cut_in, cut_from, before, bytes_more}
+use Rattle.ffi3_cdecl_spec.specs.Tokens.{Dialect, plain, Sign, signed, Token, number, TOO_GREAT, Found, nothing_known, found, found_in, Placed, Cut, tokens, bad_at, cut_in, cut_from, before, bytes_more}
 use Rattle.ffi3_cdecl_spec.specs.Grammar.{Declaration}
 use Rattle.ffi3_cdecl_spec.specs.Reading.{is_too_great, Outcome, bad_token, unexpected, tokens_of, first_too_great}
 use Rattle.ffi3_cdecl_spec.specs.Machine.{State, step, is_dead, finish, begun, after, with_number, with_end, with_cut, first_dead, read_in, read}
 use Rattle.ffi3_cdecl_spec.specs.OnePass.{keeping, Pass, kept, taking, outcome_by, outcome_at, pass_found, pass_from, new_pass}
-use Rattle.ffi3_cdecl_spec.proofs.Alike.{Alike, alike_itself, struct_alike, Kept, none_kept, one_kept, arrays_alike}
+use Rattle.ffi3_cdecl_spec.proofs.Alike.{as_they_are, Alike, alike_itself, struct_alike, Kept, none_kept, one_kept, arrays_alike}
 use Rattle.ffi3_cdecl_spec.proofs.Kept.{TakenToken, results, SameState, both_want_type, SameEnd, end_same, dead_same, step_same}
+use Rattle.ffi3_type_spec.specs.Signature.{for_calls}
 use Rattle.ffi3_cdecl_spec.proofs.Judged.{IsSmall, AlikeDeclarations, judged_same}
 
 module _ (r : Dialect) (c : Sign) where
@@ -24,12 +25,11 @@ module _ (r : Dialect) (c : Sign) where
   -- ---- the pass over the bytes is one over the tokens
 
   of_found : (end at : ℕ) (p : Pass) (f : Found) (c : Cut) (go : ℕ → Pass → Outcome) → ((q : Pass) → go (bytes_more f) q ≡ of_cut end q c) → pass_found r f at p go ≡ of_cut end p (before f at c)
-  of_found end at p blank c go same = same p
-  of_found end at p (skipped more) c go same = same p
   of_found end at p nothing_known c go same = refl
   of_found end at p (found t more) (tokens ts) go same = same (taking r p at t)
   of_found end at p (found t more) (bad_at there) go same =
       same (taking r p at t)
+  of_found end at p _ c go same = same p
 
   over_bytes : (bs : List ℕ) (at inside end : ℕ) (p : Pass) → at + length bs ≡ end → pass_from r c at inside p bs ≡ of_cut end p (cut_from r c at inside bs)
   over_bytes [] at inside end p e =
@@ -85,12 +85,12 @@ module _ (r : Dialect) (c : Sign) where
       small_first (is_too_great p.token) p.at (first_too_great ps) e refl (λ f. small_token p.token f) (λ none. all_small ps none)
 
   abbrev AlikeStates : State → State → Type 0
-  AlikeStates s t = SameState IsSmall Alike Kept s t
+  AlikeStates s t = SameState IsSmall (Alike as_they_are) (Kept as_they_are) s t
 
   alike_states : (p : Pass) (s : State) (ts : List Placed) → AllSmall ts → AlikeStates s p.state → AlikeStates (after r s (tokens_of ts)) (all_taken p ts).state
   alike_states p s [] small h = h
   alike_states p s (t ∷ ts) small h =
-      alike_states (taking r p t.at t.token) (step r s t.token) ts small.1 (step_same IsSmall Alike Kept alike_itself (λ us vs all. struct_alike all) none_kept one_kept arrays_alike r h t.token small.0)
+      alike_states (taking r p t.at t.token) (step r s t.token) ts small.1 (step_same IsSmall (Alike as_they_are) (Kept as_they_are) (alike_itself as_they_are) (struct_alike as_they_are) (none_kept as_they_are) (one_kept as_they_are) (arrays_alike as_they_are) r h t.token small.0)
 
   abbrev or_at : Option ℕ → Option ℕ → Option ℕ
   or_at (Some at) o = Some at
@@ -131,22 +131,21 @@ module _ (r : Dialect) (c : Sign) where
 
   -- ---- the end
 
-  with_number_same : (ts : List Placed) (d e : Declaration) → (first_too_great ts ≡ None → AlikeDeclarations d e) → (n : Option ℕ) → first_too_great ts ≡ n → with_number e n ≡ with_number d n
+  with_number_same : (ts : List Placed) (d e : Declaration) → (first_too_great ts ≡ None → AlikeDeclarations for_calls as_they_are d e) → (n : Option ℕ) → first_too_great ts ≡ n → with_number e n ≡ with_number d n
   with_number_same ts d e same None none = sym (judged_same d e (same none))
   with_number_same ts d e same (Some at) there = refl
 
-  by_outcome : (end : ℕ) (ts : List Placed) (o p : Option Declaration) → SameEnd Any AnyTypes AnyCounts o p → (first_too_great ts ≡ None → SameEnd IsSmall Alike Kept o p) → outcome_by end (all_taken new_pass ts) p ≡ with_end r end ts o
+  by_outcome : (end : ℕ) (ts : List Placed) (o p : Option Declaration) → SameEnd Any AnyTypes AnyCounts o p → (first_too_great ts ≡ None → SameEnd IsSmall (Alike as_they_are) (Kept as_they_are) o p) → outcome_by end (all_taken new_pass ts) p ≡ with_end r end ts o
   by_outcome end ts None None h same =
       ap unexpected (died_is end new_pass begun ts (both_want_type results))
   by_outcome end ts (Some d) (Some e) h same =
       ap (λ n. with_number e n) (great_is new_pass ts) ∙ with_number_same ts d e same (first_too_great ts) refl
-  by_outcome end ts None (Some e) h same = absurd h
-  by_outcome end ts (Some d) None h same = absurd h
+  by_outcome end ts _ _ h same = absurd h
 
   of_whole : (end : ℕ) (c : Cut) → of_cut end new_pass c ≡ with_cut r end c
   of_whole end (bad_at at) = refl
   of_whole end (tokens ts) =
-      by_outcome end ts (finish (after r begun (tokens_of ts))) (finish (all_taken new_pass ts).state) (end_same Any AnyTypes AnyCounts (some_states new_pass begun ts (both_want_type results))) (λ none. end_same IsSmall Alike Kept (alike_states new_pass begun ts (all_small ts none) (both_want_type results)))
+      by_outcome end ts (finish (after r begun (tokens_of ts))) (finish (all_taken new_pass ts).state) (end_same Any AnyTypes AnyCounts (some_states new_pass begun ts (both_want_type results))) (λ none. end_same IsSmall (Alike as_they_are) (Kept as_they_are) (alike_states new_pass begun ts (all_small ts none) (both_want_type results)))
 
   pub one_pass_in : (text : List ℕ) → pass_from r c 0 0 new_pass text ≡ read_in r c text
   one_pass_in text =

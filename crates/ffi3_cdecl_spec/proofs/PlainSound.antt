@@ -2,11 +2,11 @@
 use Rattle.std.proofs.Common.{◌≡◌, ℕ, suc, ◌<◌, inl, inr, Bool, true, false, cond, List, [], ◌∷◌, length, Option, Some, None, ltb, subst, refl}
 use Rattle.std.proofs.lemmas.Bool.{ltb-true}
 use Rattle.ffi3_type_spec.specs.Tree.{Tree, scalar, array_of}
-use Rattle.ffi3_cdecl_spec.specs.Tokens.{plain, Token, Sign, signed, type_word, sign_word, const_word, short_word, int_word, long_word, int128_word, char_word, void_word, struct_word, name, number, close_round, open_curly, close_curly, open_round, open_square, close_square, comma, semicolon, star, dots}
+use Rattle.ffi3_cdecl_spec.specs.Tokens.{plain, Token, signed, type_word, sign_word, const_word, short_word, int_word, long_word, int128_word, char_word, void_word, struct_word, name, number, close_round, open_curly, close_curly, open_round, open_square, close_square, comma, semicolon, star, dots}
 use Rattle.ffi3_cdecl_spec.specs.Grammar.{Kind, whole, bare, nothing, MOST_OPEN, pointer_type, char_of, short_of, int_of, long_of, int128_of, Declaration, no_int, with_int, one_long, two_longs, a_short, an_int, a_long, an_int128, sign_alone, sign_of_char, sign_of_size, one_star, more_stars, no_count, a_count, by_word, by_size, by_sign, a_char, a_void, a_tag, a_struct, IsQualified, unqualified, constant, IsType, itself, pointer_to, IsMember, a_member, last_member, next_member, IsParameter, without_name, with_name, IsResult, a_result, no_result, IsEnd, no_semicolon, one_semicolon, IsDeclarationIn, declares}
-use Rattle.ffi3_cdecl_spec.specs.Machine.{unstarred, Head, declared_by, Where, at_result, at_parameter, at_member, at_inner, depth, onto, State, wants_type, wants_base, after_sign, after_short, after_long, after_long_long, after_struct, wants_star, sole_void, typed, named, opened, parameter_named, after_comma, after_dots, member_named, wants_count, counted, after_member, closed, ended, dead, based, step_base, step_type, comma_of, step_closing, name_behind, close_behind, comma_behind, step_typed, step_sign, step_short, step_long, step_long_long, step_struct, step_star, step_sole_void, step_named, step_opened, step_comma, step_dots, step_member, step_count, step_counted, step_closed, step_after_member, step, finish, begun, Accepts}
+use Rattle.ffi3_cdecl_spec.specs.Machine.{unstarred, Head, declared_by, Where, at_result, at_parameter, at_member, at_inner, depth, onto, State, wants_type, wants_base, after_sign, after_short, after_long, after_long_long, after_struct, wants_star, sole_void, typed, named, opened, parameter_named, after_comma, after_dots, member_named, wants_count, counted, after_member, closed, closing, settled, ended, dead, based, step_base, step_type, comma_of, step_closing, name_behind, close_behind, comma_behind, step_typed, step, finish, begun, Accepts}
 use Rattle.ffi3_cdecl_spec.proofs.Lists.{ParametersFollow, DotsFollow, dots_end, NextFollows, the_dots, the_next, CloseFollows, closes, goes_on, types_go_on, ListFollows, list_closes, list_of_void, list_of_parameters, ListIs, list_is, list_by, with_parameter}
-use Rattle.ffi3_cdecl_spec.proofs.PlainRest.{IsOver, over, Starred, MaybeStarred, SomeMembers, some_members, MembersFollow, no_more, more, CountsFollow, MemberFollows, by_member_name, SquareFollows, square, CountFollows, a_number, E, RoundFollows, round, NameFollows, by_function, ParameterFollows, unnamed, by_parameter, Follows, KindFollows, BaseFollows, TypeFollows, StructFollows, a_tag_follows, members_follow, VoidFollows, void_closes, void_pointer, EndFollows, end_follows, Rest}
+use Rattle.ffi3_cdecl_spec.proofs.PlainRest.{IsOver, over, Starred, MaybeStarred, SomeMembers, some_members, MembersFollow, no_more, more, CountsFollow, by_member_name, square, CountFollows, a_number, E, round, NameFollows, by_function, unnamed, by_parameter, Follows, KindFollows, BaseFollows, TypeFollows, StructFollows, a_tag_follows, members_follow, VoidFollows, void_closes, void_pointer, EndFollows, end_follows, Rest}
 use Rattle.ffi3_cdecl_spec.proofs.Never.{none_some}
 
 pub some_same : {d e : Declaration} → Some d ≡ Some e → d ≡ e
@@ -31,13 +31,11 @@ module _ (d : Declaration) where
 
   parameter_by : {xs behind : List Token} (k : Kind) (head : Head) (ts : List Tree) → IsQualified plain 0 xs behind k → KindFollows d k (at_parameter head ts) behind → ValueFollows (at_parameter head ts) xs
   parameter_by (whole t) head ts q f = by_kind (at_parameter head ts) t q f
-  parameter_by bare head ts q f = by_star (at_parameter head ts) q f
-  parameter_by nothing head ts q f = by_star (at_parameter head ts) q f
+  parameter_by _ head ts q f = by_star (at_parameter head ts) q f
 
   member_by : {xs behind : List Token} (k : Kind) (ts : List Tree) (w : Where) → IsQualified plain (suc (depth w)) xs behind k → KindFollows d k (at_member ts w) behind → ValueFollows (at_member ts w) xs
   member_by (whole t) ts w q f = by_kind (at_member ts w) t q f
-  member_by bare ts w q f = by_star (at_member ts w) q f
-  member_by nothing ts w q f = by_star (at_member ts w) q f
+  member_by _ ts w q f = by_star (at_member ts w) q f
 
   -- ---- parameters
 
@@ -45,12 +43,11 @@ module _ (d : Declaration) where
   with_one head ts p f =
       with_parameter plain (E d) (λ head n ts f xs h. h) head ts p f
 
-  with_type : {xs behind : List Token} {t : Tree} (head : Head) (ts : List Tree) → IsType plain 0 xs behind t → ParameterFollows d head (t ∷ ts) behind → ParametersFollow plain (E d) head ts head.fixed xs
-  with_type head ts p (unnamed f) = with_one head ts (without_name refl p) f
-  with_type head ts p (by_parameter f) = with_one head ts (with_name refl p) f
-
   with_value : {xs : List Token} (head : Head) (ts : List Tree) → ValueFollows (at_parameter head ts) xs → ParametersFollow plain (E d) head ts head.fixed xs
-  with_value head ts (value_follows t f) = with_type head ts t f
+  with_value head ts (value_follows p (unnamed f)) =
+      with_one head ts (without_name refl p) f
+  with_value head ts (value_follows p (by_parameter f)) =
+      with_one head ts (with_name refl p) f
 
   parameters_by : {xs : List Token} (head : Head) (ts : List Tree) → TypeFollows d (at_parameter head ts) xs → ParametersFollow plain (E d) head ts head.fixed xs
   parameters_by head ts f =
@@ -63,12 +60,9 @@ module _ (d : Declaration) where
   with_member w ts m (more (some_members ms f)) =
       some_members (next_member m ms) f
 
-  with_member_type : {xs behind : List Token} {t : Tree} (w : Where) (ts : List Tree) → IsType plain (suc (depth w)) xs behind t → MemberFollows (F w) (depth w) ts t behind → SomeMembers (F w) (depth w) ts xs
-  with_member_type w ts t (by_member_name f) =
-      with_member w ts (a_member refl t f.2) f.3
-
   with_member_value : {xs : List Token} (w : Where) (ts : List Tree) → ValueFollows (at_member ts w) xs → SomeMembers (F w) (depth w) ts xs
-  with_member_value w ts (value_follows t f) = with_member_type w ts t f
+  with_member_value w ts (value_follows t (by_member_name f)) =
+      with_member w ts (a_member refl t f.2) f.3
 
   members_by : {xs : List Token} (w : Where) (ts : List Tree) → TypeFollows d (at_member ts w) xs → SomeMembers (F w) (depth w) ts xs
   members_by w ts f =
@@ -106,10 +100,9 @@ module _ (d : Declaration) where
   back_name (at_inner u) t called xs h = tt
 
   back_close : (w : Where) (t : Tree) (xs : List Token) → Rest d (close_behind plain w t) xs → F w t (close_round ∷ xs)
-  back_close at_result t xs h = absurd h
   back_close (at_parameter head ts) t xs h = unnamed (closes h)
-  back_close (at_member ts w) t xs h = absurd h
   back_close (at_inner u) t xs h = tt
+  back_close _ t xs h = absurd h
 
   -- a comma behind a parameter, before the dots or behind them
   comma_by : (head : Head) (ts : List Tree) (xs : List Token) (f : Option ℕ) → head.fixed ≡ f → Rest d (comma_of f head ts) xs → CloseFollows plain (E d) head ts f (comma ∷ xs)
@@ -122,11 +115,10 @@ module _ (d : Declaration) where
   back_comma_of head ts xs h = comma_by head ts xs head.fixed refl h
 
   back_comma : (w : Where) (t : Tree) (xs : List Token) → Rest d (comma_behind w t) xs → F w t (comma ∷ xs)
-  back_comma at_result t xs h = absurd h
   back_comma (at_parameter head ts) t xs h =
       unnamed (back_comma_of head (t ∷ ts) xs h)
-  back_comma (at_member ts w) t xs h = absurd h
   back_comma (at_inner u) t xs h = tt
+  back_comma _ t xs h = absurd h
 
   back_typed : (t : Tree) (w : Where) (x : Token) (xs : List Token) → Rest d (step_typed plain t w x) xs → MaybeStarred (F w) t (x ∷ xs)
   back_typed t w star xs h = inr (back_star w h)
@@ -137,9 +129,7 @@ module _ (d : Declaration) where
 
   back_void : (w : Where) (xs : List Token) → Rest d (based nothing w) xs → KindFollows d nothing w xs
   back_void at_result xs h = h
-  back_void (at_parameter head ts) xs h = h
-  back_void (at_member ts w) xs h = h
-  back_void (at_inner u) xs h = h
+  back_void _ xs h = h
 
   back_struct_word : {xs : List Token} (w : Where) → StructFollows d w xs → BaseFollows d w (struct_word ∷ xs)
   back_struct_word w (a_tag_follows s) = (_, bare, a_tag, s)
@@ -168,34 +158,6 @@ module _ (d : Declaration) where
       let b : BaseFollows d w (x ∷ xs) = back_base w x xs h in
       (b.0, b.1, unqualified b.2, b.3)
 
-  back_sign : (g : Sign) (w : Where) (x : Token) (xs : List Token) → Rest d (step_sign plain g w x) xs → Rest d (after_sign g w) (x ∷ xs)
-  back_sign g w (char_word c) xs h = (xs, char_of g, sign_of_char, h)
-  back_sign g w short_word xs h =
-      (h.0, short_of g, sign_of_size (a_short h.1), h.2)
-  back_sign g w int_word xs h = (xs, int_of g, sign_of_size an_int, h)
-  back_sign g w long_word xs h =
-      (h.0, long_of g, sign_of_size (a_long h.1), h.2)
-  back_sign g w int128_word xs h =
-      (xs, int128_of g, sign_of_size an_int128, h)
-  back_sign g w x xs h =
-      (x ∷ xs, int_of g, sign_alone, back_typed (scalar (int_of g)) w x xs h)
-
-  back_short : (g : Sign) (w : Where) (x : Token) (xs : List Token) → Rest d (step_short plain g w x) xs → Rest d (after_short g w) (x ∷ xs)
-  back_short g w int_word xs h = (xs, with_int, h)
-  back_short g w x xs h =
-      (x ∷ xs, no_int, back_typed (scalar (short_of g)) w x xs h)
-
-  back_long : (g : Sign) (w : Where) (x : Token) (xs : List Token) → Rest d (step_long plain g w x) xs → Rest d (after_long g w) (x ∷ xs)
-  back_long g w long_word xs h = (h.0, two_longs h.1, h.2)
-  back_long g w int_word xs h = (xs, one_long with_int, h)
-  back_long g w x xs h =
-      (x ∷ xs, one_long no_int, back_typed (scalar (long_of g)) w x xs h)
-
-  back_long_long : (g : Sign) (w : Where) (x : Token) (xs : List Token) → Rest d (step_long_long plain g w x) xs → Rest d (after_long_long g w) (x ∷ xs)
-  back_long_long g w int_word xs h = (xs, with_int, h)
-  back_long_long g w x xs h =
-      (x ∷ xs, no_int, back_typed (scalar (long_of g)) w x xs h)
-
   some_struct : {xs : List Token} (w : Where) → depth w < MOST_OPEN → SomeMembers (F w) (depth w) [] xs → StructFollows d w (open_curly ∷ xs)
   some_struct w room (some_members ms f) = members_follow room ms f
 
@@ -204,36 +166,10 @@ module _ (d : Declaration) where
       some_struct w (ltb-true (depth w) MOST_OPEN e) (members_by w [] h)
   back_curly w xs false e h = absurd h
 
-  back_struct : (w : Where) (x : Token) (xs : List Token) → Rest d (step_struct plain w x) xs → StructFollows d w (x ∷ xs)
-  back_struct w (name tag) xs h = a_tag_follows h
-  back_struct w open_curly xs h =
-      back_curly w xs (ltb (depth w) MOST_OPEN) refl h
-  back_struct w x xs h = absurd h
-
-  back_wants_star : (w : Where) (x : Token) (xs : List Token) → Rest d (step_star w x) xs → Starred (F w) (x ∷ xs)
-  back_wants_star w star xs h = back_star w h
-  back_wants_star w x xs h = absurd h
-
-  back_sole_void : (head : Head) (x : Token) (xs : List Token) → Rest d (step_sole_void plain head x) xs → VoidFollows d head (x ∷ xs)
-  back_sole_void head star xs h =
-      void_pointer (back_star (at_parameter head []) h)
-  back_sole_void head close_round xs h = void_closes h
-  back_sole_void head x xs h = absurd h
-
-  back_named : (head : Head) (x : Token) (xs : List Token) → Rest d (step_named head x) xs → RoundFollows d head (x ∷ xs)
-  back_named head open_round xs h = round h
-  back_named head x xs h = absurd h
-
   void_list : {xs : List Token} (head : Head) → VoidFollows d head xs → ListFollows plain (E d) head (void_word ∷ xs)
   void_list head (void_closes h) = list_of_void h
   void_list head (void_pointer s) =
       list_of_parameters (parameters_by head [] (_, nothing, unqualified a_void, s))
-
-  back_opened : (head : Head) (x : Token) (xs : List Token) → Rest d (step_opened plain head x) xs → ListFollows plain (E d) head (x ∷ xs)
-  back_opened head close_round xs h = list_closes h
-  back_opened head void_word xs h = void_list head h
-  back_opened head x xs h =
-      list_of_parameters (parameters_by head [] (back_type (at_parameter head []) x xs h))
 
   back_closing : (head : Head) (ts : List Tree) (x : Token) (xs : List Token) → Rest d (step_closing plain head ts x) xs → CloseFollows plain (E d) head ts head.fixed (x ∷ xs)
   back_closing head ts close_round xs h = closes h
@@ -243,93 +179,70 @@ module _ (d : Declaration) where
   the_end : {xs : List Token} (head : Head) (ts : List Tree) → EndFollows d (declared_by head (onto ts []) (Some (length ts))) xs → DotsFollow plain (E d) head ts xs
   the_end head ts (end_follows e same) = dots_end (e, same)
 
-  back_after_comma : (head : Head) (ts : List Tree) (x : Token) (xs : List Token) → Rest d (step_comma plain head ts x) xs → NextFollows plain (E d) head ts head.fixed (x ∷ xs)
-  back_after_comma head ts dots xs h = the_dots (the_end head ts h)
-  back_after_comma head ts x xs h =
-      the_next (parameters_by head ts (back_type (at_parameter head ts) x xs h))
-
-  back_dots : (e : Declaration) (x : Token) (xs : List Token) → Rest d (step_dots e x) xs → EndFollows d e (x ∷ xs)
-  back_dots e close_round xs h = end_follows h.0 h.1
-  back_dots e x xs h = absurd h
-
   counted_more : {xs : List Token} (t : Tree) (ns : List ℕ) (ts : List Tree) (w : Where) → CountFollows (F w) (depth w) ts ns t xs → CountsFollow (F w) (depth w) ts ns t (open_square ∷ xs)
   counted_more t ns ts w (a_number {k = k} (square f)) =
       (f.0, array_of f.1 k, a_count f.2, f.3)
 
-  back_member : (t : Tree) (ns : List ℕ) (ts : List Tree) (w : Where) (x : Token) (xs : List Token) → Rest d (step_member t ns ts w x) xs → CountsFollow (F w) (depth w) ts ns t (x ∷ xs)
-  back_member t ns ts w open_square xs h = counted_more t ns ts w h
-  back_member t ns ts w semicolon xs h = (xs, t, no_count, h)
-  back_member t ns ts w x xs h = absurd h
-
-  back_count : (t : Tree) (ns : List ℕ) (ts : List Tree) (w : Where) (x : Token) (xs : List Token) → Rest d (step_count t ns ts w x) xs → CountFollows (F w) (depth w) ts ns t (x ∷ xs)
-  back_count t ns ts w (number n) xs h = a_number h
-  back_count t ns ts w x xs h = absurd h
-
-  back_counted : (t : Tree) (ns : List ℕ) (ts : List Tree) (w : Where) (x : Token) (xs : List Token) → Rest d (step_counted t ns ts w x) xs → SquareFollows (F w) (depth w) ts ns t (x ∷ xs)
-  back_counted t ns ts w close_square xs h = square h
-  back_counted t ns ts w x xs h = absurd h
-
-  back_after_member : (ts : List Tree) (w : Where) (x : Token) (xs : List Token) → Rest d (step_after_member plain ts w x) xs → MembersFollow (F w) (depth w) ts (x ∷ xs)
-  back_after_member ts w close_curly xs h = no_more h
-  back_after_member ts w x xs h =
-      more (members_by w ts (back_type (at_member ts w) x xs h))
-
   semicolon_end : {xs : List Token} → IsOver xs → IsEnd (semicolon ∷ xs)
   semicolon_end over = one_semicolon
-
-  back_closed : (e : Declaration) (x : Token) (xs : List Token) → Rest d (step_closed e x) xs → Rest d (closed e) (x ∷ xs)
-  back_closed e semicolon xs h = (semicolon_end h.0, h.1)
-  back_closed e x xs h = absurd h
 
   back : (s : State) (x : Token) (xs : List Token) → Rest d (step plain s x) xs → Rest d s (x ∷ xs)
   back (wants_type w) x xs h = back_type w x xs h
   back (wants_base w) x xs h = back_base w x xs h
-  back (after_sign g w) x xs h = back_sign g w x xs h
-  back (after_short g w) x xs h = back_short g w x xs h
-  back (after_long g w) x xs h = back_long g w x xs h
-  back (after_long_long g w) x xs h = back_long_long g w x xs h
-  back (after_struct w) x xs h = back_struct w x xs h
-  back (wants_star w) x xs h = back_wants_star w x xs h
-  back (sole_void head) x xs h = back_sole_void head x xs h
+  back (after_sign g w) (char_word c) xs h = (xs, char_of g, sign_of_char, h)
+  back (after_sign g w) short_word xs h =
+      (h.0, short_of g, sign_of_size (a_short h.1), h.2)
+  back (after_sign g w) int_word xs h = (xs, int_of g, sign_of_size an_int, h)
+  back (after_sign g w) long_word xs h =
+      (h.0, long_of g, sign_of_size (a_long h.1), h.2)
+  back (after_sign g w) int128_word xs h =
+      (xs, int128_of g, sign_of_size an_int128, h)
+  back (after_sign g w) x xs h =
+      (x ∷ xs, int_of g, sign_alone, back_typed (scalar (int_of g)) w x xs h)
+  back (after_short g w) int_word xs h = (xs, with_int, h)
+  back (after_short g w) x xs h =
+      (x ∷ xs, no_int, back_typed (scalar (short_of g)) w x xs h)
+  back (after_long g w) long_word xs h = (h.0, two_longs h.1, h.2)
+  back (after_long g w) int_word xs h = (xs, one_long with_int, h)
+  back (after_long g w) x xs h =
+      (x ∷ xs, one_long no_int, back_typed (scalar (long_of g)) w x xs h)
+  back (after_long_long g w) int_word xs h = (xs, with_int, h)
+  back (after_long_long g w) x xs h =
+      (x ∷ xs, no_int, back_typed (scalar (long_of g)) w x xs h)
+  back (after_struct w) (name tag) xs h = a_tag_follows h
+  back (after_struct w) open_curly xs h =
+      back_curly w xs (ltb (depth w) MOST_OPEN) refl h
+  back (wants_star w) star xs h = back_star w h
+  back (sole_void head) star xs h =
+      void_pointer (back_star (at_parameter head []) h)
+  back (sole_void head) close_round xs h = void_closes h
   back (typed t w) x xs h = back_typed t w x xs h
-  back (named head) x xs h = back_named head x xs h
-  back (opened head) x xs h = back_opened head x xs h
+  back (named head) open_round xs h = round h
+  back (opened head) close_round xs h = list_closes h
+  back (opened head) void_word xs h = void_list head h
+  back (opened head) x xs h =
+      list_of_parameters (parameters_by head [] (back_type (at_parameter head []) x xs h))
   back (parameter_named head ts) x xs h = back_closing head ts x xs h
-  back (after_comma head ts) x xs h = back_after_comma head ts x xs h
-  back (after_dots e) x xs h = back_dots e x xs h
-  back (member_named t ns ts w) x xs h = back_member t ns ts w x xs h
-  back (wants_count t ns ts w) x xs h = back_count t ns ts w x xs h
-  back (counted t ns ts w) x xs h = back_counted t ns ts w x xs h
-  back (after_member ts w) x xs h = back_after_member ts w x xs h
-  back (closed e) x xs h = back_closed e x xs h
-  back (ended e) x xs h = absurd h
-  back dead x xs h = absurd h
-  back s x xs h = tt
+  back (after_comma head ts) dots xs h = the_dots (the_end head ts h)
+  back (after_comma head ts) x xs h =
+      the_next (parameters_by head ts (back_type (at_parameter head ts) x xs h))
+  back (after_dots e) close_round xs h = end_follows h.0 h.1
+  back (member_named t ns ts w) open_square xs h = counted_more t ns ts w h
+  back (member_named t ns ts w) semicolon xs h = (xs, t, no_count, h)
+  back (wants_count t ns ts w) (number n) xs h = a_number h
+  back (counted t ns ts w) close_square xs h = square h
+  back (after_member ts w) close_curly xs h = no_more h
+  back (after_member ts w) x xs h =
+      more (members_by w ts (back_type (at_member ts w) x xs h))
+  back (closed e) semicolon xs h = (semicolon_end h.0, h.1)
+  back s x xs h = search
 
   at_end : (s : State) → finish s ≡ Some d → Rest d s []
-  at_end (wants_type w) p = absurd (none_some p)
-  at_end (wants_base w) p = absurd (none_some p)
-  at_end (after_sign g w) p = absurd (none_some p)
-  at_end (after_short g w) p = absurd (none_some p)
-  at_end (after_long g w) p = absurd (none_some p)
-  at_end (after_long_long g w) p = absurd (none_some p)
-  at_end (after_struct w) p = absurd (none_some p)
-  at_end (wants_star w) p = absurd (none_some p)
-  at_end (sole_void head) p = absurd (none_some p)
-  at_end (typed t w) p = absurd (none_some p)
-  at_end (named head) p = absurd (none_some p)
-  at_end (opened head) p = absurd (none_some p)
-  at_end (parameter_named head ts) p = absurd (none_some p)
-  at_end (after_comma head ts) p = absurd (none_some p)
-  at_end (after_dots e) p = absurd (none_some p)
-  at_end (member_named t ns ts w) p = absurd (none_some p)
-  at_end (wants_count t ns ts w) p = absurd (none_some p)
-  at_end (counted t ns ts w) p = absurd (none_some p)
-  at_end (after_member ts w) p = absurd (none_some p)
   at_end (closed e) p = (no_semicolon, some_same p)
   at_end (ended e) p = (over, some_same p)
-  at_end dead p = absurd (none_some p)
-  at_end s p = tt
+  at_end (closing o e) p = tt
+  at_end (settled u) p = tt
+  at_end s p = absurd (none_some p)
 
   -- what is accepted from a state is what the state wants
   rest_of : (xs : List Token) (s : State) → Accepts plain s xs d → Rest d s xs

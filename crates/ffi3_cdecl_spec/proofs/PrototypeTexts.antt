@@ -3,7 +3,7 @@ use Rattle.std.proofs.Common.{◌≡◌, ◌∙◌, ◌⊎◌, ◌<◌, ◌≤�
 use Rattle.std.specs.Prelude.{take, is_some}
 use Rattle.std.proofs.lemmas.Bool.{cases_lt}
 use Rattle.std.proofs.lemmas.List.{take-append-drop, length-take-le, take_all}
-use Rattle.ffi3_type_spec.specs.Tree.{Scalar, u8, s8, u16, s16, u32, s32, u64, s64, u128, s128, float, double, pointer, x87, binary128, Tree, Trees, void, scalar, left_out, LeftOutKind, long_double, complex, vector, structure, array, no_trees, tree}
+use Rattle.ffi3_type_spec.specs.Tree.{Scalar, u128, pointer, x87, binary128, Tree, Trees, void, scalar, left_out, LeftOutKind, long_double, complex, vector, structure, array, no_trees, tree}
 use Rattle.ffi3_type_spec.specs.Signature.{Signature, SignatureHasNoFault, bad_fixed, fixed_outside}
 use Rattle.ffi3_cdecl_spec.specs.Tokens.{wide, Sign, Token, name, open_round, close_round, close_curly, comma, semicolon, dots, cut_from, tokens}
 use Rattle.ffi3_cdecl_spec.specs.Grammar.{opens_round, IsParameter, without_name, IsParameters, last_parameter, last_before_dots, before_types, next_parameter, IsParameterList, some_parameters, one_semicolon, Declaration, IsDeclarationIn}
@@ -29,9 +29,8 @@ between_spoken (t ∷ ts) rest h r =
     value_spoken t h.0 (behind_commas ts rest) (behind_spoken ts rest h.1 r)
 
 front_spellable : (n : ℕ) (ts : List Tree) → AreSpellableValues ts → AreSpellableValues (take n ts)
-front_spellable zero ts h = tt
-front_spellable (suc n) [] h = tt
 front_spellable (suc n) (t ∷ ts) h = (h.0, front_spellable n ts h.1)
+front_spellable _ _ h = tt
 
 back_spellable : (n : ℕ) (ts : List Tree) → AreSpellableValues ts → AreSpellableValues (drop n ts)
 back_spellable zero ts h = h
@@ -54,29 +53,16 @@ member_stays i c = refl
 
 scalar_stays : (s : Scalar) (rest : List Token) → NamesStay rest → NamesStay (scalar_tokens s rest)
 scalar_stays u128 rest h = (tt, (tt, h))
-scalar_stays s128 rest h = (tt, h)
 scalar_stays pointer rest h = (tt, (tt, h))
-scalar_stays u8 rest h = (tt, h)
-scalar_stays s8 rest h = (tt, h)
-scalar_stays u16 rest h = (tt, h)
-scalar_stays s16 rest h = (tt, h)
-scalar_stays u32 rest h = (tt, h)
-scalar_stays s32 rest h = (tt, h)
-scalar_stays u64 rest h = (tt, h)
-scalar_stays s64 rest h = (tt, h)
-scalar_stays float rest h = (tt, h)
-scalar_stays double rest h = (tt, h)
 scalar_stays x87 rest h = h
 scalar_stays binary128 rest h = h
+scalar_stays _ rest h = (tt, h)
 
 mutual
   counts_stay : (t : Tree) (rest : List Token) → NamesStay rest → NamesStay (count_tokens t rest)
-  counts_stay void rest h = h
-  counts_stay (scalar s) rest h = h
-  counts_stay (left_out k) rest h = h
-  counts_stay (structure ts) rest h = h
   counts_stay (array ts n) rest h =
       (tt, (tt, (tt, first_counts_stay ts rest h)))
+  counts_stay _ rest h = h
 
   first_counts_stay : (ts : Trees) (rest : List Token) → NamesStay rest → NamesStay (first_count_tokens ts rest)
   first_counts_stay no_trees rest h = h

@@ -11,7 +11,7 @@ use Rattle.ffi3_cdecl_spec.specs.Tokens.{wide, Sign, signed, unsigned}
 use Rattle.ffi3_cdecl_spec.specs.Grammar.{Declaration}
 use Rattle.ffi3_cdecl_spec.specs.Machine.{read_in}
 use Rattle.ffi3_cdecl_spec.specs.Canonical.{FixesAll}
-use Rattle.ffi3_cdecl_spec.specs.Reading.{Outcome, reads, bad_token, unexpected, bad_number, bad_signature, IsReadingIn, IsReading}
+use Rattle.ffi3_cdecl_spec.specs.Reading.{Outcome, reads, IsReadingIn, IsReading}
 use Rattle.ffi3_cdecl_spec.specs.Prototype.{Prototype, read_as, sign_unsaid, first_other, IsFault, IsPrototypeBy, IsPrototype, reads_alike, reads_by_sign, has_fault, has_fault_unsigned, prototype_text, PrototypeLaws}
 use Rattle.ffi3_cdecl_spec.proofs.Readings.{reading_in, one_reading_in}
 use Rattle.ffi3_cdecl_spec.proofs.SpokenTexts.{text_reads}
@@ -22,16 +22,14 @@ use Rattle.ffi3_cdecl_spec.proofs.PrototypeTexts.{prototype_reads, written_alike
 
 list_is_same : (ts us : List Tree) → same_list ts us ≡ true → ts ≡ us
 list_is_same [] [] h = refl
-list_is_same [] (u ∷ us) h = cc
-list_is_same (t ∷ ts) [] h = cc
 list_is_same (t ∷ ts) (u ∷ us) h =
     ap (λ v. v ∷ ts) (types_are_same t u (and_left (same_tree t u) (same_list ts us) h)) ∙ ap (λ l. u ∷ l) (list_is_same ts us (and_right (same_tree t u) (same_list ts us) h))
+list_is_same _ _ h = cc
 
 fixed_is_same : (m n : Option ℕ) → same_fixed m n ≡ true → m ≡ n
 fixed_is_same None None h = refl
-fixed_is_same None (Some n) h = cc
-fixed_is_same (Some m) None h = cc
 fixed_is_same (Some m) (Some n) h = ap Some (eqb-true m n h)
+fixed_is_same _ _ h = cc
 
 fixed_is_itself : (m : Option ℕ) → same_fixed m m ≡ true
 fixed_is_itself None = refl
@@ -72,10 +70,7 @@ same_or_not d e =
 
 no_function : (o : Outcome) → ((d : Declaration) × (o ≡ reads d)) ⊎ IsFault o
 no_function (reads d) = inl (d, refl)
-no_function (bad_token at) = inr (λ d e. cc)
-no_function (unexpected at) = inr (λ d e. cc)
-no_function (bad_number at) = inr (λ d e. cc)
-no_function (bad_signature f) = inr (λ d e. cc)
+no_function _ = inr (λ d e. cc)
 
 pub alike_by : (IsRead : Sign → Outcome → Type 0) (d : Declaration) → IsRead signed (reads d) → IsRead unsigned (reads d) → (c : Sign) → IsRead c (reads d)
 alike_by IsRead d p q signed = p

@@ -1,11 +1,12 @@
 -- Words of a type, said one by one: what is still possible, and what the words name, is what the lists of C11 6.7.2 say.
 use Rattle.std.proofs.Common.{◌≡◌, ℕ, suc, ◌+◌, ◌<◌, Bool, true, false, cond, ◌&&◌, not, List, [], ◌∷◌, ◌++◌, length, Option, Some, None, ap, sym, subst, refl, ◌∙◌, true≢false, arith}
 use Rattle.std.specs.Prelude.{bytes_eq, nat_le, ◌==◌, ◌||◌, is_some}
-use Rattle.std.proofs.lemmas.Bool.{le-leb}
+use Rattle.std.proofs.lemmas.Bool.{le-leb, and_from, and_parts, or_parts, not-true}
 use Rattle.std.proofs.lemmas.Slice.Eq.{bytes_eq-Decides}
-use Rattle.ffi3_type_spec.specs.Tree.{float, double}
-use Rattle.ffi3_cdecl_spec.specs.Tokens.{Token, Sign, signed, unsigned, type_word, sign_word, short_word, int_word, long_word, int128_word, char_word, complex_word}
+use Rattle.ffi3_type_spec.specs.Tree.{float}
+use Rattle.ffi3_cdecl_spec.specs.Tokens.{Token, Sign, signed, unsigned, type_word, sign_word, char_word}
 use Rattle.ffi3_cdecl_spec.specs.Grammar.{Kind, specifier_number, times, counted, type_specifiers, kind_among, named_by}
+use Rattle.ffi3_cdecl_spec.specs.Telling.{specifier_words}
 use Rattle.ffi3_cdecl_spec.specs.Machine.{Size, of_no_size, said_short, said_long, said_long_long, Said, an_integer, a_character, of_128_bits, a_float, a_double, a_complex, words_of, say}
 
 -- ---- counts of lists that stand one behind the other
@@ -39,27 +40,15 @@ below [] ms = true
 below (n ∷ ns) [] = false
 below (n ∷ ns) (m ∷ ms) = nat_le n m && below ns ms
 
-and_true : (a b : Bool) → a ≡ true → b ≡ true → a && b ≡ true
-and_true true b p q = q
-and_true false b p q = absurd (true≢false (sym p))
-
 below_plus : (ns ms : List ℕ) → length ns ≡ length ms → below ns (plus ns ms) ≡ true
 below_plus [] ms e = refl
 below_plus (n ∷ ns) [] e = absurd (omega (arith, e))
 below_plus (n ∷ ns) (m ∷ ms) e =
-    and_true (nat_le n (n + m)) (below ns (plus ns ms)) (le-leb n (n + m) (omega arith)) (below_plus ns ms (omega (arith, e)))
+    and_from (nat_le n (n + m)) (below ns (plus ns ms)) (le-leb n (n + m) (omega arith)) (below_plus ns ms (omega (arith, e)))
 
 abbrev fits_among : List (List Token × Kind) → List ℕ → Bool
 fits_among [] ns = false
 fits_among (row ∷ rows) ns = below ns (counted row.0) || fits_among rows ns
-
-or_left : (a b : Bool) → a || b ≡ false → a ≡ false
-or_left true b e = absurd (true≢false e)
-or_left false b e = refl
-
-or_right : (a b : Bool) → a || b ≡ false → b ≡ false
-or_right true b e = absurd (true≢false e)
-or_right false b e = e
 
 no_row : {A : Type 0} (is : Bool) (some : A) (o : Option A) → (is ≡ true → ⊥) → o ≡ None → cond is (Some some) o ≡ None
 no_row true some o isnt none = absurd (isnt refl)
@@ -71,7 +60,7 @@ none_fits (row ∷ rows) xs more e =
     no_row (bytes_eq (counted (xs ++ more)) (counted row.0)) row.1 (kind_among rows (counted (xs ++ more))) (λ is.
     let same : plus (counted xs) (counted more) ≡ counted row.0 = sym (counted-append xs more) ∙ (bytes_eq-Decides (counted (xs ++ more)) (counted row.0)).0 is in
     let fits : below (counted xs) (counted row.0) ≡ true = subst (λ ns. below (counted xs) ns ≡ true) same (below_plus (counted xs) (counted more) refl) in
-    true≢false (sym fits ∙ or_left (below (counted xs) (counted row.0)) (fits_among rows (counted xs)) e)) (none_fits rows xs more (or_right (below (counted xs) (counted row.0)) (fits_among rows (counted xs)) e))
+    true≢false (sym fits ∙ (or_parts (below (counted xs) (counted row.0)) (fits_among rows (counted xs)) e).0)) (none_fits rows xs more (or_parts (below (counted xs) (counted row.0)) (fits_among rows (counted xs)) e).1)
 
 -- ---- one word more, over all that may have been said
 
@@ -82,68 +71,57 @@ agrees ws None = not (fits_among type_specifiers (counted ws))
 abbrev says_right : Said → Token → Bool
 says_right s x = agrees (words_of s ++ x ∷ []) (say s x)
 
-abbrev for_words : (Token → Bool) → Bool
-for_words f = f (char_word unsigned) && (f (sign_word signed) && (f (sign_word unsigned) && (f (char_word signed) && (f short_word && (f int_word && (f long_word && (f int128_word && (f (type_word float) && (f (type_word double) && f complex_word)))))))))
+-- one of these
+pub data IsAmong : Token → List Token → Type 0 where
+  at_front : {x : Token} {xs : List Token} → IsAmong x (x ∷ xs)
+  further : {x y : Token} {xs : List Token} → IsAmong x xs → IsAmong x (y ∷ xs)
 
-abbrev pub for_signs : (Option Sign → Bool) → Bool
+pub specifier_among : (x : Token) → 0 < specifier_number x → IsAmong x specifier_words
+specifier_among (sign_word signed) h = at_front
+specifier_among (char_word signed) h = further (further at_front)
+specifier_among (type_word float) h =
+    further (further (further (further (further (further (further (further at_front)))))))
+specifier_among x h = first_of (search (at_front, further) depth 12, grind arith)
+
+abbrev for_all : (Token → Bool) → List Token → Bool
+for_all f [] = true
+for_all f (x ∷ xs) = f x && for_all f xs
+
+of_all : {x : Token} {xs : List Token} (f : Token → Bool) → IsAmong x xs → for_all f xs ≡ true → f x ≡ true
+of_all f at_front e = (and_parts _ _ e).0
+of_all f (further i) e = of_all f i (and_parts _ _ e).1
+
+abbrev for_words : (Token → Bool) → Bool
+for_words f = for_all f specifier_words
+
+abbrev for_signs : (Option Sign → Bool) → Bool
 for_signs f = f None && (f (Some signed) && f (Some unsigned))
 
-abbrev pub for_sizes : (Size → Bool) → Bool
+abbrev for_sizes : (Size → Bool) → Bool
 for_sizes f = f of_no_size && (f said_short && (f said_long && f said_long_long))
 
-abbrev pub for_both : (Bool → Bool) → Bool
+abbrev for_both : (Bool → Bool) → Bool
 for_both f = f true && f false
 
-and_left : (a b : Bool) → a && b ≡ true → a ≡ true
-and_left true b e = refl
-and_left false b e = e
+of_signs : (f : Option Sign → Bool) → for_signs f ≡ true → (g : Option Sign) → f g ≡ true
+of_signs f e None = (and_parts _ _ e).0
+of_signs f e (Some signed) = (and_parts _ _ (and_parts (f None) _ e).1).0
+of_signs f e (Some unsigned) = (and_parts (f (Some signed)) _ (and_parts (f None) _ e).1).1
 
-and_right : (a b : Bool) → a && b ≡ true → b ≡ true
-and_right true b e = e
-and_right false b e = absurd (true≢false (sym e))
-
-pub of_signs : (f : Option Sign → Bool) → for_signs f ≡ true → (g : Option Sign) → f g ≡ true
-of_signs f e None = and_left _ _ e
-of_signs f e (Some signed) = and_left _ _ (and_right (f None) _ e)
-of_signs f e (Some unsigned) =
-    and_right (f (Some signed)) _ (and_right (f None) _ e)
-
-pub of_sizes : (f : Size → Bool) → for_sizes f ≡ true → (z : Size) → f z ≡ true
-of_sizes f e of_no_size = and_left _ _ e
-of_sizes f e said_short = and_left _ _ (and_right (f of_no_size) _ e)
+of_sizes : (f : Size → Bool) → for_sizes f ≡ true → (z : Size) → f z ≡ true
+of_sizes f e of_no_size = (and_parts _ _ e).0
+of_sizes f e said_short = (and_parts _ _ (and_parts (f of_no_size) _ e).1).0
 of_sizes f e said_long =
-    and_left _ _ (and_right (f said_short) _ (and_right (f of_no_size) _ e))
+    (and_parts _ _ (and_parts (f said_short) _ (and_parts (f of_no_size) _ e).1).1).0
 of_sizes f e said_long_long =
-    and_right (f said_long) _ (and_right (f said_short) _ (and_right (f of_no_size) _ e))
+    (and_parts (f said_long) _ (and_parts (f said_short) _ (and_parts (f of_no_size) _ e).1).1).1
 
-pub of_both : (f : Bool → Bool) → for_both f ≡ true → (b : Bool) → f b ≡ true
-of_both f e true = and_left _ _ e
-of_both f e false = and_right (f true) _ e
+of_both : (f : Bool → Bool) → for_both f ≡ true → (b : Bool) → f b ≡ true
+of_both f e true = (and_parts _ _ e).0
+of_both f e false = (and_parts (f true) _ e).1
 
 of_words : (f : Token → Bool) → for_words f ≡ true → (x : Token) → 0 < specifier_number x → f x ≡ true
-of_words f e (char_word unsigned) h =
-    and_left _ _ e
-of_words f e (sign_word signed) h =
-    and_left _ _ (and_right (f (char_word unsigned)) _ e)
-of_words f e (sign_word unsigned) h =
-    and_left _ _ (and_right (f (sign_word signed)) _ (and_right (f (char_word unsigned)) _ e))
-of_words f e (char_word signed) h =
-    and_left _ _ (and_right (f (sign_word unsigned)) _ (and_right (f (sign_word signed)) _ (and_right (f (char_word unsigned)) _ e)))
-of_words f e short_word h =
-    and_left _ _ (and_right (f (char_word signed)) _ (and_right (f (sign_word unsigned)) _ (and_right (f (sign_word signed)) _ (and_right (f (char_word unsigned)) _ e))))
-of_words f e int_word h =
-    and_left _ _ (and_right (f short_word) _ (and_right (f (char_word signed)) _ (and_right (f (sign_word unsigned)) _ (and_right (f (sign_word signed)) _ (and_right (f (char_word unsigned)) _ e)))))
-of_words f e long_word h =
-    and_left _ _ (and_right (f int_word) _ (and_right (f short_word) _ (and_right (f (char_word signed)) _ (and_right (f (sign_word unsigned)) _ (and_right (f (sign_word signed)) _ (and_right (f (char_word unsigned)) _ e))))))
-of_words f e int128_word h =
-    and_left _ _ (and_right (f long_word) _ (and_right (f int_word) _ (and_right (f short_word) _ (and_right (f (char_word signed)) _ (and_right (f (sign_word unsigned)) _ (and_right (f (sign_word signed)) _ (and_right (f (char_word unsigned)) _ e)))))))
-of_words f e (type_word float) h =
-    and_left _ _ (and_right (f int128_word) _ (and_right (f long_word) _ (and_right (f int_word) _ (and_right (f short_word) _ (and_right (f (char_word signed)) _ (and_right (f (sign_word unsigned)) _ (and_right (f (sign_word signed)) _ (and_right (f (char_word unsigned)) _ e))))))))
-of_words f e (type_word double) h =
-    and_left _ _ (and_right (f (type_word float)) _ (and_right (f int128_word) _ (and_right (f long_word) _ (and_right (f int_word) _ (and_right (f short_word) _ (and_right (f (char_word signed)) _ (and_right (f (sign_word unsigned)) _ (and_right (f (sign_word signed)) _ (and_right (f (char_word unsigned)) _ e)))))))))
-of_words f e complex_word h =
-    and_right (f (type_word double)) _ (and_right (f (type_word float)) _ (and_right (f int128_word) _ (and_right (f long_word) _ (and_right (f int_word) _ (and_right (f short_word) _ (and_right (f (char_word signed)) _ (and_right (f (sign_word unsigned)) _ (and_right (f (sign_word signed)) _ (and_right (f (char_word unsigned)) _ e)))))))))
-of_words f e x h = absurd (omega arith)
+of_words f e x h = of_all f (specifier_among x h) e
 
 abbrev all_integers : Bool
 all_integers = for_signs (λ g. for_sizes (λ z. for_both (λ i. for_words (λ x. says_right (an_integer g z i) x))))
@@ -202,10 +180,6 @@ one_by_one : (xs : List Token) (x : Token) (ws : List Token) → xs ++ x ∷ ws 
 one_by_one [] x ws = refl
 one_by_one (y ∷ xs) x ws = ap (λ ts. y ∷ ts) (one_by_one xs x ws)
 
-not_true : (b : Bool) → not b ≡ true → b ≡ false
-not_true true e = absurd (true≢false (sym e))
-not_true false e = refl
-
 -- A word that can be said: with it, the words come to what they come to without it behind what has been said then.
 pub said_more : (s t : Said) (x : Token) → 0 < specifier_number x → say s x ≡ Some t → (ws : List Token) → named_by (words_of s ++ x ∷ ws) ≡ named_by (words_of t ++ ws)
 said_more s t x h e ws =
@@ -217,7 +191,15 @@ said_more s t x h e ws =
 pub said_too_much : (s : Said) (x : Token) → 0 < specifier_number x → say s x ≡ None → (ws : List Token) → named_by (words_of s ++ x ∷ ws) ≡ None
 said_too_much s x h e ws =
     let isnt : not (fits_among type_specifiers (counted (words_of s ++ x ∷ []))) ≡ true = subst (λ o. agrees (words_of s ++ x ∷ []) o ≡ true) e (right s x h) in
-    ap named_by (one_by_one (words_of s) x ws) ∙ none_fits type_specifiers (words_of s ++ x ∷ []) ws (not_true _ isnt)
+    ap named_by (one_by_one (words_of s) x ws) ∙ none_fits type_specifiers (words_of s ++ x ∷ []) ws (not-true _ isnt)
+
+pub sign_number : (g : Sign) → 0 < specifier_number (sign_word g)
+sign_number signed = omega arith
+sign_number unsigned = omega arith
+
+pub char_number : (c : Sign) → 0 < specifier_number (char_word c)
+char_number signed = omega arith
+char_number unsigned = omega arith
 
 -- ---- what names a type as it stands
 

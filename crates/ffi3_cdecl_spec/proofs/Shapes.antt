@@ -42,11 +42,9 @@ lent_pointer = record { is_passed = refl; isnt_void = λ e. cc }
 pub lent_array : (s : Shape) (n : ℕ) → Lent (array_shape s n)
 lent_array (a_value (whole t)) n =
     record { is_passed = refl; isnt_void = array_isnt_void (array_of t n) }
-lent_array (a_value bare) n = lent_handed
-lent_array (a_value nothing) n = lent_handed
 lent_array (an_array t) n =
     record { is_passed = refl; isnt_void = array_isnt_void (array_of t n) }
-lent_array handed n = lent_handed
+lent_array _ n = lent_handed
 
 pub whole_isnt_void : (t : Tree) → IsntVoid (a_value (whole t))
 whole_isnt_void t e = cc

@@ -1,5 +1,5 @@
 -- Types that declarations can have: structs that are not empty and not too deep, arrays as members alone, numbers that are not too great, no long doubles. What has no fault is such.
-use Rattle.std.proofs.Common.{◌≡◌, ℕ, zero, suc, ◌+◌, ◌*◌, ◌<◌, ◌≤◌, inl, inr, Bool, true, false, List, [], ◌∷◌, length, Option, Some, None, refl, ap, sym, ◌∙◌, subst, arith}
+use Rattle.std.proofs.Common.{◌≡◌, ℕ, zero, suc, ◌+◌, ◌*◌, ◌<◌, ◌≤◌, inl, inr, Bool, true, false, List, [], ◌∷◌, length, Option, Some, refl, ap, sym, ◌∙◌, subst, arith}
 use Rattle.std.specs.Prelude.{⊤, is_some}
 use Rattle.std.proofs.lemmas.Bool.{cases_lt}
 use Rattle.ffi3_type_spec.specs.declared.limits.TheConstants.{LARGEST_TYPE, DEEPEST_NESTING}
@@ -24,11 +24,10 @@ IsLast (tree t ts) = ⊥
 
 abbrev mutual
   pub IsSpellableMember : ℕ → Tree → Type 0
-  IsSpellableMember d void = ⊥
   IsSpellableMember d (scalar s) = is_long_double s ≡ false
-  IsSpellableMember d (left_out k) = ⊥
   IsSpellableMember d (structure ts) = (d < MOST_OPEN) × AreSpellableMembers (suc d) ts
   IsSpellableMember d (array ts n) = (n < TOO_GREAT) × IsSpellableElement d ts
+  IsSpellableMember d _ = ⊥
 
   pub IsSpellableElement : ℕ → Trees → Type 0
   IsSpellableElement d no_trees = ⊥
@@ -80,9 +79,8 @@ AllRight outer ts =
     (i : ℕ) → i < length (list_of ts) → HasNoFault outer AsElement (tree_at (list_of ts) i)
 
 element_is : (ts : Trees) (i : ℕ) → element (layouts ts) i ≡ layout (tree_at (list_of ts) i)
-element_is no_trees i = refl
-element_is (tree t ts) zero = refl
 element_is (tree t ts) (suc i) = element_is ts i
+element_is _ _ = refl
 
 as_many_layouts : (ts : Trees) → length (layouts ts) ≡ length (list_of ts)
 as_many_layouts no_trees = refl
@@ -110,19 +108,13 @@ mutual
   some_size outer (scalar s) h = (scalar_room-bounds s).0
   some_size outer (left_out k) h =
       absurd (h [] (left_out_type (left_out k)) (left_out_kind refl))
-  some_size outer (structure no_trees) h =
-      absurd (h [] bad_typedef (misshapen refl refl))
   some_size outer (structure (tree t ts)) h =
       let all = struct_size (tree t ts) (some_sizes (outer + 1) (tree t ts) (part_is_right (structure (tree t ts)) h)) in
       omega (arith, all)
-  some_size outer (array no_trees n) h =
-      absurd (h [] bad_typedef (misshapen refl refl))
-  some_size outer (array (tree t no_trees) zero) h =
-      absurd (h [] bad_typedef (misshapen refl refl))
   some_size outer (array (tree t no_trees) (suc n)) h =
       let one = some_size (outer + 1) t (part_is_right (array (tree t no_trees) (suc n)) h 0 (omega arith)) in
       omega (arith, times_some (suc n) (size_of t) one)
-  some_size outer (array (tree t (tree u us)) n) h =
+  some_size outer _ h =
       absurd (h [] bad_typedef (misshapen refl refl))
 
   some_sizes : (outer : ℕ) (ts : Trees) → AllRight outer ts → (i : ℕ) → i < length (list_of ts) → 1 ≤ size_of (tree_at (list_of ts) i)
@@ -158,14 +150,10 @@ mutual
       absurd (h [] (left_out_type (left_out k)) (left_out_kind refl))
   member_spellable d outer (structure ts) e h p =
       struct_spellable d outer AsElement ts e h p
-  member_spellable d outer (array no_trees n) e h p =
-      absurd (h [] bad_typedef (misshapen refl refl))
-  member_spellable d outer (array (tree t no_trees) zero) e h p =
-      absurd (h [] bad_typedef (misshapen refl refl))
   member_spellable d outer (array (tree t no_trees) (suc n)) e h p =
       let below : suc n < TOO_GREAT = omega (arith, small_count outer AsElement t (suc n) h) in
       (below, (member_spellable d (outer + 1) t (omega arith) (part_is_right (array (tree t no_trees) (suc n)) h 0 (omega arith)) (neither (has_long_double t) false p).0, tt))
-  member_spellable d outer (array (tree t (tree u us)) n) e h p =
+  member_spellable d outer (array _ _) e h p =
       absurd (h [] bad_typedef (misshapen refl refl))
 
   struct_spellable : (d outer : ℕ) (role : Role) (ts : Trees) → d ≤ outer → HasNoFault outer role (structure ts) → has_long_double (structure ts) ≡ false → (d < MOST_OPEN) × AreSpellableMembers (suc d) ts
@@ -184,13 +172,12 @@ mutual
       (omega arith, member_spellable d outer t e (right 0 (omega arith)) parts.0, more_spellable d outer (i + 1) ts e (λ j below. right (suc j) (omega arith)) parts.1 (omega arith))
 
 value_spellable : (t : Tree) → IsArgumentType t → has_long_double t ≡ false → IsSpellableValue t
-value_spellable void h p = absurd (h [] bad_typedef (out_of_place refl refl))
 value_spellable (scalar s) h p = p
 value_spellable (left_out k) h p =
     absurd (h [] (left_out_type (left_out k)) (left_out_kind refl))
 value_spellable (structure ts) h p =
     struct_spellable 0 0 AsArgument ts (omega arith) h p
-value_spellable (array ts n) h p =
+value_spellable _ h p =
     absurd (h [] bad_typedef (out_of_place refl refl))
 
 result_spellable : (t : Tree) → IsResultType t → has_long_double t ≡ false → IsSpellableResult t
@@ -217,10 +204,9 @@ spellable_arguments s right =
 
 module _ (s : Signature) (right : SignatureHasNoFault s) (all : FixesAll s) where
   may_be_variadic : (ts : List Tree) (o : Option ℕ) → s.arguments ≡ ts → s.fixed ≡ o → MayBeVariadic ts (is_some o)
-  may_be_variadic [] None e f = tt
   may_be_variadic [] (Some n) e f =
       absurd (right (bad_fixed n (length s.arguments)) (fixed_outside f (inl (all n f ∙ ap length e))))
-  may_be_variadic (t ∷ ts) o e f = tt
+  may_be_variadic _ _ e f = tt
 
   pub spellable_dots : MayBeVariadic s.arguments (is_some s.fixed)
   spellable_dots = may_be_variadic s.arguments s.fixed refl refl

@@ -1,7 +1,7 @@
 -- The canonical text of a declaration reads as it.
 use Rattle.std.proofs.Common.{◌≡◌, ℕ, suc, ◌+◌, Bool, true, false, List, [], ◌∷◌, ap, sym, subst, refl, ◌∙◌, lit<}
 use Rattle.std.specs.Prelude.{is_some}
-use Rattle.ffi3_type_spec.specs.Tree.{Scalar, u8, s8, u16, s16, u32, s32, u64, s64, u128, s128, float, double, pointer, x87, binary128, Tree, Trees, void, scalar, left_out, structure, array, no_trees, tree}
+use Rattle.ffi3_type_spec.specs.Tree.{Scalar, u8, s8, u16, s16, u32, s32, u64, s64, u128, s128, float, double, pointer, Tree, Trees, void, scalar, left_out, structure, array, no_trees, tree}
 use Rattle.ffi3_cdecl_spec.specs.Tokens.{Token, unsigned, type_word, sign_word, int128_word, void_word, struct_word, name, open_round, close_round, open_curly, close_curly, open_square, close_square, comma, semicolon, star, dots, word_of}
 use Rattle.ffi3_cdecl_spec.specs.Grammar.{IsDeclaration}
 use Rattle.ffi3_cdecl_spec.specs.Reading.{IsReading, is_read, reads}
@@ -124,8 +124,7 @@ scalar_spoken s128 rest h = (int128_spoken, h)
 scalar_spoken float rest h = (float_spoken, h)
 scalar_spoken double rest h = (double_spoken, h)
 scalar_spoken pointer rest h = (void_spoken, (star_spoken, h))
-scalar_spoken x87 rest h = h
-scalar_spoken binary128 rest h = h
+scalar_spoken _ rest h = h
 
 pub identifier_of : (word bytes : List ℕ) → word ≡ bytes → IsIdentifierOf word bytes → Spoken (name word)
 identifier_of word [] e h = absurd h
@@ -137,11 +136,10 @@ identifier_of word (b ∷ bs) e h =
 mutual
   counts_spoken : (d : ℕ) (t : Tree) → IsSpellableMember d t → (rest : List Token) → AllSpoken rest → AllSpoken (count_tokens t rest)
   counts_spoken d void h rest r = absurd h
-  counts_spoken d (scalar s) h rest r = r
   counts_spoken d (left_out k) h rest r = absurd h
-  counts_spoken d (structure ts) h rest r = r
   counts_spoken d (array ts n) h rest r =
       (open_square_spoken, (number_spoken n h.0, (close_square_spoken, element_counts_spoken d ts h.1 rest r)))
+  counts_spoken d _ h rest r = r
 
   element_counts_spoken : (d : ℕ) (ts : Trees) → IsSpellableElement d ts → (rest : List Token) → AllSpoken rest → AllSpoken (first_count_tokens ts rest)
   element_counts_spoken d no_trees h rest r = absurd h
@@ -149,12 +147,11 @@ mutual
 
 mutual
   type_spoken : (d : ℕ) (t : Tree) → IsSpellableMember d t → (rest : List Token) → AllSpoken rest → AllSpoken (type_tokens t rest)
-  type_spoken d void h rest r = absurd h
   type_spoken d (scalar s) h rest r = scalar_spoken s rest r
-  type_spoken d (left_out k) h rest r = absurd h
   type_spoken d (structure ts) h rest r =
       (struct_spoken, (open_curly_spoken, members_spoken (suc d) ts h.1 (close_curly ∷ rest) (close_curly_spoken, r)))
   type_spoken d (array ts n) h rest r = element_spoken d ts h.1 rest r
+  type_spoken d _ h rest r = absurd h
 
   element_spoken : (d : ℕ) (ts : Trees) → IsSpellableElement d ts → (rest : List Token) → AllSpoken rest → AllSpoken (first_type_tokens ts rest)
   element_spoken d no_trees h rest r = absurd h
@@ -171,18 +168,15 @@ mutual
       type_spoken d t h.1 _ (member_name_spoken i h.0, counts_spoken d t h.1 _ (semicolon_spoken, more_members_spoken d (i + 1) ts h.2 rest r))
 
 pub value_spoken : (t : Tree) → IsSpellableValue t → (rest : List Token) → AllSpoken rest → AllSpoken (type_tokens t rest)
-value_spoken void h rest r = absurd h
 value_spoken (scalar s) h rest r = scalar_spoken s rest r
-value_spoken (left_out k) h rest r = absurd h
 value_spoken (structure ts) h rest r = type_spoken 0 (structure ts) h rest r
-value_spoken (array ts n) h rest r = absurd h
+value_spoken _ h rest r = absurd h
 
 pub result_spoken : (t : Tree) → IsSpellableResult t → (rest : List Token) → AllSpoken rest → AllSpoken (type_tokens t rest)
 result_spoken void h rest r = (void_spoken, r)
 result_spoken (scalar s) h rest r = scalar_spoken s rest r
-result_spoken (left_out k) h rest r = absurd h
 result_spoken (structure ts) h rest r = type_spoken 0 (structure ts) h rest r
-result_spoken (array ts n) h rest r = absurd h
+result_spoken _ h rest r = absurd h
 
 end_spoken : (variadic : Bool) (rest : List Token) → AllSpoken rest → AllSpoken (end_tokens variadic rest)
 end_spoken true rest r =

@@ -55,8 +55,7 @@ lives_alike {t = t} h x = ap not (dead_alike h x ∙ kept_count t x)
 some_alike : (o p : Option Declaration) → SameEnd Any AnyTypes AnyCounts o p → is_some o ≡ is_some p
 some_alike None None same = refl
 some_alike (Some d) (Some e) same = refl
-some_alike None (Some e) same = absurd same
-some_alike (Some d) None same = absurd same
+some_alike _ _ same = absurd same
 
 type_alike : {s t : State} → SomeStates s t → wants_a_type s ≡ wants_a_type t
 type_alike (both_want_type p) = refl

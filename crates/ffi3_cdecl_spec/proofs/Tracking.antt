@@ -3,13 +3,13 @@ use Rattle.std.proofs.Common.{◌≡◌, ℕ, ◌+◌, ◌⊎◌, inl, inr, Bool
 use Rattle.std.specs.Prelude.{⊤, cond, ltb}
 use Rattle.ffi3_type_spec.specs.Tree.{s32}
 use Rattle.ffi3_cdecl_spec.specs.Tokens.{wide, signed, Token, type_word, struct_word, union_word, enum_word, attribute_word, other_keyword, name, open_round}
-use Rattle.ffi3_cdecl_spec.specs.Grammar.{Kind, whole, bare, nothing, MOST_OPEN}
-use Rattle.ffi3_cdecl_spec.specs.Machine.{Round, unstarred, starred, brackets, bracket_inside, Where, at_result, at_parameter, at_member, at_inner, depth, State, wants_type, wants_base, after_struct, after_struct_tag, wants_tag, opened, after_comma, after_member, declarator, round_opened, list_opened, list_comma, dead, declared_name, open_bracket, step, after, begun, is_dead}
+use Rattle.ffi3_cdecl_spec.specs.Grammar.{Kind, whole, bare, MOST_OPEN}
+use Rattle.ffi3_cdecl_spec.specs.Machine.{Round, unstarred, brackets, bracket_inside, Where, at_result, at_parameter, at_member, at_inner, depth, State, wants_type, after_struct, after_struct_tag, wants_tag, declarator, round_opened, dead, declared_name, open_bracket, step, after, begun, is_dead}
 use Rattle.ffi3_cdecl_spec.specs.Reasons.{Base, base_tokens, IsByValue, IsReasonOf}
 use Rattle.ffi3_cdecl_spec.specs.Telling.{lives, wants_a_type, Track, no_track, behind_struct, behind_union, behind_enum, behind_base, named_base, base_alone, tag_behind, name_behind_base, bracket_behind_base, tracked, an_int32, sized, reason_of_base, reason_by, reason_at}
 use Rattle.ffi3_cdecl_spec.proofs.Ways.{after-append}
 use Rattle.ffi3_cdecl_spec.proofs.Readings.{lives_viable}
-use Rattle.ffi3_cdecl_spec.proofs.Expecting.{not_true}
+use Rattle.std.proofs.lemmas.Bool.{not-true}
 
 abbrev an_int : Token
 an_int = type_word s32
@@ -40,62 +40,29 @@ not_there e = absurd (true≢false e)
 
 sized_struct : (s : State) → wants_a_type s ≡ true → step wide s an_int ≡ sized (step wide s struct_word)
 sized_struct (wants_type w) e = refl
-sized_struct (wants_base w) e = refl
-sized_struct (opened head) e = refl
-sized_struct (after_comma head ts) e = refl
-sized_struct (after_member ts w) e = refl
-sized_struct (list_opened u) e = refl
-sized_struct (list_comma u) e = refl
-sized_struct s e = not_there (sym e)
+sized_struct s e = cc
 
 sized_union : (s : State) → wants_a_type s ≡ true → step wide s an_int ≡ sized (step wide s union_word)
 sized_union (wants_type w) e = refl
-sized_union (wants_base w) e = refl
-sized_union (opened head) e = refl
-sized_union (after_comma head ts) e = refl
-sized_union (after_member ts w) e = refl
-sized_union (list_opened u) e = refl
-sized_union (list_comma u) e = refl
-sized_union s e = not_there (sym e)
+sized_union s e = cc
 
 sized_enum : (s : State) → wants_a_type s ≡ true → step wide s an_int ≡ sized (step wide s enum_word)
 sized_enum (wants_type w) e = refl
-sized_enum (wants_base w) e = refl
-sized_enum (opened head) e = refl
-sized_enum (after_comma head ts) e = refl
-sized_enum (after_member ts w) e = refl
-sized_enum (list_opened u) e = refl
-sized_enum (list_comma u) e = refl
-sized_enum s e = not_there (sym e)
+sized_enum s e = cc
 
 sized_name : (called : List ℕ) (s : State) → wants_a_type s ≡ true → step wide s an_int ≡ sized (step wide s (name called))
 sized_name called (wants_type w) e = refl
-sized_name called (wants_base w) e = refl
-sized_name called (opened head) e = refl
-sized_name called (after_comma head ts) e = refl
-sized_name called (after_member ts w) e = refl
-sized_name called (list_opened u) e = refl
-sized_name called (list_comma u) e = refl
-sized_name called s e = not_there (sym e)
+sized_name called s e = cc
 
 -- ---- behind a base
 
 -- whatever stands there, a name and a bracket come to the same with int32_t in place of the base, or to where the base does not matter
-name_runs : (k : Kind) (o : Round) (w : Where) (called : List ℕ) → (sized (declared_name k o w called) ≡ dead) ⊎ (declared_name an_int32 o w called ≡ sized (declared_name k o w called))
-name_runs (whole t) (unstarred n) at_result called = inl refl
-name_runs bare (unstarred n) at_result called = inl refl
-name_runs nothing (unstarred n) at_result called = inl refl
-name_runs k (starred n m) at_result called = inl refl
-name_runs k (unstarred n) (at_parameter head ts) called = inr refl
-name_runs k (starred n m) (at_parameter head ts) called = inl refl
-name_runs (whole t) (unstarred n) (at_member ts w) called = inl refl
-name_runs bare (unstarred n) (at_member ts w) called = inl refl
-name_runs nothing (unstarred n) (at_member ts w) called = inl refl
-name_runs k (starred n m) (at_member ts w) called = inl refl
-name_runs (whole t) (unstarred n) (at_inner u) called = inl refl
-name_runs bare (unstarred n) (at_inner u) called = inl refl
-name_runs nothing (unstarred n) (at_inner u) called = inl refl
-name_runs k (starred n m) (at_inner u) called = inl refl
+name_runs : (w : Where) (o : Round) (k : Kind) (called : List ℕ) → (sized (declared_name k o w called) ≡ dead) ⊎ (declared_name an_int32 o w called ≡ sized (declared_name k o w called))
+name_runs (at_parameter head ts) (unstarred n) k called = inr refl
+name_runs at_result (unstarred n) (whole t) called = inl refl
+name_runs (at_member ts w) (unstarred n) (whole t) called = inl refl
+name_runs (at_inner u) (unstarred n) (whole t) called = inl refl
+name_runs w o k called = inl refl
 
 room_runs : (b : Bool) (k : Kind) (o : Round) (w : Where) → (sized (cond b (round_opened k o w) dead) ≡ dead) ⊎ (cond b (round_opened an_int32 o w) dead ≡ sized (cond b (round_opened k o w) dead))
 room_runs true k o w = inr refl
@@ -145,19 +112,15 @@ module _ (start : List Token) (s : State) (e : after wide begun start ≡ s) whe
   begun_name t called false same = tt
 
 tag_follows : (start : List Token) (s t : State) (y : Track) (tag : List ℕ) → Follows start s y → sized t ≡ sized s → Follows (start ++ name tag ∷ []) t (tag_behind y tag)
-tag_follows start s t no_track tag f same = tt
 tag_follows start s t behind_struct tag f same = tagged start s t struct_word tag f same
 tag_follows start s t behind_union tag f same = tagged start s t union_word tag f same
 tag_follows start s t behind_enum tag f same = tagged start s t enum_word tag f same
-tag_follows start s t (behind_base b) tag f same = tt
+tag_follows start s t y tag f same = tt
 
 alone_follows : (start : List Token) (s t : State) (y : Track) (x : Token) → Follows start s y → is_dead (sized s) ≡ false → (sized t ≡ dead) ⊎ (step wide (sized s) x ≡ sized t) → Follows (start ++ x ∷ []) t (base_alone y)
-alone_follows start s t no_track x f alive more = tt
-alone_follows start s t behind_struct x f alive more = tt
-alone_follows start s t behind_union x f alive more = tt
-alone_follows start s t behind_enum x f alive more = tt
 alone_follows start s t (behind_base b) x f alive more =
     grown start s t (base_tokens b) x f alive more
+alone_follows start s t y x f alive more = tt
 
 module _ (start : List Token) where
   name_follows : (s : State) (y : Track) (called : List ℕ) → after wide begun start ≡ s → Follows start s y → Follows (start ++ name called ∷ []) (step wide s (name called)) (name_behind_base s y called)
@@ -166,9 +129,9 @@ module _ (start : List Token) where
   name_follows (wants_tag w) y called e f =
       tag_follows start (wants_tag w) (declarator bare (unstarred 0) w) y called f refl
   name_follows (after_struct_tag w) y called e f =
-      alone_follows start (after_struct_tag w) (declared_name bare (unstarred 0) w called) y (name called) f refl (name_runs bare (unstarred 0) w called)
+      alone_follows start (after_struct_tag w) (declared_name bare (unstarred 0) w called) y (name called) f refl (name_runs w (unstarred 0) bare called)
   name_follows (declarator k o w) y called e f =
-      alone_follows start (declarator k o w) (declared_name k o w called) y (name called) f refl (name_runs k o w called)
+      alone_follows start (declarator k o w) (declared_name k o w called) y (name called) f refl (name_runs w o k called)
   name_follows s y called e f =
       begun_name start s e (step wide s (name called)) called (wants_a_type s) (sized_name called s)
 
@@ -211,19 +174,16 @@ module _ (start : List Token) where
       runs (inl e) =
           not_there (sym l ∙ ap (λ r. lives r x) e)
       runs (inr e) =
-          ap (λ r. is_dead (step wide r x)) e ∙ not_true (is_dead (step wide (sized s) x)) l
+          ap (λ r. is_dead (step wide r x)) e ∙ not-true (is_dead (step wide (sized s) x)) l
 
   reason_of : (s : State) (b : Base) (x : Token) (xs : List Token) → IsOther x → AtBase start s (base_tokens b) → (l : Bool) → lives (sized s) x ≡ l → IsReasonOf start (x ∷ xs) (reason_of_base l b)
   reason_of s b x xs q at true e = instead_of s b x at e
   reason_of s b x xs q at false e = no_word x xs q
 
   reason_is_by : (s : State) (y : Track) (x : Token) (xs : List Token) → IsOther x → Follows start s y → IsReasonOf start (x ∷ xs) (reason_by s y x)
-  reason_is_by s no_track x xs q f = no_word x xs q
-  reason_is_by s behind_struct x xs q f = no_word x xs q
-  reason_is_by s behind_union x xs q f = no_word x xs q
-  reason_is_by s behind_enum x xs q f = no_word x xs q
   reason_is_by s (behind_base b) x xs q f =
       reason_of s b x xs q f (lives (sized s) x) refl
+  reason_is_by s y x xs q f = no_word x xs q
 
   pub reason_is : (s : State) (y : Track) (x : Token) (xs : List Token) → Follows start s y → IsReasonOf start (x ∷ xs) (reason_at s y x)
   reason_is s y attribute_word xs f = refl

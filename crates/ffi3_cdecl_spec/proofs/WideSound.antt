@@ -1,26 +1,34 @@
 -- What is accepted in the wide reading is in the grammar.
-use Rattle.std.proofs.Common.{◌≡◌, ℕ, zero, suc, ◌+◌, ◌<◌, Bool, true, false, cond, List, [], ◌∷◌, ◌++◌, length, Option, Some, None, ltb, ap, sym, subst, refl, ◌∙◌, append-nil, arith}
+use Rattle.std.proofs.Common.{◌≡◌, ℕ, zero, suc, ◌+◌, ◌<◌, ◌⊎◌, inl, inr, Bool, true, false, cond, List, [], ◌∷◌, ◌++◌, length, Option, Some, None, ltb, ap, sym, subst, refl, ◌∙◌, append-nil, arith}
 use Rattle.std.proofs.lemmas.Bool.{ltb-true}
 use Rattle.ffi3_type_spec.specs.Tree.{Scalar, float, double, Tree, scalar}
-use Rattle.ffi3_cdecl_spec.specs.Tokens.{wide, Token, Sign, signed, unsigned, type_word, sign_word, const_word, short_word, int_word, long_word, int128_word, char_word, complex_word, void_word, struct_word, union_word, enum_word, name, number, open_round, close_round, open_curly, close_curly, open_square, close_square, comma, semicolon, star, dots}
-use Rattle.ffi3_cdecl_spec.specs.Grammar.{Kind, whole, bare, nothing, MOST_OPEN, pointer_type, specifier_number, named_by, no_more_words, a_word, kind_of_name, Shape, a_value, handed, pointer_shape, passed, member_type, returned, Naming, must_be_named, may_be_named, may_begin, opens_round, the_name, in_brackets, IsCalled, IsParameterList, by_word, by_specifiers, a_void, a_tag, a_union, an_enum, a_name, a_struct, a_tagged_struct, IsQualified, unqualified, constant, no_suffix, known_array, open_array, a_list, IsDeclarator, IsInner, inner_of, last_inner, inner_dots, next_inner, no_inners, inner_void, some_inners, one_declared, then_members, then_declared, of_a_base, a_declared_one, IsFunction, Function, returns_pointer, a_function_here, a_function_inside, IsEnd, no_semicolon, one_semicolon, Declaration, declared, IsDeclarationIn, declares_by, named_array, is_named_bound}
-use Rattle.ffi3_cdecl_spec.specs.Machine.{Round, unstarred, starred, and_more, brackets, star_inside, bracket_inside, Head, fixing, Where, at_result, at_parameter, at_member, at_inner, Settled, a_parameter, an_inner, a_pointer_member, the_function, Member, plain_member, starred_member, bound_of, depth, depth_of, brackets_of, arrays, Said, an_integer, a_character, of_128_bits, a_float, a_double, a_complex, of_no_size, said_short, said_long, words_of, say, State, wants_type, wants_base, after_words, after_struct_tag, wants_tag, after_struct, sole_void, opened, after_comma, after_member, declarator, round_opened, function_named, closing, parameter_itself, inner_nothing, member_at, member_bound, member_bounded, settled, square_opened, square_filled, list_opened, list_void, list_comma, list_dots, wide_dots, ended, dead, word_said, step_base, words_go_on, step_type, comma_of, step_closing, member_ends, inner_ends, function_ends, settled_ends, bracket_or_end, list_with_room, step_settled, step_square, step_filled, open_bracket, called_by, function_name, member_name, parameter_by, inner_by, declared_name, itself_ends, itself_or_bracket, step_itself, nothing_or_bracket, step_inner_nothing, step_unnamed, step_declarator, name_in_bracket, step_round_opened, step_function_named, step_round_closing, step_member_at, step_member_bound, step_member_bounded, step_list_opened, step_list_void, step_list_comma, step_list_dots, opened_struct, step_struct, step_tag, step_struct_tag, step_named_by, step_words, step_sole_void, step_opened, step_comma, step_wide_dots, step_after_member, step, finish, begun, Accepts}
+use Rattle.ffi3_cdecl_spec.specs.Tokens.{wide, Token, type_word, sign_word, const_word, short_word, int_word, long_word, int128_word, char_word, complex_word, void_word, struct_word, union_word, enum_word, name, number, open_round, close_round, open_curly, close_curly, open_square, close_square, comma, semicolon, star, dots}
+use Rattle.ffi3_cdecl_spec.specs.Grammar.{Kind, whole, bare, nothing, MOST_OPEN, pointer_type, specifier_number, named_by, no_more_words, a_word, kind_of_name, Shape, a_value, handed, pointer_shape, passed, member_type, returned, Naming, must_be_named, may_be_named, may_begin, opens_round, the_name, in_brackets, IsCalled, by_word, by_specifiers, a_void, a_tag, a_union, an_enum, a_name, a_struct, a_tagged_struct, IsQualified, unqualified, constant, no_suffix, known_array, open_array, a_list, IsDeclarator, IsInner, inner_of, last_inner, inner_dots, next_inner, no_inners, inner_void, some_inners, one_declared, then_members, then_declared, of_a_base, a_declared_one, IsFunction, Function, returns_pointer, a_function_here, a_function_inside, IsEnd, no_semicolon, one_semicolon, Declaration, IsDeclarationIn, declares_by, named_array, is_named_bound}
+use Rattle.ffi3_cdecl_spec.specs.Machine.{Round, unstarred, starred, and_more, brackets, star_inside, bracket_inside, Head, fixing, Where, at_result, at_parameter, at_member, at_inner, Settled, a_parameter, an_inner, a_pointer_member, the_function, Member, plain_member, starred_member, bound_of, depth, depth_of, brackets_of, arrays, Said, an_integer, a_character, of_128_bits, a_float, a_double, a_complex, of_no_size, said_short, said_long, words_of, say, State, wants_type, wants_base, after_words, after_struct_tag, wants_tag, after_struct, sole_void, opened, after_comma, after_member, declarator, round_opened, function_named, closing, parameter_itself, inner_nothing, member_at, member_bound, member_bounded, settled, square_opened, square_filled, list_opened, list_void, list_comma, list_dots, wide_dots, closed, ended, dead, word_said, step_base, words_go_on, step_type, comma_of, step_closing, member_ends, inner_ends, function_ends, settled_ends, bracket_or_end, list_with_room, open_bracket, called_by, function_name, member_name, parameter_by, inner_by, declared_name, itself_ends, itself_or_bracket, nothing_or_bracket, step_unnamed, step_declarator, step_member_at, opened_struct, step_named_by, step_words, step, finish, begun, Accepts}
 use Rattle.ffi3_cdecl_spec.proofs.Shapes.{arrays_shape, value_member, IsntVoid, Lent, whole_isnt_void, bare_isnt_void}
-use Rattle.ffi3_cdecl_spec.proofs.Lists.{ParametersFollow, DotsFollow, dots_end, types_follow, NextFollows, the_dots, the_next, CloseFollows, closes, goes_on, types_go_on, ListFollows, list_closes, list_of_void, list_of_parameters, ListIs, list_is, list_by, with_parameter}
-use Rattle.ffi3_cdecl_spec.proofs.WideRest.{IsOver, over, Closings, no_bracket, a_bracket, Outside, no_outside, outside_bracket, inside_star, at_star, BehindName, behind_name, SettledFollows, settles, SomeInners, inners_and, InnersFollow, inner_ends_by_dots, more_inners, InnerEnds, inner_closes, inner_goes_on, InnerListFollows, inner_list_follows, RoundThen, a_round, SomeMembers, some_members, SomeDeclared, some_declared, MembersFollow, no_more, more, MemberEnds, member_ends_here, member_goes_on, NumberThen, a_number, SquareThen, square, BoundThen, a_bound, no_bound, Closes, none_closes, outer_closes, inner_bracket_closes, star_closes, ReturnedBy, new_head, declares_it, naming, ClosingFollows, closing_follows, E, NamedFollows, its_list, its_bracket, its_inner_bracket, FunctionInside, function_inside_of, FunctionFollows, function_inside, name_inside, ParameterEnds, parameter_ends, MemberFollows, member_follows, InnerFollows, inner_follows, SettledEnds, SettledRest, DeclaratorRest, KindFollows, StructOf, BaseFollows, TypeFollows, CurlyFollows, curly_follows, TagFollows, members_of_tag, no_members, AloneFollows, the_tag, StructFollows, a_tag_follows, members_follow, VoidFollows, void_closes, void_declared, InnerVoidFollows, inner_void_closes, inner_void_declared, MemberRest, Rest, named_bound}
-use Rattle.ffi3_cdecl_spec.proofs.Rounds.{bracket_behind, nothing_behind, square_behind, list_behind, star_behind, kept_behind, name_declarator, star_declarator, bracket_declarator, Grounded, grounded, ground, unnamed_declarator, SomeOutside, some_outside, any_outside}
+use Rattle.ffi3_cdecl_spec.proofs.Lists.{ParametersFollow, dots_end, types_follow, NextFollows, the_dots, the_next, CloseFollows, closes, goes_on, types_go_on, ListFollows, list_closes, list_of_void, list_of_parameters, ListIs, list_is, list_by, with_parameter}
+use Rattle.ffi3_cdecl_spec.proofs.WideRest.{IsOver, over, Closings, no_bracket, a_bracket, Outside, no_outside, outside_bracket, inside_star, at_star, BehindName, behind_name, SettledFollows, settles, SomeInners, inners_and, InnersFollow, inner_ends_by_dots, more_inners, InnerEnds, inner_closes, inner_goes_on, InnerListFollows, inner_list_follows, RoundThen, a_round, SomeMembers, some_members, SomeDeclared, some_declared, no_more, more, MemberEnds, member_ends_here, member_goes_on, NumberThen, a_number, SquareThen, square, BoundThen, a_bound, no_bound, Closes, none_closes, outer_closes, inner_bracket_closes, star_closes, ReturnedBy, new_head, declares_it, naming, ClosingFollows, closing_follows, E, its_list, its_bracket, its_inner_bracket, FunctionInside, function_inside_of, FunctionFollows, function_inside, name_inside, ParameterEnds, parameter_ends, MemberFollows, member_follows, InnerFollows, inner_follows, SettledEnds, SettledRest, DeclaratorRest, KindFollows, StructOf, BaseFollows, TypeFollows, CurlyFollows, curly_follows, TagFollows, members_of_tag, no_members, AloneFollows, the_tag, StructFollows, a_tag_follows, members_follow, VoidFollows, void_closes, void_declared, InnerVoidFollows, inner_void_closes, inner_void_declared, MemberRest, Rest, named_bound}
+use Rattle.ffi3_cdecl_spec.proofs.Rounds.{bracket_behind, nothing_behind, square_behind, list_behind, star_behind, kept_behind, name_declarator, star_declarator, bracket_declarator, Grounded, grounded, ground, unnamed_declarator, any_outside}
 use Rattle.ffi3_cdecl_spec.proofs.PlainSound.{some_same}
 use Rattle.ffi3_cdecl_spec.proofs.Never.{none_some}
-use Rattle.ffi3_cdecl_spec.proofs.Saying.{said_more}
+use Rattle.ffi3_cdecl_spec.proofs.Saying.{said_more, sign_number, char_number}
 
--- both words of sign are words of a type
-sign_number : (g : Sign) → 0 < specifier_number (sign_word g)
-sign_number signed = omega arith
-sign_number unsigned = omega arith
+-- a token behind words of a type: one more, or what a base is followed by
+abbrev IsWordOrNone : Said → Where → Token → Type 0
+IsWordOrNone s w x =
+    ((0 < specifier_number x) × (step_words s w x ≡ words_go_on w (say s x))) ⊎ (step_words s w x ≡ step_named_by (named_by (words_of s)) w x)
 
-char_number : (c : Sign) → 0 < specifier_number (char_word c)
-char_number signed = omega arith
-char_number unsigned = omega arith
+word_or_none : (s : Said) (w : Where) (x : Token) → IsWordOrNone s w x
+word_or_none s w (sign_word g) = inl (sign_number g, refl)
+word_or_none s w (char_word c) = inl (char_number c, refl)
+word_or_none s w (type_word float) = inl (omega arith, refl)
+word_or_none s w (type_word double) = inl (omega arith, refl)
+word_or_none s w short_word = inl (omega arith, refl)
+word_or_none s w int_word = inl (omega arith, refl)
+word_or_none s w long_word = inl (omega arith, refl)
+word_or_none s w int128_word = inl (omega arith, refl)
+word_or_none s w complex_word = inl (omega arith, refl)
+word_or_none s w x = inr refl
 
 begins_by_star : (a : Naming) (xs : List Token) → may_begin a (star ∷ xs) ≡ true
 begins_by_star must_be_named xs = refl
@@ -32,26 +40,22 @@ begins_by_round may_be_named xs = refl
 
 -- ---- the function's result by what is round it
 
-pub data ReturnedOutside (k : Kind) (m : ℕ) (o : Round) (t : Tree) (xs behind : List Token) : Type 0 where
-  returned_outside_of : {e : Shape} → Outside k m o e xs behind → returned e ≡ Some t → ReturnedOutside k m o t xs behind
-
-outer_returned : {k : Kind} {m n : ℕ} {t : Tree} {xs behind : List Token} → ReturnedOutside k m (unstarred n) t xs behind → ReturnedOutside k (suc m) (unstarred (suc n)) t (close_round ∷ xs) behind
-outer_returned (returned_outside_of o is) =
-    returned_outside_of (outside_bracket no_suffix o) is
-
-inner_returned : {k : Kind} {m n j : ℕ} {t : Tree} {xs behind : List Token} → ReturnedOutside k m (starred n j) t xs behind → ReturnedOutside k (suc m) (starred (suc n) j) t (close_round ∷ xs) behind
-inner_returned (returned_outside_of o is) =
-    returned_outside_of (inside_star no_suffix o) is
+record ReturnedOutside (k : Kind) (m : ℕ) (o : Round) (t : Tree) (xs behind : List Token) : Type 0 where
+  shape : Shape
+  outside : Outside k m o shape xs behind
+  returns : returned shape ≡ Some t
 
 returned_outside : {m : ℕ} {xs behind : List Token} {t : Tree} (k : Kind) (o : Round) → Closes m o xs behind → ReturnedBy k o t → ReturnedOutside k m o t xs behind
 returned_outside k (unstarred zero) none_closes is =
-    returned_outside_of no_outside is
+    record { shape = a_value k; outside = no_outside; returns = is }
 returned_outside k (unstarred (suc n)) (outer_closes c) is =
-    outer_returned (returned_outside k (unstarred n) c is)
+    let out = returned_outside k (unstarred n) c is in
+    record { shape = out.shape; outside = outside_bracket no_suffix out.outside; returns = out.returns }
 returned_outside k (starred (suc n) j) (inner_bracket_closes c) is =
-    inner_returned (returned_outside k (starred n j) c is)
+    let out = returned_outside k (starred n j) c is in
+    record { shape = out.shape; outside = inside_star no_suffix out.outside; returns = out.returns }
 returned_outside k (starred zero j) (star_closes c) is =
-    returned_outside_of (at_star c) (ap Some (sym is))
+    record { shape = pointer_shape; outside = at_star c; returns = ap Some (sym is) }
 
 -- what stands outside of a star
 pub data StarIs (m j : ℕ) (mid behind : List Token) : Shape → Type 0 where
@@ -136,12 +140,6 @@ module _ (d : Declaration) where
   back_closing head ts comma xs h = comma_by head ts xs head.fixed refl h
   back_closing head ts x xs h = absurd h
 
-  back_wide_dots : (head : Head) (ts : List Tree) (x : Token) (xs : List Token) → Rest d (step_wide_dots head ts x) xs → DotsFollow wide (E d) head ts (x ∷ xs)
-  back_wide_dots head ts close_round xs h = dots_end h
-  back_wide_dots head ts comma xs h =
-      types_follow refl (parameters_by (fixing head (length ts)) ts h)
-  back_wide_dots head ts x xs h = absurd h
-
   -- ---- the end of a declarator
 
   back_member_ends : (k : Kind) (t : Tree) (ts : List Tree) (w : Where) (x : Token) (xs : List Token) → Rest d (member_ends k t ts w x) xs → MemberEnds (depth w) (StructOf d w) ts k t (x ∷ xs)
@@ -217,29 +215,11 @@ module _ (d : Declaration) where
   settled_list u room (inner_list_follows l (settles q c x)) =
       settles (a_list room l q) c x
 
-  back_settled : (u : Settled) (x : Token) (xs : List Token) → Rest d (step_settled u x) xs → SettledRest d u (x ∷ xs)
-  back_settled u open_square xs h = settled_square u h
-  back_settled u open_round xs h =
-      let r : RoomFor u xs = room_for u xs h in
-      settled_list u r.room r.list
-  back_settled u x xs h = back_bracket u x xs h
-
   number_bound : {G : List Token → Type 0} {xs : List Token} {n : ℕ} → SquareThen G xs → BoundThen G (number n ∷ xs)
   number_bound (square g) = a_bound g
 
   some_bound : {G : List Token → Type 0} {xs : List Token} (x : Token) → is_named_bound x ≡ true → SquareThen G xs → BoundThen G (x ∷ xs)
   some_bound x is (square g) = named_bound is g
-
-  back_square : (u : Settled) (x : Token) (xs : List Token) → Rest d (step_square u x) xs → BoundThen (SettledRest d u) (x ∷ xs)
-  back_square u (number n) xs h = number_bound h
-  back_square u star xs h = some_bound star refl h
-  back_square u (name called) xs h = some_bound (name called) refl h
-  back_square u close_square xs h = no_bound h
-  back_square u x xs h = absurd h
-
-  back_filled : (u : Settled) (x : Token) (xs : List Token) → Rest d (step_filled u x) xs → SquareThen (SettledRest d u) (x ∷ xs)
-  back_filled u close_square xs h = square h
-  back_filled u x xs h = absurd h
 
   -- ---- parameters and those of lists that are not kept, behind their name
 
@@ -279,13 +259,6 @@ module _ (d : Declaration) where
       bracket_behind 0 (ParameterEnds d head ts) k (unstarred n) h
   back_itself_or k (suc n) head ts x xs h = absurd h
 
-  back_itself : (k : Kind) (n : ℕ) (head : Head) (ts : List Tree) (x : Token) (xs : List Token) → Rest d (step_itself k n head ts x) xs → BehindName 0 (ParameterEnds d head ts) k (unstarred n) (x ∷ xs)
-  back_itself k n head ts open_square xs h =
-      parameter_square k (unstarred n) head ts h
-  back_itself k n head ts open_round xs h =
-      parameter_list k n head ts (room_for (a_parameter head ts n) xs h)
-  back_itself k n head ts x xs h = back_itself_or k n head ts x xs h
-
   abbrev InnerName : Settled → Kind → Round → List Token → Type 0
   InnerName u k o xs =
       BehindName (suc (depth_of u)) (InnerFollows d (depth_of u) (SettledRest d u)) k o xs
@@ -311,13 +284,6 @@ module _ (d : Declaration) where
   back_nothing_or (suc n) u close_round xs h =
       bracket_behind (suc (depth_of u)) (InnerFollows d (depth_of u) (SettledRest d u)) nothing (unstarred n) h
   back_nothing_or (suc n) u x xs h = absurd h
-
-  back_inner_nothing : (n : ℕ) (u : Settled) (x : Token) (xs : List Token) → Rest d (step_inner_nothing n u x) xs → InnerName u nothing (unstarred n) (x ∷ xs)
-  back_inner_nothing n u open_square xs h =
-      inner_square nothing (unstarred n) u h
-  back_inner_nothing n u open_round xs h =
-      inner_list nothing n u (room_for (an_inner u n) xs h)
-  back_inner_nothing n u x xs h = back_nothing_or n u x xs h
 
   -- ---- members behind their name
 
@@ -367,14 +333,6 @@ module _ (d : Declaration) where
       pointer_settles k ns ts w h
   back_member_at (starred_member k ns zero (suc j)) ts w x xs h = absurd h
 
-  back_member_bound : (b : Member) (ts : List Tree) (w : Where) (x : Token) (xs : List Token) → Rest d (step_member_bound b ts w x) xs → Rest d (member_bound b ts w) (x ∷ xs)
-  back_member_bound b ts w (number n) xs h = a_number h
-  back_member_bound b ts w x xs h = absurd h
-
-  back_member_bounded : (b : Member) (ts : List Tree) (w : Where) (x : Token) (xs : List Token) → Rest d (step_member_bounded b ts w x) xs → Rest d (member_bounded b ts w) (x ∷ xs)
-  back_member_bounded b ts w close_square xs h = square h
-  back_member_bounded b ts w x xs h = absurd h
-
   -- ---- the function
 
   back_called : (called : List ℕ) (k : Kind) (o : Round) (t : Option Tree) (xs : List Token) → ((u : Tree) → t ≡ Some u → ReturnedBy k o u) → Rest d (called_by called t o) xs → FunctionFollows d k o (name called ∷ xs)
@@ -386,22 +344,15 @@ module _ (d : Declaration) where
       back_called called k (unstarred n) (returned (a_value k)) xs (λ u e. e) h
   back_function_name called k (starred n j) xs h = name_inside the_name refl h
 
-  with_returned : {called : List ℕ} {t : Tree} {us : List Tree} {g : Option ℕ} {xs ys mid behind : List Token} {k : Kind} {o : Round} → IsCalled (brackets o) xs (open_round ∷ ys) called → IsParameterList wide ys mid us g → IsEnd behind → declared called t us g ≡ d → ReturnedOutside k (brackets o) o t mid behind → FunctionInside d k o xs
-  with_returned {called = called} {t = t} {us = us} {g = g} c l end is (returned_outside_of o e) =
-      function_inside_of {f = record { called = called; result_type = t; parameters = us; fixed = g }} (a_function_here c e l) o end is
-
   -- its parameters stand there
   here_function : {called : List ℕ} {t : Tree} {xs ys : List Token} {k : Kind} (o : Round) → IsCalled (brackets o) xs (open_round ∷ ys) called → ReturnedBy k o t → ListIs wide (E d) (new_head called t o) ys → FunctionInside d k o xs
-  here_function {k = k} o c ret (list_is l (closing_follows cl end is)) =
-      with_returned c l end is (returned_outside k o cl ret)
-
-  star_outside : {f : Function} {xs mid behind : List Token} {k : Kind} {o : Round} → IsFunction wide f (brackets o) xs mid pointer_shape → IsEnd behind → declares_it f ≡ d → SomeOutside k (brackets o) o mid behind → FunctionInside d k o (star ∷ xs)
-  star_outside p end is (some_outside o) =
-      function_inside_of (returns_pointer p) o end is
+  here_function {called = called} {t = t} {k = k} o c ret (list_is {ts = us} {f = g} l (closing_follows cl end is)) =
+      let out = returned_outside k o cl ret in
+      function_inside_of {f = record { called = called; result_type = t; parameters = us; fixed = g }} (a_function_here c out.returns l) out.outside end is
 
   star_by : {f : Function} {xs mid behind : List Token} {e : Shape} (k : Kind) (o : Round) → IsFunction wide f (brackets o) xs mid e → IsEnd behind → declares_it f ≡ d → StarIs (brackets o) (brackets o) mid behind e → FunctionInside d k o (star ∷ xs)
   star_by k o p end is (star_is c) =
-      star_outside {o = o} p end is (any_outside k o c)
+      function_inside_of (returns_pointer p) (any_outside k o c).outside end is
 
   star_inside_of : {xs : List Token} (k : Kind) (o : Round) → FunctionInside d k (star_inside o) xs → FunctionInside d k o (star ∷ xs)
   star_inside_of k o (function_inside_of p s end is) =
@@ -436,15 +387,6 @@ module _ (d : Declaration) where
   the_whole (name_inside c ret (its_list l)) =
       here_function (unstarred zero) c ret l
 
-  back_function_named : (called : List ℕ) (t : Tree) (o : Round) (x : Token) (xs : List Token) → Rest d (step_function_named called t o x) xs → NamedFollows d called t o (x ∷ xs)
-  back_function_named called t o open_round xs h =
-      its_list (list_by wide (E d) (new_head called t o) refl h)
-  back_function_named called t (unstarred (suc n)) close_round xs h =
-      its_bracket h
-  back_function_named called t (starred (suc n) j) close_round xs h =
-      its_inner_bracket h
-  back_function_named called t o x xs h = absurd h
-
   outer_closing : {e : Declaration} {n : ℕ} {xs : List Token} → ClosingFollows d (unstarred n) e xs → ClosingFollows d (unstarred (suc n)) e (close_round ∷ xs)
   outer_closing (closing_follows c end is) =
       closing_follows (outer_closes c) end is
@@ -456,16 +398,6 @@ module _ (d : Declaration) where
   star_closing : {e : Declaration} {j : ℕ} {xs : List Token} → SettledRest d (the_function e j) xs → ClosingFollows d (starred zero (suc j)) e (close_round ∷ xs)
   star_closing (settles q c x) =
       closing_follows (star_closes (a_bracket q c)) x.0 x.1
-
-  back_round_closing : (o : Round) (e : Declaration) (x : Token) (xs : List Token) → Rest d (step_round_closing o e x) xs → ClosingFollows d o e (x ∷ xs)
-  back_round_closing (unstarred zero) e semicolon xs h =
-      closing_follows none_closes (semicolon_end h.0) h.1
-  back_round_closing (unstarred (suc n)) e close_round xs h = outer_closing h
-  back_round_closing (starred (suc n) j) e close_round xs h = inner_closing h
-  back_round_closing (starred zero zero) e semicolon xs h =
-      closing_follows (star_closes no_bracket) (semicolon_end h.0) h.1
-  back_round_closing (starred zero (suc j)) e close_round xs h = star_closing h
-  back_round_closing o e x xs h = absurd h
 
   -- ---- declarators
 
@@ -519,9 +451,8 @@ module _ (d : Declaration) where
 
   name_of_member : (k : Kind) (o : Round) (ts : List Tree) (w : Where) (xs : List Token) → Rest d (member_name k o ts w) xs → MemberName [] ts w k o xs
   name_of_member (whole t) (unstarred n) ts w xs h = h
-  name_of_member bare (unstarred n) ts w xs h = absurd h
-  name_of_member nothing (unstarred n) ts w xs h = absurd h
   name_of_member k (starred i j) ts w xs h = h
+  name_of_member _ (unstarred n) ts w xs h = absurd h
 
   back_name : (k : Kind) (o : Round) (w : Where) (called : List ℕ) (xs : List Token) → Rest d (declared_name k o w called) xs → DeclaratorRest d k o w (name called ∷ xs)
   back_name k o at_result called xs h = back_function_name called k o xs h
@@ -552,12 +483,11 @@ module _ (d : Declaration) where
 
   -- a token that is no star, no name and no "("
   back_unnamed : (k : Kind) (o : Round) (w : Where) (x : Token) (xs : List Token) → opens_round (x ∷ xs) ≡ false → Rest d (step_unnamed k o w x) xs → DeclaratorRest d k o w (x ∷ xs)
-  back_unnamed k o at_result x xs no_list h = absurd h
-  back_unnamed k o (at_member ts w) x xs no_list h = absurd h
   back_unnamed k o (at_parameter head ts) x xs no_list h =
       unnamed_declarator (ParameterEnds d head ts) no_list (parameter_unnamed k o head ts x xs h)
   back_unnamed k o (at_inner u) x xs no_list h =
       unnamed_declarator (InnerFollows d (depth_of u) (SettledRest d u)) no_list (inner_unnamed k o u x xs h)
+  back_unnamed k o _ x xs no_list h = absurd h
 
   back_declarator : (k : Kind) (o : Round) (w : Where) (x : Token) (xs : List Token) → Rest d (step_declarator k o w x) xs → DeclaratorRest d k o w (x ∷ xs)
   back_declarator k o w star xs h = back_star k o w xs h
@@ -565,28 +495,7 @@ module _ (d : Declaration) where
   back_declarator k o w open_round xs h = back_open_bracket k o w xs h
   back_declarator k o w x xs h = back_unnamed k o w x xs refl h
 
-  back_name_in_bracket : (k : Kind) (o : Round) (w : Where) (called : List ℕ) (xs : List Token) → Rest d (name_in_bracket k o w called) xs → Rest d (round_opened k o w) (name called ∷ xs)
-  back_name_in_bracket k o at_result called xs h =
-      (refl, back_function_name called k o xs h)
-  back_name_in_bracket k o (at_member ts w) called xs h =
-      (refl, back_name k o (at_member ts w) called xs h)
-  back_name_in_bracket k o (at_parameter head ts) called xs h = absurd h
-  back_name_in_bracket k o (at_inner u) called xs h = absurd h
-
-  back_round_opened : (k : Kind) (o : Round) (w : Where) (x : Token) (xs : List Token) → Rest d (step_round_opened k o w x) xs → Rest d (round_opened k o w) (x ∷ xs)
-  back_round_opened k o w star xs h =
-      (begins_by_star (naming w) xs, back_star k o w xs h)
-  back_round_opened k o w open_round xs h =
-      (begins_by_round (naming w) xs, back_open_bracket k o w xs h)
-  back_round_opened k o w (name called) xs h =
-      back_name_in_bracket k o w called xs h
-  back_round_opened k o w x xs h = absurd h
-
   -- ---- types
-
-  back_tag : (w : Where) (x : Token) (xs : List Token) → Rest d (step_tag w x) xs → AloneFollows d w (x ∷ xs)
-  back_tag w (name tag) xs h = the_tag h
-  back_tag w x xs h = absurd h
 
   curly_by : {xs : List Token} (w : Where) → depth w < MOST_OPEN → SomeMembers (depth w) (StructOf d w) [] xs → CurlyFollows d w (open_curly ∷ xs)
   curly_by w room (some_members ms f) = curly_follows room ms f
@@ -598,16 +507,6 @@ module _ (d : Declaration) where
 
   back_opened_struct : (w : Where) (xs : List Token) → Rest d (opened_struct w) xs → CurlyFollows d w (open_curly ∷ xs)
   back_opened_struct w xs h = back_curly w xs (ltb (depth w) MOST_OPEN) refl h
-
-  back_struct : (w : Where) (x : Token) (xs : List Token) → Rest d (step_struct wide w x) xs → StructFollows d w (x ∷ xs)
-  back_struct w (name tag) xs h = a_tag_follows h
-  back_struct w open_curly xs h = members_follow (back_opened_struct w xs h)
-  back_struct w x xs h = absurd h
-
-  back_struct_tag : (w : Where) (x : Token) (xs : List Token) → Rest d (step_struct_tag w x) xs → TagFollows d w (x ∷ xs)
-  back_struct_tag w open_curly xs h = members_of_tag (back_opened_struct w xs h)
-  back_struct_tag w x xs h =
-      no_members (back_declarator bare (unstarred 0) w x xs h)
 
   struct_of_tag : {xs : List Token} {tag : List ℕ} (w : Where) → TagFollows d w xs → BaseFollows d w (struct_word ∷ name tag ∷ xs)
   struct_of_tag w (members_of_tag (curly_follows room ms f)) =
@@ -677,32 +576,11 @@ module _ (d : Declaration) where
       (x ∷ xs, [], k, no_more_words, ap named_by (append-nil (words_of s)) ∙ e, back_declarator k (unstarred 0) w x xs h)
   back_last_word s w x xs None e h = absurd h
 
-  back_words : (s : Said) (w : Where) (x : Token) (xs : List Token) → Rest d (step_words s w x) xs → Rest d (after_words s w) (x ∷ xs)
-  back_words s w (sign_word g) xs h =
-      back_word s w (sign_word g) xs (say s (sign_word g)) refl (sign_number g) h
-  back_words s w short_word xs h =
-      back_word s w short_word xs (say s short_word) refl (omega arith) h
-  back_words s w int_word xs h =
-      back_word s w int_word xs (say s int_word) refl (omega arith) h
-  back_words s w long_word xs h =
-      back_word s w long_word xs (say s long_word) refl (omega arith) h
-  back_words s w int128_word xs h =
-      back_word s w int128_word xs (say s int128_word) refl (omega arith) h
-  back_words s w (char_word c) xs h =
-      back_word s w (char_word c) xs (say s (char_word c)) refl (char_number c) h
-  back_words s w complex_word xs h =
-      back_word s w complex_word xs (say s complex_word) refl (omega arith) h
-  back_words s w (type_word float) xs h =
-      back_word s w (type_word float) xs (say s (type_word float)) refl (omega arith) h
-  back_words s w (type_word double) xs h =
-      back_word s w (type_word double) xs (say s (type_word double)) refl (omega arith) h
-  back_words s w x xs h =
-      back_last_word s w x xs (named_by (words_of s)) refl h
-
-  back_after_member : (ts : List Tree) (w : Where) (x : Token) (xs : List Token) → Rest d (step_after_member wide ts w x) xs → MembersFollow (depth w) (StructOf d w) ts (x ∷ xs)
-  back_after_member ts w close_curly xs h = no_more h
-  back_after_member ts w x xs h =
-      more (members_by ts w (back_type (at_member ts w) x xs h))
+  back_words : (s : Said) (w : Where) (x : Token) (xs : List Token) → IsWordOrNone s w x → Rest d (step_words s w x) xs → Rest d (after_words s w) (x ∷ xs)
+  back_words s w x xs (inl (first, is)) h =
+      back_word s w x xs (say s x) refl first (subst (λ t. Rest d t xs) is h)
+  back_words s w x xs (inr is) h =
+      back_last_word s w x xs (named_by (words_of s)) refl (subst (λ t. Rest d t xs) is h)
 
   -- ---- lists
 
@@ -710,22 +588,6 @@ module _ (d : Declaration) where
   void_list head (void_closes h) = list_of_void h
   void_list head (void_declared f) =
       list_of_parameters (parameters_by head [] (_, nothing, unqualified a_void, f))
-
-  back_sole_void : (head : Head) (x : Token) (xs : List Token) → Rest d (step_sole_void wide head x) xs → VoidFollows d head (x ∷ xs)
-  back_sole_void head close_round xs h = void_closes h
-  back_sole_void head x xs h =
-      void_declared (back_declarator nothing (unstarred 0) (at_parameter head []) x xs h)
-
-  back_opened : (head : Head) (x : Token) (xs : List Token) → Rest d (step_opened wide head x) xs → ListFollows wide (E d) head (x ∷ xs)
-  back_opened head close_round xs h = list_closes h
-  back_opened head void_word xs h = void_list head h
-  back_opened head x xs h =
-      list_of_parameters (parameters_by head [] (back_type (at_parameter head []) x xs h))
-
-  back_after_comma : (head : Head) (ts : List Tree) (x : Token) (xs : List Token) → Rest d (step_comma wide head ts x) xs → NextFollows wide (E d) head ts head.fixed (x ∷ xs)
-  back_after_comma head ts dots xs h = the_dots h
-  back_after_comma head ts x xs h =
-      the_next (parameters_by head ts (back_type (at_parameter head ts) x xs h))
 
   inner_parameters : {m : ℕ} {G : List Token → Type 0} {xs : List Token} → SomeInners m G xs → InnerListFollows m G xs
   inner_parameters (inners_and ps g) = inner_list_follows (some_inners ps) g
@@ -735,101 +597,108 @@ module _ (d : Declaration) where
   inner_void_list u (inner_void_declared f) =
       inner_parameters (inners_by u (_, nothing, unqualified a_void, f))
 
-  back_list_opened : (u : Settled) (x : Token) (xs : List Token) → Rest d (step_list_opened wide u x) xs → InnerListFollows (depth_of u) (SettledRest d u) (x ∷ xs)
-  back_list_opened u close_round xs h = inner_list_follows no_inners h
-  back_list_opened u void_word xs h = inner_void_list u h
-  back_list_opened u x xs h =
-      inner_parameters (inners_by u (back_type (at_inner u) x xs h))
-
-  back_list_void : (u : Settled) (x : Token) (xs : List Token) → Rest d (step_list_void u x) xs → InnerVoidFollows d u (x ∷ xs)
-  back_list_void u close_round xs h = inner_void_closes h
-  back_list_void u x xs h =
-      inner_void_declared (back_declarator nothing (unstarred 0) (at_inner u) x xs h)
-
   dots_of_inners : {m : ℕ} {G : List Token → Type 0} {xs : List Token} → RoundThen G xs → InnersFollow m G (dots ∷ xs)
   dots_of_inners (a_round g) = inner_ends_by_dots g
-
-  back_list_comma : (u : Settled) (x : Token) (xs : List Token) → Rest d (step_list_comma wide u x) xs → InnersFollow (depth_of u) (SettledRest d u) (x ∷ xs)
-  back_list_comma u dots xs h = dots_of_inners h
-  back_list_comma u x xs h =
-      more_inners (inners_by u (back_type (at_inner u) x xs h))
-
-  back_list_dots : (u : Settled) (x : Token) (xs : List Token) → Rest d (step_list_dots u x) xs → RoundThen (SettledRest d u) (x ∷ xs)
-  back_list_dots u close_round xs h = a_round h
-  back_list_dots u x xs h = absurd h
 
   -- ---- one token back
 
   back : (s : State) (x : Token) (xs : List Token) → Rest d (step wide s x) xs → Rest d s (x ∷ xs)
   back (wants_type w) x xs h = back_type w x xs h
   back (wants_base w) x xs h = back_base w x xs h
-  back (after_struct w) x xs h = back_struct w x xs h
-  back (after_words s w) x xs h = back_words s w x xs h
-  back (after_struct_tag w) x xs h = back_struct_tag w x xs h
-  back (wants_tag w) x xs h = back_tag w x xs h
-  back (sole_void head) x xs h = back_sole_void head x xs h
-  back (opened head) x xs h = back_opened head x xs h
-  back (after_comma head ts) x xs h = back_after_comma head ts x xs h
-  back (wide_dots head ts) x xs h = back_wide_dots head ts x xs h
-  back (after_member ts w) x xs h = back_after_member ts w x xs h
+  back (after_struct w) (name tag) xs h = a_tag_follows h
+  back (after_struct w) open_curly xs h =
+      members_follow (back_opened_struct w xs h)
+  back (after_words s w) x xs h =
+      back_words s w x xs (word_or_none s w x) h
+  back (after_struct_tag w) open_curly xs h =
+      members_of_tag (back_opened_struct w xs h)
+  back (after_struct_tag w) x xs h =
+      no_members (back_declarator bare (unstarred 0) w x xs h)
+  back (wants_tag w) (name tag) xs h = the_tag h
+  back (sole_void head) close_round xs h = void_closes h
+  back (sole_void head) x xs h =
+      void_declared (back_declarator nothing (unstarred 0) (at_parameter head []) x xs h)
+  back (opened head) close_round xs h = list_closes h
+  back (opened head) void_word xs h = void_list head h
+  back (opened head) x xs h =
+      list_of_parameters (parameters_by head [] (back_type (at_parameter head []) x xs h))
+  back (after_comma head ts) dots xs h = the_dots h
+  back (after_comma head ts) x xs h =
+      the_next (parameters_by head ts (back_type (at_parameter head ts) x xs h))
+  back (wide_dots head ts) close_round xs h = dots_end h
+  back (wide_dots head ts) comma xs h =
+      types_follow refl (parameters_by (fixing head (length ts)) ts h)
+  back (after_member ts w) close_curly xs h = no_more h
+  back (after_member ts w) x xs h =
+      more (members_by ts w (back_type (at_member ts w) x xs h))
   back (declarator k o w) x xs h = back_declarator k o w x xs h
-  back (round_opened k o w) x xs h = back_round_opened k o w x xs h
-  back (function_named called t o) x xs h =
-      back_function_named called t o x xs h
-  back (closing o e) x xs h = back_round_closing o e x xs h
-  back (parameter_itself k n head ts) x xs h = back_itself k n head ts x xs h
-  back (inner_nothing n u) x xs h = back_inner_nothing n u x xs h
+  back (round_opened k o w) star xs h =
+      (begins_by_star (naming w) xs, back_star k o w xs h)
+  back (round_opened k o w) open_round xs h =
+      (begins_by_round (naming w) xs, back_open_bracket k o w xs h)
+  back (round_opened k o at_result) (name called) xs h =
+      (refl, back_function_name called k o xs h)
+  back (round_opened k o (at_member ts w)) (name called) xs h =
+      (refl, back_name k o (at_member ts w) called xs h)
+  back (function_named called t o) open_round xs h =
+      its_list (list_by wide (E d) (new_head called t o) refl h)
+  back (function_named called t (unstarred (suc n))) close_round xs h =
+      its_bracket h
+  back (function_named called t (starred (suc n) j)) close_round xs h =
+      its_inner_bracket h
+  back (closing (unstarred zero) e) semicolon xs h =
+      closing_follows none_closes (semicolon_end h.0) h.1
+  back (closing (unstarred (suc n)) e) close_round xs h = outer_closing h
+  back (closing (starred (suc n) j) e) close_round xs h = inner_closing h
+  back (closing (starred zero zero) e) semicolon xs h =
+      closing_follows (star_closes no_bracket) (semicolon_end h.0) h.1
+  back (closing (starred zero (suc j)) e) close_round xs h = star_closing h
+  back (parameter_itself k n head ts) open_square xs h =
+      parameter_square k (unstarred n) head ts h
+  back (parameter_itself k n head ts) open_round xs h =
+      parameter_list k n head ts (room_for (a_parameter head ts n) xs h)
+  back (parameter_itself k n head ts) x xs h = back_itself_or k n head ts x xs h
+  back (inner_nothing n u) open_square xs h =
+      inner_square nothing (unstarred n) u h
+  back (inner_nothing n u) open_round xs h =
+      inner_list nothing n u (room_for (an_inner u n) xs h)
+  back (inner_nothing n u) x xs h = back_nothing_or n u x xs h
   back (member_at b ts w) x xs h = back_member_at b ts w x xs h
-  back (member_bound b ts w) x xs h = back_member_bound b ts w x xs h
-  back (member_bounded b ts w) x xs h = back_member_bounded b ts w x xs h
-  back (settled u) x xs h = back_settled u x xs h
-  back (square_opened u) x xs h = back_square u x xs h
-  back (square_filled u) x xs h = back_filled u x xs h
-  back (list_opened u) x xs h = back_list_opened u x xs h
-  back (list_void u) x xs h = back_list_void u x xs h
-  back (list_comma u) x xs h = back_list_comma u x xs h
-  back (list_dots u) x xs h = back_list_dots u x xs h
-  back (ended e) x xs h = absurd h
-  back dead x xs h = absurd h
-  back s x xs h = tt
+  back (member_bound b ts w) (number n) xs h = a_number h
+  back (member_bounded b ts w) close_square xs h = square h
+  back (settled u) open_square xs h = settled_square u h
+  back (settled u) open_round xs h =
+      let r : RoomFor u xs = room_for u xs h in
+      settled_list u r.room r.list
+  back (settled u) x xs h = back_bracket u x xs h
+  back (square_opened u) (number n) xs h = number_bound h
+  back (square_opened u) star xs h = some_bound star refl h
+  back (square_opened u) (name called) xs h = some_bound (name called) refl h
+  back (square_opened u) close_square xs h = no_bound h
+  back (square_filled u) close_square xs h = square h
+  back (list_opened u) close_round xs h = inner_list_follows no_inners h
+  back (list_opened u) void_word xs h = inner_void_list u h
+  back (list_opened u) x xs h =
+      inner_parameters (inners_by u (back_type (at_inner u) x xs h))
+  back (list_void u) close_round xs h = inner_void_closes h
+  back (list_void u) x xs h =
+      inner_void_declared (back_declarator nothing (unstarred 0) (at_inner u) x xs h)
+  back (list_comma u) dots xs h = dots_of_inners h
+  back (list_comma u) x xs h =
+      more_inners (inners_by u (back_type (at_inner u) x xs h))
+  back (list_dots u) close_round xs h = a_round h
+  back s x xs h = search
 
   at_end : (s : State) → finish s ≡ Some d → Rest d s []
-  at_end (wants_type w) p = absurd (none_some p)
-  at_end (wants_base w) p = absurd (none_some p)
-  at_end (after_struct w) p = absurd (none_some p)
-  at_end (after_words s w) p = absurd (none_some p)
-  at_end (after_struct_tag w) p = absurd (none_some p)
-  at_end (wants_tag w) p = absurd (none_some p)
-  at_end (sole_void head) p = absurd (none_some p)
-  at_end (opened head) p = absurd (none_some p)
-  at_end (after_comma head ts) p = absurd (none_some p)
-  at_end (wide_dots head ts) p = absurd (none_some p)
-  at_end (after_member ts w) p = absurd (none_some p)
-  at_end (declarator k o w) p = absurd (none_some p)
-  at_end (round_opened k o w) p = absurd (none_some p)
-  at_end (function_named called t o) p = absurd (none_some p)
   at_end (closing (unstarred zero) e) p =
       closing_follows none_closes no_semicolon (some_same p)
   at_end (closing (starred zero zero) e) p =
       closing_follows (star_closes no_bracket) no_semicolon (some_same p)
-  at_end (closing o e) p = absurd (none_some p)
-  at_end (parameter_itself k n head ts) p = absurd (none_some p)
-  at_end (inner_nothing n u) p = absurd (none_some p)
-  at_end (member_at b ts w) p = absurd (none_some p)
-  at_end (member_bound b ts w) p = absurd (none_some p)
-  at_end (member_bounded b ts w) p = absurd (none_some p)
   at_end (settled (the_function e zero)) p =
       settles {e = handed} no_suffix no_bracket (no_semicolon, some_same p)
-  at_end (settled u) p = absurd (none_some p)
-  at_end (square_opened u) p = absurd (none_some p)
-  at_end (square_filled u) p = absurd (none_some p)
-  at_end (list_opened u) p = absurd (none_some p)
-  at_end (list_void u) p = absurd (none_some p)
-  at_end (list_comma u) p = absurd (none_some p)
-  at_end (list_dots u) p = absurd (none_some p)
   at_end (ended e) p = (over, some_same p)
-  at_end dead p = absurd (none_some p)
-  at_end s p = tt
+  at_end (closed e) p = tt
+  at_end s p = absurd (none_some p)
 
   -- what is accepted from a state is what the state wants
   rest_of : (xs : List Token) (s : State) → Accepts wide s xs d → Rest d s xs

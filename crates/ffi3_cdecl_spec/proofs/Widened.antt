@@ -1,12 +1,14 @@
 -- What the plain reading reads, the wide one reads alike: without `const`, with `char` signed or not, and with the words of an integer as a list.
-use Rattle.std.proofs.Common.{◌≡◌, Option, ℕ, zero, suc, ◌+◌, ◌<◌, Bool, true, false, cond, ◌&&◌, List, [], ◌∷◌, length, drop, Some, None, true≢false, ap, sym, subst, refl, ◌∙◌, arith}
+use Rattle.std.proofs.Common.{◌≡◌, Option, ℕ, zero, suc, ◌+◌, Bool, true, false, cond, List, [], ◌∷◌, length, drop, Some, None, true≢false, ap, sym, subst, refl, ◌∙◌, arith}
 use Rattle.std.specs.Prelude.{⊤, ◌==◌, bytes_eq}
 use Rattle.std.proofs.lemmas.Bool.{eqb-true}
 use Rattle.std.proofs.lemmas.Slice.Eq.{bytes_eq-Decides}
 use Rattle.ffi3_type_spec.specs.Tree.{Scalar, Tree, void, scalar, array_of}
-use Rattle.ffi3_cdecl_spec.specs.Tokens.{plain, wide, Token, Sign, signed, unsigned, sign_word, const_word, short_word, int_word, long_word, int128_word, char_word, semicolon, name, number, open_round, dots, words, blank_words, word_among, word_of, is_among, is_blank, is_letter, is_digit, goes_on_word, front, with_digits, Found, blank, skipped, nothing_known, found, number_at, dots_at, marks, mark_among, comment_at, found_at, wide_found_at, Placed, Cut, tokens, bad_at, before, bytes_more, cut_from, wide_words, close_curly, attribute_word, attribute_words, assembler_words, attribute_at, are_silent, begins_string, wide_word_at}
-use Rattle.ffi3_cdecl_spec.specs.Grammar.{Kind, whole, bare, nothing, pointer_type, no_int, with_int, one_long, two_longs, IsSized, a_short, an_int, a_long, an_int128, IsSigned, sign_alone, sign_of_char, sign_of_size, IsStars, one_star, more_stars, IsCounts, no_count, a_count, specifier_number, named_by, AreSpecifiers, no_more_words, a_word, Shape, a_value, an_array, handed, pointer_shape, array_shape, member_type, Naming, opens_round, the_name, IsBase, by_word, by_size, by_sign, a_char, by_specifiers, a_void, a_tag, a_union, an_enum, a_name, a_struct, a_tagged_struct, IsQualified, unqualified, constant, itself, pointer_to, IsSuffixes, no_suffix, known_array, IsDeclarator, a_pointer, a_named, unnamed, a_member, one_declared, then_members, IsMembers, last_member, next_member, of_a_base, IsParameter, without_name, with_name, a_declared_one, IsParameters, last_parameter, last_before_dots, before_types, next_parameter, IsParameterList, no_parameters, only_void, some_parameters, IsResult, a_result, no_result, Function, IsFunction, returns_pointer, a_function_here, IsEnd, no_semicolon, one_semicolon, Declaration, IsDeclarationIn, declares, declares_by, char_of, must_be_named, may_be_named, declared}
+use Rattle.ffi3_cdecl_spec.specs.Tokens.{plain, wide, Token, Sign, signed, unsigned, sign_word, const_word, short_word, int_word, long_word, int128_word, char_word, semicolon, name, open_round, words, blank_words, word_among, word_of, is_among, is_letter, is_digit, goes_on_word, front, Found, blank, skipped, nothing_known, found, number_at, dots_at, marks, mark_among, comment_at, found_at, wide_found_at, Placed, Cut, tokens, bad_at, before, bytes_more, cut_from, wide_words, close_curly, attribute_word, attribute_words, assembler_words, attribute_at, are_silent, begins_string, wide_word_at}
+use Rattle.ffi3_cdecl_spec.specs.Grammar.{Kind, whole, bare, nothing, pointer_type, no_int, with_int, one_long, two_longs, IsSized, a_short, an_int, a_long, an_int128, IsSigned, sign_alone, sign_of_char, sign_of_size, IsStars, one_star, more_stars, IsCounts, no_count, a_count, named_by, AreSpecifiers, no_more_words, a_word, Shape, a_value, pointer_shape, array_shape, member_type, Naming, opens_round, the_name, IsBase, by_word, by_size, by_sign, a_char, by_specifiers, a_void, a_tag, a_union, an_enum, a_name, a_struct, a_tagged_struct, IsQualified, unqualified, constant, itself, pointer_to, IsSuffixes, no_suffix, known_array, IsDeclarator, a_pointer, a_named, unnamed, a_member, one_declared, then_members, IsMembers, last_member, next_member, of_a_base, IsParameter, without_name, with_name, a_declared_one, IsParameters, last_parameter, last_before_dots, before_types, next_parameter, IsParameterList, no_parameters, only_void, some_parameters, IsResult, a_result, no_result, Function, IsFunction, returns_pointer, a_function_here, IsEnd, no_semicolon, one_semicolon, Declaration, IsDeclarationIn, declares, declares_by, char_of, must_be_named, may_be_named, declared}
 use Rattle.ffi3_cdecl_spec.specs.Reading.{tokens_of, is_too_great, first_too_great, IsReadingIn, reads, is_read, StaysName, NamesStay, UsesNoKeyword}
+use Rattle.ffi3_cdecl_spec.proofs.Tokenwise.{OfFound, unlettered}
+use Rattle.ffi3_cdecl_spec.proofs.Saying.{sign_number, char_number}
 use Rattle.ffi3_cdecl_spec.proofs.Spoken.{letter_no_blank}
 
 module _ (char_sign : Sign) where
@@ -76,52 +78,23 @@ module _ (char_sign : Sign) where
   StaysFound (found x n) = StaysName x
 
   -- what is found that is no word is the same in both readings
-  abbrev NoConst : Found → Type 0
-  NoConst (found x n) = (is_const x ≡ false) × (x ≡ as_wide x)
-  NoConst f = ⊤
+  abbrev IsSame : Token → Type 0
+  IsSame x = (is_const x ≡ false) × (x ≡ as_wide x)
 
   token_itself : (x y : Token) (n : ℕ) → is_const x ≡ false → y ≡ as_wide x → Wider (found x n) (found y n)
   token_itself x y n isnt same =
       subst (λ z. Wider (found x n) (found z n)) (sym same) (same_token isnt)
 
-  itself_wider : (f : Found) → NoConst f → StaysFound f → Wider f f
+  itself_wider : (f : Found) → OfFound IsSame f → StaysFound f → Wider f f
   itself_wider blank isnt stays = same_blank
   itself_wider (skipped n) isnt stays = same_skipped
   itself_wider nothing_known isnt stays = absurd stays
   itself_wider (found x n) isnt stays =
       token_itself x x n isnt.0 isnt.1
 
-  no_const_if : (b : Bool) (f g : Found) → NoConst f → NoConst g → NoConst (cond b f g)
-  no_const_if true f g p q = p
-  no_const_if false f g p q = q
-
-  abbrev AllMarks : List (ℕ × Token) → Type 0
-  AllMarks [] = ⊤
-  AllMarks (mark ∷ rest) =
-      ((is_const mark.1 ≡ false) × (mark.1 ≡ as_wide mark.1)) × AllMarks rest
-
-  no_const_mark : (b : ℕ) (entries : List (ℕ × Token)) → AllMarks entries → NoConst (mark_among b entries)
-  no_const_mark b [] all = tt
-  no_const_mark b (mark ∷ rest) all =
-      no_const_if (b == mark.0) (found mark.1 0) (mark_among b rest) all.0 (no_const_mark b rest all.1)
-
-  no_const_marks : AllMarks marks
-  no_const_marks =
-      ((refl, refl), ((refl, refl), ((refl, refl), ((refl, refl), ((refl, refl), ((refl, refl), ((refl, refl), ((refl, refl), ((refl, refl), tt)))))))))
-
-  no_const_dots : (bs : List ℕ) → NoConst (dots_at bs)
-  no_const_dots [] = tt
-  no_const_dots (b ∷ []) = tt
-  no_const_dots (b ∷ c ∷ bs) =
-      no_const_if ((b == 46) && (c == 46)) (found dots 2) nothing_known (refl, refl) tt
-
-  no_const_number : (b : ℕ) (digits : List ℕ) → NoConst (number_at b digits)
-  no_const_number b digits =
-      no_const_if (b == 48) (cond (length digits == 0) (found (number 0) 0) nothing_known) (found (number (with_digits 0 (b ∷ digits))) (length digits)) (no_const_if (length digits == 0) (found (number 0) 0) nothing_known (refl, refl) tt) (refl, refl)
-
-  no_const_other : (b : ℕ) (bs : List ℕ) → is_letter b ≡ false → NoConst (found_at b bs)
+  no_const_other : (b : ℕ) (bs : List ℕ) → is_letter b ≡ false → OfFound IsSame (found_at b bs)
   no_const_other b bs e =
-      no_const_if (is_blank b) blank _ tt (subst (λ l. NoConst (cond l (found (word_of (b ∷ front goes_on_word bs)) (length (front goes_on_word bs))) (cond (is_digit b) (number_at b (front is_digit bs)) (cond (b == 46) (dots_at bs) (mark_among b marks))))) (sym e) (no_const_if (is_digit b) (number_at b (front is_digit bs)) _ (no_const_number b (front is_digit bs)) (no_const_if (b == 46) (dots_at bs) (mark_among b marks) (no_const_dots bs) (no_const_mark b marks no_const_marks))))
+      unlettered IsSame (λ n. (refl, refl)) (refl, refl) ((refl, refl), ((refl, refl), ((refl, refl), ((refl, refl), ((refl, refl), ((refl, refl), ((refl, refl), ((refl, refl), ((refl, refl), tt))))))))) b bs e
 
   -- a word
   abbrev IsWider : List ℕ → Token → Type 0
@@ -137,12 +110,10 @@ module _ (char_sign : Sign) where
       (λ n bs. same_token refl, (λ n bs. same_token refl, (λ n bs. same_token refl, (λ n bs. same_token refl, (λ n bs. same_token refl, (λ n bs. same_token refl, (λ n bs. same_token refl, (λ n bs. same_token refl, (λ n bs. same_token refl, (λ n bs. same_token refl, (λ n bs. same_token refl, (λ n bs. same_token refl, (λ n bs. same_token refl, (λ n bs. same_token refl, (λ n bs. same_token refl, (λ n bs. const_skipped, (λ n bs. same_token refl, (λ n bs. same_token refl, (λ n bs. same_token refl, (λ n bs. same_token refl, (λ n bs. same_token refl, (λ n bs. same_token refl, (λ n bs. same_token refl, tt)))))))))))))))))))))))
 
   name_stays : (word : List ℕ) (x : Token) (n : ℕ) (bs : List ℕ) (b d e : Bool) → cond b (found attribute_word 0) (cond d (found attribute_word 0) (cond e (skipped 0) (found x 0))) ≡ found (name word) 0 → Wider (found (name word) n) (cond b (attribute_at are_silent n bs) (cond d (attribute_at begins_string n bs) (cond e (skipped n) (found x n))))
-  name_stays word x n bs true d e same = absurd (cc)
-  name_stays word x n bs false true e same = absurd (cc)
-  name_stays word x n bs false false true same = absurd (cc)
   name_stays word x n bs false false false same =
       let it : x ≡ name word = cc in
       subst (λ y. Wider (found (name word) n) (found y n)) (sym it) (same_token refl)
+  name_stays word x n bs _ _ _ same = absurd (cc)
 
   word_wider : (word : List ℕ) (entries : List (List ℕ × Token)) → AllWider entries → (n : ℕ) (bs : List ℕ) → StaysName (word_among word entries) → Wider (found (word_among word entries) n) (wide_word_at char_sign word n bs)
   word_wider word [] all n bs stays =
@@ -213,9 +184,8 @@ module _ (char_sign : Sign) where
   fine_behind : (f : Found) (at : ℕ) (c : Cut) → IsFine (before f at c) → StaysFound f × IsFine c
   fine_behind blank at c fine = (tt, fine)
   fine_behind (skipped n) at c fine = (tt, fine)
-  fine_behind nothing_known at c fine = absurd fine
   fine_behind (found x n) at (tokens ps) fine = fine
-  fine_behind (found x n) at (bad_at there) fine = absurd fine
+  fine_behind _ at _ fine = absurd fine
 
   pub cut_wider : (at inside : ℕ) (bs : List ℕ) → IsFine (cut_from plain signed at inside bs) → cut_from wide char_sign at inside bs ≡ wider_cut (cut_from plain signed at inside bs)
   cut_wider at inside [] fine = refl
@@ -255,19 +225,10 @@ module _ (char_sign : Sign) where
   sized_wider unsigned (a_long (two_longs with_int)) = (long_word ∷ long_word ∷ int_word ∷ [], a_word (omega arith) (a_word (omega arith) (a_word (omega arith) no_more_words)), refl, tt)
   sized_wider unsigned an_int128 = (int128_word ∷ [], a_word (omega arith) no_more_words, refl, tt)
 
-  sign_word_pos : (g : Sign) → 0 < specifier_number (sign_word g)
-  sign_word_pos signed = omega arith
-  sign_word_pos unsigned = omega arith
-
-  char_word_pos : (c : Sign) → 0 < specifier_number (char_word c)
-  char_word_pos signed = omega arith
-  char_word_pos unsigned = omega arith
-
   char_by_sign : (g c : Sign) → named_by (sign_word g ∷ char_word c ∷ []) ≡ Some (whole (scalar (char_of g)))
   char_by_sign signed signed = refl
-  char_by_sign signed unsigned = refl
   char_by_sign unsigned signed = refl
-  char_by_sign unsigned unsigned = refl
+  char_by_sign _ _ = refl
 
   char_alone : (c : Sign) → named_by (char_word c ∷ []) ≡ Some (whole (scalar (char_of c)))
   char_alone signed = refl
@@ -281,7 +242,7 @@ module _ (char_sign : Sign) where
   signed_wider signed sign_alone = ([], no_more_words, refl)
   signed_wider unsigned sign_alone = ([], no_more_words, refl)
   signed_wider g sign_of_char =
-      (char_word char_sign ∷ [], a_word (char_word_pos char_sign) no_more_words, char_by_sign g char_sign)
+      (char_word char_sign ∷ [], a_word (char_number char_sign) no_more_words, char_by_sign g char_sign)
   signed_wider g (sign_of_size z) =
       let w = sized_wider g z in
       (w.0, w.1, w.2)
@@ -295,20 +256,9 @@ module _ (char_sign : Sign) where
   stars_function one_star q = returns_pointer q
   stars_function (more_stars s) q = returns_pointer (stars_function s q)
 
-  no_member : (t : Tree) → None ≡ Some t → ⊥
-  no_member t e = cc
-
-  one_member : (t u : Tree) → Some t ≡ Some u → t ≡ u
-  one_member t u e = cc
-
   array_member : (s : Shape) (t : Tree) (n : ℕ) → member_type s ≡ Some t → member_type (array_shape s n) ≡ Some (array_of t n)
-  array_member (a_value (whole u)) t n e =
-      ap (λ v. Some (array_of v n)) (one_member u t e)
-  array_member (a_value bare) t n e = absurd (no_member t e)
-  array_member (a_value nothing) t n e = absurd (no_member t e)
-  array_member (an_array u) t n e =
-      ap (λ v. Some (array_of v n)) (one_member u t e)
-  array_member handed t n e = absurd (no_member t e)
+  array_member (a_value (whole u)) t n e = cc
+  array_member s t n e = cc
 
   -- the counts of a member, with its semicolon
   abbrev Counted : ℕ → List Token → List Token → Shape → Tree → Type 0
@@ -367,9 +317,9 @@ module _ (char_sign : Sign) where
         based_on same_kind (by_specifiers refl w.1 w.3)
     base_wider (by_sign {g = g} p z) =
         let w = signed_wider g z in
-        based_on same_kind (by_specifiers refl (a_word (sign_word_pos g) w.1) w.2)
+        based_on same_kind (by_specifiers refl (a_word (sign_number g) w.1) w.2)
     base_wider (a_char p) =
-        based_on char_kind (by_specifiers refl (a_word (char_word_pos char_sign) no_more_words) (char_alone char_sign))
+        based_on char_kind (by_specifiers refl (a_word (char_number char_sign) no_more_words) (char_alone char_sign))
     base_wider (by_specifiers p ws named) = absurd (plain_is_not_wide p)
     base_wider a_void = based_on same_kind a_void
     base_wider a_tag = based_on same_kind a_tag

@@ -42,10 +42,9 @@ is_last (tree u us) n t h = absurd h
 mutual
   counts_written : (d : ℕ) (t : Tree) → IsSpellableMember d t → (rest : List Token) → IsCounts (inner t) (count_tokens t (semicolon ∷ rest)) rest t
   counts_written d void h rest = absurd h
-  counts_written d (scalar s) h rest = no_count
   counts_written d (left_out k) h rest = absurd h
-  counts_written d (structure ts) h rest = no_count
   counts_written d (array ts n) h rest = element_counts_written d ts n h.1 rest
+  counts_written d _ h rest = no_count
 
   element_counts_written : (d : ℕ) (ts : Trees) (n : ℕ) → IsSpellableElement d ts → (rest : List Token) → IsCounts (first_inner ts) (open_square ∷ number n ∷ close_square ∷ first_count_tokens ts (semicolon ∷ rest)) rest (array ts n)
   element_counts_written d no_trees n h rest = absurd h
@@ -54,12 +53,11 @@ mutual
 
 mutual
   member_type_written : (d : ℕ) (t : Tree) → IsSpellableMember d t → (rest : List Token) → IsType plain d (type_tokens t rest) rest (inner t)
-  member_type_written d void h rest = absurd h
   member_type_written d (scalar s) h rest = scalar_written d s h rest
-  member_type_written d (left_out k) h rest = absurd h
   member_type_written d (structure ts) h rest =
       struct_written ts h.0 (members_written (suc d) ts h.1 rest)
   member_type_written d (array ts n) h rest = element_type_written d ts h.1 rest
+  member_type_written d _ h rest = absurd h
 
   element_type_written : (d : ℕ) (ts : Trees) → IsSpellableElement d ts → (rest : List Token) → IsType plain d (first_type_tokens ts rest) rest (first_inner ts)
   element_type_written d no_trees h rest = absurd h
@@ -76,20 +74,17 @@ mutual
       next_member m (more_members_written d (i + 1) ts h.2 rest (a_member refl (member_type_written d t h.1 _) (counts_written d t h.1 _)))
 
 pub value_written : (t : Tree) → IsSpellableValue t → (rest : List Token) → IsType plain 0 (type_tokens t rest) rest t
-value_written void h rest = absurd h
 value_written (scalar s) h rest = scalar_written 0 s h rest
-value_written (left_out k) h rest = absurd h
 value_written (structure ts) h rest =
     struct_written ts h.0 (members_written 1 ts h.1 rest)
-value_written (array ts n) h rest = absurd h
+value_written _ h rest = absurd h
 
 pub result_written : (t : Tree) → IsSpellableResult t → (rest : List Token) → IsResult plain (type_tokens t rest) rest t
 result_written void h rest = no_result (unqualified a_void)
 result_written (scalar s) h rest = a_result (scalar_written 0 s h rest)
-result_written (left_out k) h rest = absurd h
 result_written (structure ts) h rest =
     a_result (struct_written ts h.0 (members_written 1 ts h.1 rest))
-result_written (array ts n) h rest = absurd h
+result_written _ h rest = absurd h
 
 -- how many stand before the dots, if these are there
 abbrev dots_behind : Bool → ℕ → Option ℕ
