@@ -60,6 +60,7 @@ TOKEN = re.compile(r"""
   | (?P<mark>\.\.\.|<<=?|>>=?|[-+&|<>=!]=|->|&&|\|\||\+\+|--|.)
     """, re.M | re.S | re.X)
 MARKER = re.compile(r'\s*#\s*(?:line\s+)?(\d+)\s+"(.*?)"([ \d]*)')
+MARKED = re.compile(r"^[ \t]*#[^\n]*", re.M)
 PRAGMA = re.compile(r"^[ \t]*#[ \t]*pragma[ \t]+(pack|options|ms_struct)|__pragma|_Pragma", re.M)
 LAYS_OUT = {"__attribute__", "__attribute", "__declspec", "_Alignas", "alignas"}
 WITH_BRACKETS = {"__attribute__", "__attribute", "__asm__", "__asm", "asm", "__declspec"}
@@ -78,6 +79,9 @@ CONVENTIONS = {"ms_abi": "win64", "sysv_abi": "amd64", **dict.fromkeys((
     "preserve_none"), "")}
 CONVENTION_OF = {word: name for name in CONVENTIONS for word in (name, f"__{name}__", f"__{name}")}
 OPEN, CLOSE = "([{", ")]}"
+TYPEOF = {"__typeof__", "__typeof", "typeof"}
+PLAIN = {"word", "number", "text", "mark"}
+CUTS = {*WITH_BRACKETS, *TYPEOF, *OPEN, *CLOSE, ";"}
 AT_ONCE = 200  # so many chunks are parsed together
 A_FEW = 20  # so many where one is new among others that have been parsed for another target
 BUILT_IN = ("typedef struct __ffi3_va_list __builtin_va_list; typedef __int128 __int128_t; "
@@ -118,7 +122,7 @@ def tokens(text: str) -> Iterator[tuple[str, str, list[str], int]]:
                 files = [*outer, marker[2]]
         elif kind != "blank":
             yield kind, word, files, line
-        if kind in ("blank", "comment", "text"):
+        if "\n" in word:
             line += word.count("\n")
 
 
@@ -145,11 +149,18 @@ def chunks(text: str) -> Iterator[Chunk]:
             owner = next((file for file in reversed(files) if "/bits/" not in file), files[-1])
             chunk, depth = Chunk(files[-1], owner, line, line, [], []), 0
         until = at + 1
+        if kind in PLAIN and word not in CUTS:  # most tokens
+            if word not in LEFT_OUT:
+                chunk.words += INSTEAD.get(word, word).split()
+            chunk.raw.append(word)
+            chunk.last = line
+            at = until
+            continue
         if word in WITH_BRACKETS:
             while until < len(listed) and listed[until][1] in ("volatile", "__volatile__", "goto"):
                 until += 1
             until = past_brackets(listed, until)
-        elif word in ("__typeof__", "__typeof", "typeof"):
+        elif word in TYPEOF:
             until = past_brackets(listed, until)
             chunk.words += ["struct", "__ffi3_typeof"]
         elif word == "{" and depth == 0 and chunk.words[-1:] == [")"] and "=" not in chunk.words:
@@ -914,15 +925,23 @@ def answers_of(compiler: Compiler, text: str, questions: Iterable[str]) -> Answe
 Wanted = Callable[[Chunk], bool]
 
 
-def located(text: str, header: str) -> str:
-    """The file that a preprocessed text has for a header's name."""
-    files = [marker[2] for marker in map(MARKER.match, text.splitlines()) if marker]
+def files_in(text: str) -> list[str]:
+    """The files of which a preprocessed text tells, in its order."""
+    return list(dict.fromkeys(marker[2] for marker in map(MARKER.match, MARKED.findall(text)) if marker))
+
+
+def real(file: str) -> Path:
+    """Where a file stands, behind links."""
+    return Path(os.path.realpath(file))
+
+
+def located(files: Iterable[str], header: str) -> str:
+    """The file among these that has a header's name."""
     return next((file for file in files if f"/{file}".endswith(f"/{header}")), header)
 
 
-def is_of(header: str, file: str) -> bool:
+def is_of(whole: Path, part: Path) -> bool:
     """Whether a file is the header, or a part of it: in the header's own folder, or in the folder that has its name."""
-    whole, part = Path(os.path.realpath(header)), Path(os.path.realpath(file))
     folder = whole.parent
     is_shared = folder.name == "include" or re.fullmatch(r"\w+-[\w-]*gnu\w*|sys", folder.name)
     return part == whole or whole.with_suffix("") in part.parents or not is_shared and folder in part.parents
@@ -930,12 +949,14 @@ def is_of(header: str, file: str) -> bool:
 
 def of_headers(text: str, headers: Iterable[str]) -> Wanted:
     """The chunks that stand in these headers and in their parts."""
-    files = [located(text, header) for header in headers]
+    files = files_in(text)
+    wholes = [real(located(files, header)) for header in headers]
     known: dict[str, bool] = {}
 
     def is_wanted(chunk: Chunk) -> bool:
         if chunk.owner not in known:
-            known[chunk.owner] = any(is_of(file, chunk.owner) for file in files)
+            part = real(chunk.owner)
+            known[chunk.owner] = any(is_of(whole, part) for whole in wholes)
         return known[chunk.owner]
 
     return is_wanted

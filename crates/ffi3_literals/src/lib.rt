@@ -1,4 +1,4 @@
-//! Literals of a script: the constant that a number or a text is, against a type.
+//! Reads a number or text of a script as a constant of a type.
 #![tactic(auto)]
 
 ghost use Rattle.std.specs.Prelude.{◌≡◌, IfOk, IfErr, true};

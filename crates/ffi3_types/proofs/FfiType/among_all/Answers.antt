@@ -3,7 +3,7 @@ use Rattle.std.specs.Prelude.{ℕ, List, Option}
 use Rattle.ffi3_type_spec.specs.Tree.{Tree}
 use Rattle.ffi3_type_spec.specs.Names.{type_beside, type_names}
 use Rattle.ffi3_type_spec.proofs.Names.{beside-none}
-use Rattle.ffi3_types.proofs.FfiType.narrow.Goals as goal
+use Rattle.ffi3_types.proofs.FfiType.among_all.Goals as goal
 
 abbrev named : List ℕ → Option Tree
 named word = type_beside word type_names
