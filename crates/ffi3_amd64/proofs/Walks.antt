@@ -5,7 +5,7 @@ use Rattle.std.proofs.Math.Bool.{or-false}
 use Rattle.std.proofs.lemmas.Bool.{cases_lt, ltb-true, lt-ltb}
 use Rattle.std.proofs.lemmas.List.{map-append}
 use Rattle.std.proofs.lemmas.List.Folds.{list_any-append}
-use Rattle.ffi3_type_spec.specs.Tree.{Tree, void, scalar, left_out, structure, array, Scalar, u8, s8, u16, s16, u32, s32, u64, s64, u128, s128, float, double, pointer, x87, binary128, struct_of, trees_of, tree_at}
+use Rattle.ffi3_type_spec.specs.Tree.{Tree, scalar, array, Scalar, u8, s8, u16, s16, u32, s32, u64, s64, float, double, pointer, struct_of, trees_of, tree_at}
 use Rattle.ffi3_type_spec.specs.Integer.{is_floating}
 use Rattle.ffi3_type_spec.specs.Layout.{Layout, Leaf, layouts, element, start_of, leaves_before, leaves_of, repeated, moved, least_multiple, scalar_room, scalar_size}
 use Rattle.ffi3_type_spec.proofs.Layouts.{layout_here, length-layouts, start-turn, end_before-turn, align_before-turn, size_at_end, align_before-positive, align_before-bounded, aligns_bounded}
@@ -33,10 +33,6 @@ run_is : (k : Scalar) (size : ℕ) (b : Bool) (r : Run) → Some (one_scalar siz
 run_is k size b r e is = subst (λ x. IsRun x (scalar k)) (some_is (one_scalar size b) r e) is
 
 pub scalar_is_run : (t : Tree) (r : Run) → scalar_run t ≡ Some r → IsRun r t
-scalar_is_run void r e = cc
-scalar_is_run (left_out k) r e = cc
-scalar_is_run (structure ts) r e = cc
-scalar_is_run (array ts n) r e = cc
 scalar_is_run (scalar u8) r e = run_is u8 1 true r e (one_is_run u8 1 true refl refl refl refl)
 scalar_is_run (scalar s8) r e = run_is s8 1 true r e (one_is_run s8 1 true refl refl refl refl)
 scalar_is_run (scalar u16) r e = run_is u16 2 true r e (one_is_run u16 2 true refl refl refl refl)
@@ -48,10 +44,7 @@ scalar_is_run (scalar s64) r e = run_is s64 8 true r e (one_is_run s64 8 true re
 scalar_is_run (scalar pointer) r e = run_is pointer 8 true r e (one_is_run pointer 8 true refl refl refl refl)
 scalar_is_run (scalar float) r e = run_is float 4 false r e (one_is_run float 4 false refl refl refl refl)
 scalar_is_run (scalar double) r e = run_is double 8 false r e (one_is_run double 8 false refl refl refl refl)
-scalar_is_run (scalar u128) r e = cc
-scalar_is_run (scalar s128) r e = cc
-scalar_is_run (scalar x87) r e = cc
-scalar_is_run (scalar binary128) r e = cc
+scalar_is_run _ r e = cc
 
 -- ---- an array
 
