@@ -1,5 +1,5 @@
 -- The slot of AArch64, wherever it stands and its data.
-use Rattle.std.proofs.Common.{⊎_elim, subst, ◌≡◌, ◌⊎◌, inl, inr, ℕ, ◌+◌, ◌-◌, ◌*◌, ◌/◌, ◌%◌, ◌^◌, ◌<◌, ◌≤◌, Bool, true, false, if◌then◌else◌, List, [], ◌∷◌, ◌++◌, length, refl, sym, ap, ◌∙◌, arith, lit<, ℤ}
+use Rattle.std.proofs.Common.{⊎_elim, subst, ◌≡◌, ◌⊎◌, inl, inr, ℕ, suc, ◌+◌, ◌-◌, ◌*◌, ◌/◌, ◌%◌, ◌^◌, ◌<◌, ◌≤◌, Bool, true, false, if◌then◌else◌, List, [], ◌∷◌, ◌++◌, length, refl, sym, ap, ◌∙◌, arith, lit<, ℤ}
 use Rattle.std.proofs.lemmas.Bool.Decides.{nat_tests}
 use Rattle.std.specs.Prelude.{nat_le, nat_lt}
 use Rattle.ffi3_isa.specs.declared.Instr.TheVariants.{LdrLit, Adr, Br}
@@ -10,13 +10,13 @@ use Rattle.ffi3_place_spec.specs.declared.Loc.TheVariants.{G}
 use Rattle.ffi3_machine.specs.MachineStep.{moved}
 use Rattle.ffi3_machine_spec.specs.Stubs.{word}
 use Rattle.ffi3_stubs.specs.Calls.{same_loc, is_in}
-use Rattle.ffi3_host_stubs.specs.Processor.{Processor, half, word_at, set_at, next, IsKept, Steps, HasCode}
+use Rattle.ffi3_host_stubs.specs.Processor.{Processor, half, word_at, set_at, next, IsKept, HasCode}
 use Rattle.ffi3_host_stubs.specs.Slots.{less_by, slot_code, Reaches}
-use Rattle.ffi3_host_stubs.proofs.Standing.{plain, wraps, along, ends, onward, TakesBy, one_step, and_then, in_turn}
+use Rattle.ffi3_host_stubs.proofs.Standing.{plain, wraps, TakesBy, in_turn}
 use Rattle.ffi3_host_stubs.proofs.Effects.{received}
-use Rattle.ffi3_host_stubs.proofs.Memory.{neither, set_other}
-use Rattle.ffi3_host_stubs.proofs.Aarch64Rows.{stands_word}
-use Rattle.ffi3_host_stubs.proofs.WordSegments.{next_aligned}
+use Rattle.ffi3_host_stubs.proofs.Memory.{none_of_two, received_other}
+use Rattle.ffi3_host_stubs.proofs.Rows.{Led, starts, goes_by, jumps_by}
+use Rattle.ffi3_host_stubs.proofs.Aarch64Rows.{word_says}
 
 loaded : ℕ → ℕ
 loaded o = 0b01011000 * 2 ^ 24 + o * 2 ^ 5 + 16
@@ -33,53 +33,20 @@ up21 from o to short e small =
     let test : nat_lt o 1048576 ≡ true = grind (arith, nat_tests) in
     ap (λ (d : ℤ). moved from d) (extended (nat_lt o 1048576) _ _ test) ∙ plain from o to e small
 
--- ldr x16, . + 4 o
-load_row : (s : Processor) (o to : ℕ) (tail : List ℕ) → s.pc % 4 ≡ 0 → o < 524288 → moved s.pc (sign_extend 21 (o * 4)) ≡ to → IsKept Aarch64 to s → HasCode s s.pc (word (loaded o) ++ tail) → Steps Aarch64 s (received 4 (G 16) (word_at to s) s)
+-- ldr x16, . + 4 k
+load_row : {n : ℕ} {o s : Processor} (k to : ℕ) (tail : List ℕ) → k < 524288 → moved s.pc (sign_extend 21 (k * 4)) ≡ to → IsKept Aarch64 to s → Led Aarch64 n o s (word (loaded k) ++ tail) → Led Aarch64 (suc n) o (received 4 (G 16) (word_at to s) s) tail
 unfolding loaded
-load_row s o to tail al short is kept h =
-    let behind : next 4 s ≡ s.pc + 4 = along s 4 (ends s (word (loaded o)) tail 4 refl h) in
-    let shape : ℕ → ℕ → Processor = λ a pc. record s { general = set_at 16 (word_at a s) s.general; pc = pc } in
-    record {
-      instr = LdrLit 16 (sign_extend 21 (o * 4));
-      size = 4;
-      window = length (word (loaded o) ++ tail);
-      aligned = al;
-      stands = stands_word s (loaded o) tail (LdrLit 16 (sign_extend 21 (o * 4))) (omega (arith, short)) (trampoline (ldr_literal {imm19 = o} {t = 16} (omega (arith, short)) (omega arith) refl)) h;
-      based = tt;
-      kept = subst (λ (a : ℕ). IsKept Aarch64 a s) (sym is) kept;
-      is_after = sym (ap (λ (a : ℕ). shape a (next 4 s)) is ∙ ap (λ (n : ℕ). shape to n) behind);
-    }
+load_row {n} {o} {s} k to tail short is kept h =
+    let says = word_says (loaded k) (LdrLit 16 (sign_extend 21 (k * 4))) (omega (arith, short)) (trampoline (ldr_literal {imm19 = k} {t = 16} (omega (arith, short)) (omega arith) refl)) in
+    goes_by (word (loaded k)) tail (λ pc. record s { general = set_at 16 (word_at to s) s.general; pc = pc }) says tt (subst (λ (a : ℕ). IsKept Aarch64 a s) (sym is) kept) (ap (λ (a : ℕ). let t : Processor = record s { general = set_at 16 (word_at a s) s.general; pc = next 4 s } in t) is) (λ p. refl) (λ p. refl) h
 
--- adr x17, . + 4 o
-data_row : (s : Processor) (o to : ℕ) (tail : List ℕ) → s.pc % 4 ≡ 0 → o < 524288 → moved s.pc (sign_extend 21 (o * 4 + 0)) ≡ to → HasCode s s.pc (word (based o) ++ tail) → Steps Aarch64 s (received 4 (G 17) to s)
+-- adr x17, . + 4 k
+data_row : {n : ℕ} {o s : Processor} (k to : ℕ) (tail : List ℕ) → k < 524288 → moved s.pc (sign_extend 21 (k * 4 + 0)) ≡ to → Led Aarch64 n o s (word (based k) ++ tail) → Led Aarch64 (suc n) o (received 4 (G 17) to s) tail
 unfolding based
-data_row s o to tail al short is h =
-    let behind : next 4 s ≡ s.pc + 4 = along s 4 (ends s (word (based o)) tail 4 refl h) in
-    let shape : ℕ → ℕ → Processor = λ a pc. record s { general = set_at 17 a s.general; pc = pc } in
-    let fields : based o ≡ 0 * 2 ^ 29 + 0b10000 * 2 ^ 24 + o * 2 ^ 5 + 17 = omega arith in
-    record {
-      instr = Adr 17 (sign_extend 21 (o * 4 + 0));
-      size = 4;
-      window = length (word (based o) ++ tail);
-      aligned = al;
-      stands = stands_word s (based o) tail (Adr 17 (sign_extend 21 (o * 4 + 0))) (omega (arith, short)) (trampoline (adr {immlo = 0} {immhi = o} {rd = 17} (omega arith) (omega (arith, short)) (omega arith) fields)) h;
-      based = tt;
-      kept = tt;
-      is_after = sym (ap (λ (a : ℕ). shape a (next 4 s)) is ∙ ap (λ (n : ℕ). shape to n) behind);
-    }
-
--- br x16
-jump_row : (s : Processor) (tail : List ℕ) → s.pc % 4 ≡ 0 → HasCode s s.pc (word 0xD61F0200 ++ tail) → Steps Aarch64 s (record s { pc = s.general 16 })
-jump_row s tail al h = record {
-  instr = Br 16;
-  size = 4;
-  window = length (word 0xD61F0200 ++ tail);
-  aligned = al;
-  stands = stands_word s 0xD61F0200 tail (Br 16) (lit< tt) (trampoline (br {n = 16} (lit< tt) refl)) h;
-  based = tt;
-  kept = tt;
-  is_after = refl;
-}
+data_row {n} {o} {s} k to tail short is h =
+    let fields : based k ≡ 0 * 2 ^ 29 + 0b10000 * 2 ^ 24 + k * 2 ^ 5 + 17 = omega arith in
+    let says = word_says (based k) (Adr 17 (sign_extend 21 (k * 4 + 0))) (omega (arith, short)) (trampoline (adr {immlo = 0} {immhi = k} {rd = 17} (omega arith) (omega (arith, short)) (omega arith) fields)) in
+    goes_by (word (based k)) tail (λ pc. record s { general = set_at 17 to s.general; pc = pc }) says tt tt (ap (λ (a : ℕ). let t : Processor = record s { general = set_at 17 a s.general; pc = next 4 s } in t) is) (λ p. refl) (λ p. refl) h
 
 reached : ℕ → Processor → Processor
 reached d s = record s { general = set_at 17 (s.pc + d) (set_at 16 (word_at (s.pc + d + 16) s) s.general); pc = word_at (s.pc + d + 16) s }
@@ -110,23 +77,14 @@ short_by d (inr some) near =
 slot_runs : (s : Processor) (d : ℕ) → (d ≡ 0) ⊎ (4 ≤ d) → d % 4 ≡ 0 → d + 16 < 1048576 → s.pc % 4 ≡ 0 → s.pc + d + 64 ≤ half → (s.pc + d + 64 ≤ s.limit) ⊎ (s.sp ≤ s.pc + d) → HasCode s s.pc (slot_code Aarch64 d) → TakesBy Aarch64 3 s (reached d s)
 unfolding slot_code loaded based reached
 slot_runs s d apart four near al far outside h =
-    let t2 : List ℕ = [] in
-    let t1 : List ℕ = word 0xD61F0200 ++ t2 in
-    let o : ℕ = less_by 19 (d / 4) 1 in
-    let t0 : List ℕ = word (based o) ++ t1 in
-    let s1 : Processor = received 4 (G 16) (word_at (s.pc + d + 16) s) s in
-    let s2 : Processor = received 4 (G 17) (s.pc + d) s1 in
-    let e : Processor = reached d s in
+    let jump : List ℕ = word 0xD61F0200 in
+    let k : ℕ = less_by 19 (d / 4) 1 in
+    let s2 : Processor = received 4 (G 17) (s.pc + d) (received 4 (G 16) (word_at (s.pc + d + 16) s) s) in
     let whole : s.pc + (d + 16) / 4 * 4 ≡ s.pc + d + 16 = omega (arith, four) in
     let there : moved s.pc (sign_extend 21 ((d + 16) / 4 * 4)) ≡ s.pc + d + 16 = up21 s.pc ((d + 16) / 4 * 4) (s.pc + d + 16) (omega (arith, near)) whole (omega (arith, far)) in
-    let one = load_row s ((d + 16) / 4) (s.pc + d + 16) t0 al (omega (arith, near)) there (⊎_elim (λ k. inl (omega (arith, k))) (λ k. inr (omega (arith, k))) outside) h in
-    let h1 : HasCode s1 s1.pc t0 = onward s s1 (word (loaded ((d + 16) / 4))) t0 4 refl refl refl h in
-    let al1 : s1.pc % 4 ≡ 0 = next_aligned s.pc s1.pc refl al in
-    let two = data_row s1 o (s.pc + d) t1 al1 (short_by d apart near) (data_at s.pc d apart four near far) h1 in
-    let h2 : HasCode s2 s2.pc t1 = onward s1 s2 (word (based o)) t1 4 refl refl refl h1 in
-    let al2 : s2.pc % 4 ≡ 0 = next_aligned s1.pc s2.pc refl al1 in
-    let last = jump_row s2 t2 al2 h2 in
-    and_then Aarch64 1 2 3 s s1 e refl (one_step Aarch64 s s1 one) (and_then Aarch64 1 1 2 s1 s2 e refl (one_step Aarch64 s1 s2 two) (one_step Aarch64 s2 e last))
+    let one = load_row ((d + 16) / 4) (s.pc + d + 16) (word (based k) ++ (jump ++ [])) (omega (arith, near)) there (⊎_elim (λ e. inl (omega (arith, e))) (λ e. inr (omega (arith, e))) outside) (starts Aarch64 s (slot_code Aarch64 d) al h) in
+    let two = data_row k (s.pc + d) (jump ++ []) (short_by d apart near) (data_at s.pc d apart four near far) one in
+    jumps_by jump [] (λ pc. record s2 { pc = s2.general 16 }) (word_says 0xD61F0200 (Br 16) (lit< tt) (trampoline (br {n = 16} (lit< tt) refl))) tt tt refl two
 
 either : (d : ℕ) → d % 4 ≡ 0 → (d ≡ 0) ⊎ (4 ≤ d)
 either d four = by_test (nat_lt d 4) refl
@@ -146,9 +104,8 @@ reaches d four near s aligned h far outside to =
         closure = refl;
         pc = refl;
         others = λ l out.
-            let p = neither (same_loc l (G 17)) (is_in l (G 16 ∷ [])) out in
-            let q = neither (same_loc l (G 16)) false p.1 in
-            set_other 17 (s.pc + d) l m (reached d s) refl refl p.0 ∙ set_other 16 v l s m refl refl q.0;
+            let p = none_of_two l 17 16 [] out in
+            received_other 4 (s.pc + d) l (G 17) m p.0 ∙ received_other 4 v l (G 16) s p.1;
         sp = refl;
         memory = refl;
         limit = refl;

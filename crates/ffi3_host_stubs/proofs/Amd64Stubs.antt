@@ -1,23 +1,29 @@
 -- The four stubs of AMD64, wherever they and the exchange region stand.
-use Rattle.std.proofs.Common.{◌≡◌, ◌≢◌, ◌⊎◌, inl, inr, ⊎_elim, ℕ, ◌+◌, ◌-◌, ◌*◌, ◌<◌, ◌≤◌, false, List, [], ◌++◌, length, refl, ap, ◌∙◌, arith, pos, negsuc}
+use Rattle.std.proofs.Common.{◌≡◌, ◌⊎◌, inl, inr, ⊎_elim, ℕ, ◌+◌, ◌-◌, ◌*◌, ◌%◌, ◌^◌, ◌<◌, ◌≤◌, Bool, true, false, List, [], ◌∷◌, ◌++◌, length, refl, sym, ap, ◌∙◌, subst, arith, lit<, lit≤, pos, negsuc}
 use Rattle.ffi3_machine_spec.specs.Memory.{number_of, low_bytes}
+use Rattle.ffi3_isa.specs.Amd64.{fixed, call, ret, disp32}
+use Rattle.ffi3_isa.specs.declared.Instr.TheVariants.{CallMem, Ret}
 use Rattle.ffi3_type_spec.specs.declared.Isa.TheVariants.{Amd64}
 use Rattle.ffi3_place_spec.specs.declared.Loc.{Loc}
 use Rattle.ffi3_place_spec.specs.declared.Loc.TheVariants.{G}
 use Rattle.ffi3_place_spec.specs.StubRegisters.{call_loads, stub_area, callee_saved_words, entry_stores, result_loads}
 use Rattle.ffi3_machine_spec.specs.declared.stub.TheConstants.{AREA_AT, CALLEE_AT, CALL_SP_AT, ENTRY_SP_AT, RETURN_SP_AT}
-use Rattle.ffi3_machine_spec.specs.Stubs.{Entry, Exit, Call, Return, amd64_row, load, store, sum, jump, calls_at, returns, exchange_loads, exchange_stores, area_loads, area_stores}
+use Rattle.ffi3_machine_spec.specs.Stubs.{Entry, Exit, Call, Return, jump, calls_at, returns, amd64_row}
+use Rattle.ffi3_machine.specs.MachineStep.{moved}
 use Rattle.ffi3_stubs.specs.Calls.{same_loc, is_in}
-use Rattle.ffi3_stubs.proofs.Amd64Segments.{is_plain, are_moved, are_saved}
-use Rattle.ffi3_stubs.proofs.Reading.{are_apart, are_disjoint, place, misses, are_spread, in_neither}
-use Rattle.ffi3_host_stubs.specs.Processor.{Processor, half, bytes_at, word_at, HasCode}
-use Rattle.ffi3_host_stubs.specs.Stubs.{copy_bytes, host_bytes}
-use Rattle.ffi3_host_stubs.specs.Calls.{held, IsOutside, IsRegionKept, HasCalled, Calls, HasReturned, Returns, HasEntered, Enters, HasLeft, Leaves}
-use Rattle.ffi3_host_stubs.proofs.Standing.{kept_in, outside_region, apart_from, region_outside, onward, TakesBy, one_step, and_then, in_turn}
-use Rattle.ffi3_host_stubs.proofs.Effects.{received, with_sp_by, stored, from_exchange, to_exchange, from_area, to_area}
-use Rattle.ffi3_host_stubs.proofs.Memory.{neither, byte_other, word_put, bytes_other, bytes_alike, set_other, exchange_others, area_others, came_from_exchange, came_from_area, exchange_outside, places_outside, exchange_beyond, went_to_exchange, area_outside, went_to_area, went_from, area_still, came_still}
-use Rattle.ffi3_host_stubs.proofs.Amd64Rows.{copy_row, load_sp_row, store_sp_row, pushed, call_row, popped, return_row, rise_row, fall_row}
-use Rattle.ffi3_host_stubs.proofs.Amd64Segments.{row_list, Came, exchange_loaded, exchange_stored, area_loaded, area_stored}
+use Rattle.ffi3_stubs.proofs.Reading.{in_neither}
+use Rattle.ffi3_host_stubs.specs.Processor.{Processor, half, word_at, put_word, next, listed, IsKept}
+use Rattle.ffi3_host_stubs.specs.Stubs.{host_rows, host_bytes}
+use Rattle.ffi3_host_stubs.specs.Calls.{held, IsSource, IsAtStub, IsRegionKept, HasCalled, Calls, HasReturned, Returns, HasEntered, Enters, HasLeft, Leaves}
+use Rattle.ffi3_host_stubs.proofs.Standing.{plain, wraps, apart_from, TakesBy, in_turn}
+use Rattle.ffi3_host_stubs.proofs.Effects.{received, with_sp_by, stored, in_exchange, in_area, from_places, to_places}
+use Rattle.ffi3_host_stubs.proofs.Memory.{byte_other, word_put, received_other, others_stay, are_apart, Hold, came, are_disjoint, hold_still, from_area, Misses, bytes_stay, are_clear, word_stays, are_below, are_spread, Stand, went, stand_from, neither}
+use Rattle.ffi3_host_stubs.proofs.Rows.{names, fine, source_of, Leads, begins, jumps, points, Points, Says, loads, stores, loads_sp, stores_sp, copies, sums_sp, from_source}
+use Rattle.ffi3_host_stubs.proofs.Amd64Rows.{disp, up, load_general, load_law, store_general, store_law, area_load_law, area_store_law, copy_says, lea_says, rise_says}
+use Rattle.ffi3_host_stubs.proofs.EntryMemory.{words_saved, word_for_exit, word_of_sp, elsewhere}
+
+in_half : (x : ℕ) → x + 552 ≤ half → x ≤ half
+in_half x far = omega (arith, far)
 
 -- ---- Call
 
@@ -25,41 +31,64 @@ abbrev call_placed : ℕ → Processor → Processor
 call_placed x s = with_sp_by 7 (word_at (x + CALL_SP_AT) s) (received 3 (G 11) x s)
 
 abbrev call_loaded : ℕ → Processor → Processor
-call_loaded x s = from_exchange Amd64 11 x (call_loads Amd64) (call_placed x s)
+call_loaded x s = from_places Amd64 11 x (in_exchange (call_loads Amd64)) (call_placed x s)
 
+-- the return address is pushed, and pc is the address that is called
 abbrev after_call : ℕ → Processor → Processor
-after_call x s = pushed 7 (word_at (x + CALLEE_AT) (call_loaded x s)) (call_loaded x s)
+after_call x s = record (call_loaded x s) {
+  sp = word_at (x + CALL_SP_AT) s - 8;
+  memory = put_word (word_at (x + CALL_SP_AT) s - 8) ((call_loaded x s).pc + 7) s.memory;
+  pc = word_at (x + CALLEE_AT) s;
+}
 
-call_runs : (s : Processor) (from : ℕ) → from < 16 → from ≢ 4 → s.general from + 552 ≤ half → IsRegionKept (s.general from) s.sp s → 8 ≤ word_at (s.general from + CALL_SP_AT) s → word_at (s.general from + CALL_SP_AT) s ≤ half → IsRegionKept (s.general from) (word_at (s.general from + CALL_SP_AT) s) s → HasCode s s.pc (host_bytes Amd64 from 0 Call) → TakesBy Amd64 18 s (after_call (s.general from) s)
-unfolding host_bytes row_list is_plain are_moved
-call_runs s from in_range not_sp far above room low under h =
+call_says : (o : ℕ) → Says Amd64 (amd64_row 0 (jump (calls_at 11 o))) (CallMem 11 (disp o)) 7
+unfolding disp
+call_says o = record {
+  sized = refl;
+  code = λ bytes tail e. listed (fixed (call e));
+  aligned = λ p h. tt;
+}
+
+return_says : Says Amd64 (amd64_row 0 (jump returns)) Ret 1
+return_says = record {
+  sized = refl;
+  code = λ bytes tail e. listed (fixed (ret e));
+  aligned = λ p h. tt;
+}
+
+callee_low : (x : ℕ) → x + 552 ≤ half → x + CALLEE_AT ≤ half
+callee_low x far = omega (arith, far)
+
+falls : (sp p n k : ℕ) → sp ≡ p + n → n + k ≡ 2 ^ 64 → sp ≤ half → (sp + k) % 2 ^ 64 ≡ p
+falls sp p n k e f low = wraps sp k p (omega (arith, e, f)) (omega (arith, e, low))
+
+call_runs : (s : Processor) (from : ℕ) → IsSource Amd64 from → IsAtStub Amd64 (s.general from) (host_bytes Amd64 from 0 Call) s → 8 ≤ word_at (s.general from + CALL_SP_AT) s → word_at (s.general from + CALL_SP_AT) s ≤ half → IsRegionKept (s.general from) (word_at (s.general from + CALL_SP_AT) s) s → TakesBy Amd64 18 s (after_call (s.general from) s)
+unfolding host_bytes names fine
+call_runs s from source is room low under =
     let x : ℕ = s.general from in
-    let t3 : List ℕ = amd64_row 0 (jump (calls_at 11 CALLEE_AT)) ++ [] in
-    let t2 : List ℕ = row_list (exchange_loads 11 (call_loads Amd64)) ++ t3 in
-    let t1 : List ℕ = amd64_row 0 (load (G 4) 11 CALL_SP_AT) ++ t2 in
-    let s1 : Processor = received 3 (G 11) x s in
-    let s2 : Processor = call_placed x s in
-    let s3 : Processor = call_loaded x s in
-    let e : Processor = after_call x s in
-    let one = copy_row s from t1 in_range not_sp (omega (arith, far)) h in
-    let h1 : HasCode s1 s1.pc t1 = onward s s1 (copy_bytes Amd64 11 from) t1 3 refl refl refl h in
-    let two = load_sp_row s1 x CALL_SP_AT t2 (omega arith) refl (omega (arith, far)) (kept_in Amd64 s1 x CALL_SP_AT (omega arith) above) h1 in
-    let h2 : HasCode s2 s2.pc t2 = onward s1 s2 (amd64_row 0 (load (G 4) 11 CALL_SP_AT)) t2 7 refl refl refl h1 in
-    let came : Came s2 s3 x 15 t3 = exchange_loaded x (call_loads Amd64) s2 t3 refl refl far under h2 in
-    let last = call_row s3 x CALLEE_AT [] (omega arith) came.base (omega (arith, far)) (kept_in Amd64 s3 x CALLEE_AT (omega arith) under) room low came.stands in
-    and_then Amd64 1 17 18 s s1 e refl (one_step Amd64 s s1 one) (and_then Amd64 1 16 17 s1 s2 e refl (one_step Amd64 s1 s2 two) (and_then Amd64 15 1 16 s2 s3 e refl came.steps (one_step Amd64 s3 e last)))
+    let w : ℕ = word_at (x + CALL_SP_AT) s in
+    let m : Processor = call_loaded x s in
+    let loaded = points Amd64 11 x m refl refl is.high under in
+    let a0 = begins Amd64 s (host_rows Amd64 from 0 Call) tt is.code in
+    let a1 = copies 11 from 3 x (pos 0) (source_of Amd64 8 11 refl) (copy_says from source.in_range) (from_source Amd64 from s source (in_half x is.high)) a0 in
+    let a2 = loads_sp 11 x 552 CALL_SP_AT 7 (load_general 4 CALL_SP_AT (lit< tt) (lit< tt)) (λ v. refl) (lit≤ tt) (points Amd64 11 x (received 3 (G 11) x s) refl refl is.high is.region) a1 in
+    let a3 = loads 17 8 11 x 552 (in_exchange (call_loads Amd64)) load_law refl refl (points Amd64 11 x (call_placed x s) refl refl is.high under) a2 in
+    let to : moved x (disp CALLEE_AT) ≡ x + CALLEE_AT = up x CALLEE_AT (x + CALLEE_AT) (lit< tt) refl (callee_low x is.high) in
+    let sp : moved w (negsuc 7) ≡ w - 8 = falls w (w - 8) 8 18446744073709551608 (omega (arith, room)) refl low in
+    let form : ℕ → ℕ → Processor = λ p a. record m { sp = p; memory = put_word p (next 7 m) s.memory; pc = word_at a s } in
+    jumps (λ n. record m { sp = w - 8; memory = put_word (w - 8) n s.memory; pc = word_at (x + CALLEE_AT) s }) (call_says CALLEE_AT) tt (subst (λ (a : ℕ). IsKept Amd64 a m) (sym to) (loaded.kept CALLEE_AT (lit≤ tt))) (ap (λ (p : ℕ). form p (moved x (disp CALLEE_AT))) sp ∙ ap (λ (a : ℕ). form (w - 8) a) to) a3
 
 has_called : (s : Processor) (from x : ℕ) → 8 ≤ word_at (x + CALL_SP_AT) s → HasCalled Amd64 x (s.pc + length (host_bytes Amd64 from 0 Call)) s (after_call x s)
-unfolding host_bytes are_apart
+unfolding host_bytes are_apart Hold
 has_called s from x room =
     let p : ℕ = word_at (x + CALL_SP_AT) s in
     let m : Processor = call_loaded x s in
     let behind : m.pc + 7 ≡ s.pc + length (host_bytes Amd64 from 0 Call) = omega arith in
     record {
-      loaded = came_from_exchange Amd64 11 x (call_loads Amd64) (call_placed x s) refl;
+      loaded = came Amd64 11 x (in_exchange (call_loads Amd64)) (call_placed x s) refl;
       others = λ l out.
           let parts = neither (same_loc l (G 11)) (is_in l (call_loads Amd64)) out in
-          exchange_others Amd64 11 x (call_loads Amd64) (call_placed x s) l parts.1 ∙ set_other 11 x l s (call_placed x s) refl refl parts.0;
+          others_stay Amd64 11 x (in_exchange (call_loads Amd64)) (call_placed x s) l parts.1 ∙ received_other 3 x l (G 11) s parts.0;
       sp = refl;
       pc = refl;
       link = word_put (p - 8) (m.pc + 7) s.memory ∙ ap (low_bytes 8) behind;
@@ -68,56 +97,52 @@ has_called s from x room =
       code = refl;
     }
 
-pub calls_by : (from : ℕ) → from < 16 → from ≢ 4 → Calls Amd64 from (host_bytes Amd64 from 0 Call)
-calls_by from in_range not_sp s is room over low under callee =
+pub calls_by : (from : ℕ) → IsSource Amd64 from → Calls Amd64 from (host_bytes Amd64 from 0 Call)
+calls_by from source s is room over low under callee =
     let x : ℕ = s.general from in
     let pushed_there : 8 ≤ word_at (x + CALL_SP_AT) s = omega (arith, room) in
-    (after_call x s, in_turn Amd64 18 s (after_call x s) (call_runs s from in_range not_sp is.high is.region pushed_there low under is.code), has_called s from x pushed_there)
+    (after_call x s, in_turn Amd64 18 s (after_call x s) (call_runs s from source is pushed_there low under), has_called s from x pushed_there)
 
 -- ---- Return
 
 abbrev return_taken : ℕ → Processor → Processor
-return_taken x s = to_exchange Amd64 11 x (result_loads Amd64) (received 3 (G 11) x s)
+return_taken x s = to_places Amd64 11 x (in_exchange (result_loads Amd64)) (received 3 (G 11) x s)
 
 abbrev after_return : ℕ → Processor → Processor
 after_return x s = with_sp_by 7 (word_at (x + RETURN_SP_AT) (return_taken x s)) (return_taken x s)
 
-return_runs : (s : Processor) (from : ℕ) → from < 16 → from ≢ 4 → s.general from + 552 ≤ half → IsRegionKept (s.general from) s.sp s → HasCode s s.pc (host_bytes Amd64 from 0 Return) → TakesBy Amd64 6 s (after_return (s.general from) s)
-unfolding host_bytes row_list is_plain are_moved
-return_runs s from in_range not_sp far above h =
+return_runs : (s : Processor) (from : ℕ) → IsSource Amd64 from → IsAtStub Amd64 (s.general from) (host_bytes Amd64 from 0 Return) s → TakesBy Amd64 6 s (after_return (s.general from) s)
+unfolding host_bytes names fine
+return_runs s from source is =
     let x : ℕ = s.general from in
-    let t2 : List ℕ = amd64_row 0 (load (G 4) 11 RETURN_SP_AT) ++ [] in
-    let t1 : List ℕ = row_list (exchange_stores 11 (result_loads Amd64)) ++ t2 in
-    let s1 : Processor = received 3 (G 11) x s in
-    let s2 : Processor = return_taken x s in
-    let e : Processor = after_return x s in
-    let one = copy_row s from t1 in_range not_sp (omega (arith, far)) h in
-    let h1 : HasCode s1 s1.pc t1 = onward s s1 (copy_bytes Amd64 11 from) t1 3 refl refl refl h in
-    let came : Came s1 s2 x 4 t2 = exchange_stored x (result_loads Amd64) s1 t2 refl refl far h1 in
-    let last = load_sp_row s2 x RETURN_SP_AT [] (omega arith) came.base (omega (arith, far)) (kept_in Amd64 s2 x RETURN_SP_AT (omega arith) above) came.stands in
-    and_then Amd64 1 5 6 s s1 e refl (one_step Amd64 s s1 one) (and_then Amd64 4 1 5 s1 s2 e refl came.steps (one_step Amd64 s2 e last))
+    let a0 = begins Amd64 s (host_rows Amd64 from 0 Return) tt is.code in
+    let a1 = copies 11 from 3 x (pos 0) (source_of Amd64 8 11 refl) (copy_says from source.in_range) (from_source Amd64 from s source (in_half x is.high)) a0 in
+    let a2 = stores 5 8 11 x 552 (in_exchange (result_loads Amd64)) store_law refl refl (points Amd64 11 x (received 3 (G 11) x s) refl refl is.high is.region) a1 in
+    let a3 = loads_sp 11 x 552 RETURN_SP_AT 7 (load_general 4 RETURN_SP_AT (lit< tt) (lit< tt)) (λ v. refl) (lit≤ tt) (points Amd64 11 x (return_taken x s) refl refl is.high is.region) a2 in
+    a3.led.steps
 
 has_returned : (s : Processor) (from x : ℕ) → HasReturned Amd64 x (s.pc + length (host_bytes Amd64 from 0 Return)) s (after_return x s)
-unfolding host_bytes place misses are_spread
+unfolding host_bytes are_spread are_clear are_disjoint Stand Misses
 has_returned s from x =
     let t : Processor = received 3 (G 11) x s in
+    let m : Processor = return_taken x s in
     let e : Processor = after_return x s in
     let behind : e.pc ≡ s.pc + length (host_bytes Amd64 from 0 Return) = omega arith in
-    let same : (l : Loc) → same_loc l (G 11) ≡ false → held l t ≡ held l s = λ l out. set_other 11 x l s t refl refl out in
+    let stay : (l : Loc) → is_in l (G 11 ∷ []) ≡ false → held l t ≡ held l s = λ l out. received_other 3 x l (G 11) s (neither (same_loc l (G 11)) false out).0 in
     record {
-      stored = went_from 11 x (result_loads Amd64) s t e refl same (went_to_exchange Amd64 11 x (result_loads Amd64) t refl);
-      others = λ l out. same l (neither (same_loc l (G 11)) false out).0;
-      sp = ap (number_of 8) (exchange_beyond Amd64 11 x (result_loads Amd64) t RETURN_SP_AT (omega arith) refl);
+      stored = stand_from x (in_exchange (result_loads Amd64)) (G 11 ∷ []) s t m.memory refl stay (went Amd64 11 x (in_exchange (result_loads Amd64)) t refl);
+      others = stay;
+      sp = ap (number_of 8) (word_stays Amd64 11 x (in_exchange (result_loads Amd64)) t RETURN_SP_AT refl);
       pc = behind;
-      memory = λ a out. places_outside Amd64 11 x (result_loads Amd64) t a out;
+      memory = λ a out. bytes_stay Amd64 11 x (in_exchange (result_loads Amd64)) t a out;
       limit = refl;
       code = refl;
     }
 
-pub returns_back : (from : ℕ) → from < 16 → from ≢ 4 → Returns Amd64 from (host_bytes Amd64 from 0 Return)
-returns_back from in_range not_sp s is small under =
+pub returns_back : (from : ℕ) → IsSource Amd64 from → Returns Amd64 from (host_bytes Amd64 from 0 Return)
+returns_back from source s is low under =
     let x : ℕ = s.general from in
-    (after_return x s, in_turn Amd64 6 s (after_return x s) (return_runs s from in_range not_sp is.high is.region is.code), has_returned s from x)
+    (after_return x s, in_turn Amd64 6 s (after_return x s) (return_runs s from source is), has_returned s from x)
 
 -- ---- Exit
 
@@ -125,59 +150,53 @@ abbrev exit_placed : ℕ → Processor → Processor
 exit_placed x s = with_sp_by 7 (word_at (x + AREA_AT) s) (received 3 (G 11) x s)
 
 abbrev exit_restored : ℕ → Processor → Processor
-exit_restored x s = from_area Amd64 0 (callee_saved_words Amd64) (exit_placed x s)
+exit_restored x s =
+    from_places Amd64 4 (word_at (x + AREA_AT) s) (in_area 0 (callee_saved_words Amd64)) (exit_placed x s)
 
 abbrev exit_given : ℕ → Processor → Processor
-exit_given x s = from_exchange Amd64 11 x (result_loads Amd64) (exit_restored x s)
+exit_given x s = from_places Amd64 11 x (in_exchange (result_loads Amd64)) (exit_restored x s)
 
 abbrev exit_raised : ℕ → ℕ → Processor → Processor
-exit_raised x gap s = with_sp_by 8 ((exit_given x s).sp + (56 + gap)) (exit_given x s)
+exit_raised x gap s = with_sp_by 8 (word_at (x + AREA_AT) s + (56 + gap)) (exit_given x s)
 
+-- the return address is popped
 abbrev after_exit : ℕ → ℕ → Processor → Processor
-after_exit x gap s = popped (exit_raised x gap s)
+after_exit x gap s = record (exit_given x s) {
+  sp = word_at (x + AREA_AT) s + (56 + gap) + 8;
+  pc = word_at (word_at (x + AREA_AT) s + (56 + gap)) s;
+}
 
-exit_runs : (s : Processor) (from gap : ℕ) → from < 16 → from ≢ 4 → gap ≤ 1024 → s.general from + 552 ≤ half → IsRegionKept (s.general from) s.sp s → IsRegionKept (s.general from) (word_at (s.general from + AREA_AT) s) s → word_at (s.general from + AREA_AT) s + (56 + gap) + 8 ≤ half → HasCode s s.pc (host_bytes Amd64 from gap Exit) → TakesBy Amd64 14 s (after_exit (s.general from) gap s)
-unfolding host_bytes row_list is_plain are_moved are_saved
-exit_runs s from gap in_range not_sp room far above under top h =
+exit_runs : (s : Processor) (from gap : ℕ) → IsSource Amd64 from → gap ≤ 1024 → IsAtStub Amd64 (s.general from) (host_bytes Amd64 from gap Exit) s → IsRegionKept (s.general from) (word_at (s.general from + AREA_AT) s) s → word_at (s.general from + AREA_AT) s + (56 + gap) + 8 ≤ half → TakesBy Amd64 14 s (after_exit (s.general from) gap s)
+unfolding host_bytes names fine
+exit_runs s from gap source room is under top =
     let x : ℕ = s.general from in
-    let t5 : List ℕ = amd64_row 0 (jump returns) ++ [] in
-    let t4 : List ℕ = amd64_row 0 (sum 4 4 (pos (56 + gap))) ++ t5 in
-    let t3 : List ℕ = row_list (exchange_loads 11 (result_loads Amd64)) ++ t4 in
-    let t2 : List ℕ = row_list (area_loads 4 0 (callee_saved_words Amd64)) ++ t3 in
-    let t1 : List ℕ = amd64_row 0 (load (G 4) 11 AREA_AT) ++ t2 in
-    let s1 : Processor = received 3 (G 11) x s in
-    let s2 : Processor = exit_placed x s in
-    let s3 : Processor = exit_restored x s in
-    let s4 : Processor = exit_given x s in
-    let s5 : Processor = exit_raised x gap s in
-    let e : Processor = after_exit x gap s in
-    let one = copy_row s from t1 in_range not_sp (omega (arith, far)) h in
-    let h1 : HasCode s1 s1.pc t1 = onward s s1 (copy_bytes Amd64 11 from) t1 3 refl refl refl h in
-    let two = load_sp_row s1 x AREA_AT t2 (omega arith) refl (omega (arith, far)) (kept_in Amd64 s1 x AREA_AT (omega arith) above) h1 in
-    let h2 : HasCode s2 s2.pc t2 = onward s1 s2 (amd64_row 0 (load (G 4) 11 AREA_AT)) t2 7 refl refl refl h1 in
-    let back : Came s2 s3 x 6 t3 = area_loaded x (callee_saved_words Amd64) s2 0 t3 refl refl (omega arith) (omega (arith, top)) h2 in
-    let given : Came s3 s4 x 4 t4 = exchange_loaded x (result_loads Amd64) s3 t4 refl back.base far under back.stands in
-    let five = rise_row s4 (56 + gap) t5 (omega (arith, room)) (omega (arith, top)) given.stands in
-    let h5 : HasCode s5 s5.pc t5 = onward s4 s5 (amd64_row 0 (sum 4 4 (pos (56 + gap)))) t5 8 refl refl refl given.stands in
-    let last = return_row s5 [] (omega (arith, top)) h5 in
-    and_then Amd64 1 13 14 s s1 e refl (one_step Amd64 s s1 one) (and_then Amd64 1 12 13 s1 s2 e refl (one_step Amd64 s1 s2 two) (and_then Amd64 6 6 12 s2 s3 e refl back.steps (and_then Amd64 4 2 6 s3 s4 e refl given.steps (and_then Amd64 1 1 2 s4 s5 e refl (one_step Amd64 s4 s5 five) (one_step Amd64 s5 e last)))))
+    let v : ℕ = word_at (x + AREA_AT) s in
+    let area : Points Amd64 4 v 56 (exit_placed x s) = record { at = refl; based = λ e. tt; kept = λ o lies. inr (omega arith); far = omega (arith, top) } in
+    let a0 = begins Amd64 s (host_rows Amd64 from gap Exit) tt is.code in
+    let a1 = copies 11 from 3 x (pos 0) (source_of Amd64 8 11 refl) (copy_says from source.in_range) (from_source Amd64 from s source (in_half x is.high)) a0 in
+    let a2 = loads_sp 11 x 552 AREA_AT 7 (load_general 4 AREA_AT (lit< tt) (lit< tt)) (λ w. refl) (lit≤ tt) (points Amd64 11 x (received 3 (G 11) x s) refl refl is.high is.region) a1 in
+    let a3 = loads 8 0 4 v 56 (in_area 0 (callee_saved_words Amd64)) area_load_law refl refl area a2 in
+    let a4 = loads 12 8 11 x 552 (in_exchange (result_loads Amd64)) load_law refl refl (points Amd64 11 x (exit_restored x s) refl refl is.high under) a3 in
+    let a5 = sums_sp 4 8 (v + (56 + gap)) (disp (56 + gap)) (rise_says (56 + gap)) (up v (56 + gap) (v + (56 + gap)) (omega (arith, room)) refl (omega (arith, top))) a4 in
+    let r : Processor = exit_raised x gap s in
+    jumps (λ n. record r { sp = v + (56 + gap) + 8; pc = word_at (v + (56 + gap)) s }) return_says tt (inr (omega arith)) (ap (λ (a : ℕ). let t : Processor = record r { sp = a; pc = word_at (v + (56 + gap)) s } in t) (plain (v + (56 + gap)) 8 (v + (56 + gap) + 8) refl (omega (arith, top)))) a5
 
 has_left : (s : Processor) (x gap : ℕ) → HasLeft Amd64 x (word_at (x + AREA_AT) s) gap s (after_exit x gap s)
-unfolding are_apart are_disjoint
+unfolding are_apart are_disjoint Hold
 has_left s x gap =
-    let area : ℕ = word_at (x + AREA_AT) s in
+    let v : ℕ = word_at (x + AREA_AT) s in
     let t : Processor = exit_placed x s in
     let m : Processor = exit_restored x s in
     let e : Processor = after_exit x gap s in
-    let first : t.sp + 0 ≡ area = omega arith in
-    let after : (l : Loc) → is_in l (result_loads Amd64) ≡ false → held l e ≡ held l m = λ l out. exchange_others Amd64 11 x (result_loads Amd64) m l out in
+    let at : v + 0 ≡ v = omega arith in
+    let after : (l : Loc) → is_in l (result_loads Amd64) ≡ false → held l e ≡ held l m = λ l out. others_stay Amd64 11 x (in_exchange (result_loads Amd64)) m l out in
     record {
-      restored = came_still (callee_saved_words Amd64) (result_loads Amd64) area s m e refl after (came_from_area Amd64 0 area (callee_saved_words Amd64) t first refl);
-      loaded = came_from_exchange Amd64 11 x (result_loads Amd64) m refl;
+      restored = from_area v 0 v (callee_saved_words Amd64) s e at (hold_still (λ i. word_at (v + i) s) (in_area 0 (callee_saved_words Amd64)) (result_loads Amd64) m e refl after (came Amd64 4 v (in_area 0 (callee_saved_words Amd64)) t refl));
+      loaded = came Amd64 11 x (in_exchange (result_loads Amd64)) m refl;
       others = λ l out.
-          let parts = neither (same_loc l (G 11)) (is_in l (callee_saved_words Amd64 ++ result_loads Amd64)) out in
-          let more = in_neither l (callee_saved_words Amd64) (result_loads Amd64) parts.1 in
-          after l more.1 ∙ area_others Amd64 0 (callee_saved_words Amd64) t l more.0 ∙ set_other 11 x l s t refl refl parts.0;
+          let p = neither (same_loc l (G 11)) (is_in l (callee_saved_words Amd64 ++ result_loads Amd64)) out in
+          let more = in_neither l (callee_saved_words Amd64) (result_loads Amd64) p.1 in
+          after l more.1 ∙ others_stay Amd64 4 v (in_area 0 (callee_saved_words Amd64)) t l more.0 ∙ received_other 3 x l (G 11) s p.0;
       sp = refl;
       pc = refl;
       memory = refl;
@@ -185,10 +204,10 @@ has_left s x gap =
       code = refl;
     }
 
-pub leaves : (from gap : ℕ) → from < 16 → from ≢ 4 → gap ≤ 1024 → Leaves Amd64 from gap (host_bytes Amd64 from gap Exit)
-leaves from gap in_range not_sp room s is sixteen over under back top =
+pub leaves : (from gap : ℕ) → IsSource Amd64 from → gap ≤ 1024 → Leaves Amd64 from gap (host_bytes Amd64 from gap Exit)
+leaves from gap source room s is sixteen over under back top =
     let x : ℕ = s.general from in
-    (after_exit x gap s, in_turn Amd64 14 s (after_exit x gap s) (exit_runs s from gap in_range not_sp room is.high is.region under top is.code), has_left s x gap)
+    (after_exit x gap s, in_turn Amd64 14 s (after_exit x gap s) (exit_runs s from gap source room is under top), has_left s x gap)
 
 -- ---- Entry
 
@@ -196,7 +215,7 @@ abbrev entry_fallen : Processor → Processor
 entry_fallen s = with_sp_by 8 (s.sp - 56) s
 
 abbrev entry_saved : Processor → Processor
-entry_saved s = to_area Amd64 0 (stub_area Amd64) (entry_fallen s)
+entry_saved s = to_places Amd64 4 (s.sp - 56) (in_area 0 (stub_area Amd64)) (entry_fallen s)
 
 abbrev entry_based : ℕ → Processor → Processor
 entry_based x s = received 3 (G 11) x (entry_saved s)
@@ -205,70 +224,55 @@ abbrev entry_noted : ℕ → Processor → Processor
 entry_noted x s = stored 7 (x + AREA_AT) (s.sp - 56) (entry_based x s)
 
 abbrev entry_passed : ℕ → Processor → Processor
-entry_passed x s = to_exchange Amd64 11 x (entry_stores Amd64) (entry_noted x s)
+entry_passed x s = to_places Amd64 11 x (in_exchange (entry_stores Amd64)) (entry_noted x s)
 
 abbrev after_entry : ℕ → Processor → Processor
 after_entry x s = with_sp_by 7 (word_at (x + ENTRY_SP_AT) (entry_passed x s)) (entry_passed x s)
 
-entry_runs : (s : Processor) (from : ℕ) → from < 16 → from ≢ 4 → s.general from + 552 ≤ half → IsRegionKept (s.general from) (s.sp - 56) s → 56 ≤ s.sp → s.sp ≤ half → HasCode s s.pc (host_bytes Amd64 from 0 Entry) → TakesBy Amd64 26 s (after_entry (s.general from) s)
-unfolding host_bytes row_list is_plain are_moved are_saved
-entry_runs s from in_range not_sp far above room low h =
+entry_runs : (s : Processor) (from : ℕ) → IsSource Amd64 from → IsAtStub Amd64 (s.general from) (host_bytes Amd64 from 0 Entry) s → IsRegionKept (s.general from) (s.sp - 56) s → s.sp ≤ half → 56 ≤ s.sp → TakesBy Amd64 26 s (after_entry (s.general from) s)
+unfolding host_bytes names fine
+entry_runs s from source is above low room =
     let x : ℕ = s.general from in
-    let t5 : List ℕ = amd64_row 0 (load (G 4) 11 ENTRY_SP_AT) ++ [] in
-    let t4 : List ℕ = row_list (exchange_stores 11 (entry_stores Amd64)) ++ t5 in
-    let t3 : List ℕ = amd64_row 0 (store (G 4) 11 AREA_AT) ++ t4 in
-    let t2 : List ℕ = copy_bytes Amd64 11 from ++ t3 in
-    let t1 : List ℕ = row_list (area_stores 4 0 (stub_area Amd64)) ++ t2 in
-    let s1 : Processor = entry_fallen s in
-    let s2 : Processor = entry_saved s in
-    let s3 : Processor = entry_based x s in
-    let s4 : Processor = entry_noted x s in
-    let s5 : Processor = entry_passed x s in
-    let e : Processor = after_entry x s in
-    let one = fall_row s (s.sp - 56) t1 (omega (arith, room)) low h in
-    let h1 : HasCode s1 s1.pc t1 = onward s s1 (amd64_row 0 (sum 4 4 (negsuc 55))) t1 8 refl refl refl h in
-    let saves = area_stored (stub_area Amd64) s1 0 t2 refl (omega arith) (omega (arith, low, room)) h1 in
-    let three = copy_row s2 from t3 in_range not_sp (omega (arith, far)) saves.stands in
-    let h3 : HasCode s3 s3.pc t3 = onward s2 s3 (copy_bytes Amd64 11 from) t3 3 refl refl refl saves.stands in
-    let four = store_sp_row s3 x AREA_AT t4 (omega arith) refl (omega (arith, far)) h3 in
-    let h4 : HasCode s4 s4.pc t4 = onward s3 s4 (amd64_row 0 (store (G 4) 11 AREA_AT)) t4 7 refl refl refl h3 in
-    let came : Came s4 s5 x 15 t5 = exchange_stored x (entry_stores Amd64) s4 t5 refl refl far h4 in
-    let last = load_sp_row s5 x ENTRY_SP_AT [] (omega arith) came.base (omega (arith, far)) (kept_in Amd64 s5 x ENTRY_SP_AT (omega arith) above) came.stands in
-    and_then Amd64 1 25 26 s s1 e refl (one_step Amd64 s s1 one) (and_then Amd64 7 18 25 s1 s2 e refl saves.steps (and_then Amd64 1 17 18 s2 s3 e refl (one_step Amd64 s2 s3 three) (and_then Amd64 1 16 17 s3 s4 e refl (one_step Amd64 s3 s4 four) (and_then Amd64 15 1 16 s4 s5 e refl came.steps (one_step Amd64 s5 e last)))))
+    let p : ℕ = s.sp - 56 in
+    let fallen : s.sp ≡ p + 56 = omega (arith, room) in
+    let area : Points Amd64 4 p 56 (entry_fallen s) = record { at = refl; based = λ e. tt; kept = λ o lies. inr (omega arith); far = omega (arith, fallen, low) } in
+    let a0 = begins Amd64 s (host_rows Amd64 from 0 Entry) tt is.code in
+    let a1 = sums_sp 4 8 p (disp32 0xC8 0xFF 0xFF 0xFF) (lea_says 0xC8 0xFF 0xFF 0xFF) (falls s.sp p 56 18446744073709551560 fallen refl low) a0 in
+    let a2 = stores 8 0 4 p 56 (in_area 0 (stub_area Amd64)) area_store_law refl refl area a1 in
+    let a3 = copies 11 from 3 x (pos 0) (source_of Amd64 8 11 refl) (copy_says from source.in_range) (from_source Amd64 from (entry_saved s) source (in_half x is.high)) a2 in
+    let a4 = stores_sp 11 x 552 AREA_AT 7 (store_general 4 AREA_AT (lit< tt) (lit< tt)) refl (lit≤ tt) (points Amd64 11 x (entry_based x s) refl refl is.high above) a3 in
+    let a5 = stores 25 8 11 x 552 (in_exchange (entry_stores Amd64)) store_law refl refl (points Amd64 11 x (entry_noted x s) refl refl is.high above) a4 in
+    let a6 = loads_sp 11 x 552 ENTRY_SP_AT 7 (load_general 4 ENTRY_SP_AT (lit< tt) (lit< tt)) (λ v. refl) (lit≤ tt) (points Amd64 11 x (entry_passed x s) refl refl is.high above) a5 in
+    a6.led.steps
 
 has_entered : (s : Processor) (from x : ℕ) → (x + 552 ≤ s.sp - 56) ⊎ (s.sp ≤ x) → 56 ≤ s.sp → HasEntered Amd64 x (s.pc + length (host_bytes Amd64 from 0 Entry)) s (after_entry x s)
-unfolding host_bytes place misses are_spread
-has_entered s from x above room =
+unfolding host_bytes are_spread are_clear are_below are_disjoint Stand Misses
+has_entered s from x apart room =
     let w : Processor = entry_fallen s in
     let t : Processor = entry_noted x s in
-    let e : Processor = after_entry x s in
+    let p : Processor = entry_passed x s in
     let v : ℕ = s.sp - 56 in
-    let first : w.sp + 0 ≡ v = omega arith in
-    let behind : e.pc ≡ s.pc + length (host_bytes Amd64 from 0 Entry) = omega arith in
-    let around : (a : ℕ) → IsOutside v s.sp a → (entry_saved s).memory a ≡ s.memory a = λ a out. area_outside Amd64 0 (stub_area Amd64) w a (⊎_elim (λ h. inl (omega (arith, h))) (λ h. inr (omega (arith, h, room))) out) in
-    let same : (l : Loc) → same_loc l (G 11) ≡ false → held l t ≡ held l s = λ l out. set_other 11 x l s t refl refl out in
-    let area : (a : ℕ) → v ≤ a → a < v + 8 * length (stub_area Amd64) → e.memory a ≡ (entry_saved s).memory a = λ a low high.
-    let below : a < s.sp = omega (arith, high, room) in
-    let out : (a < x) ⊎ (x + 552 ≤ a) = outside_region a x v s.sp low below above in
-    exchange_outside Amd64 11 x (entry_stores Amd64) t a (⊎_elim (λ h. inl h) (λ h. inr (omega (arith, h))) out) refl ∙ byte_other (x + AREA_AT) v a (entry_saved s).memory (⊎_elim (λ h. inl (omega (arith, h))) (λ h. inr (omega (arith, h))) out) in
-    let word : bytes_at (entry_saved s).memory (x + ENTRY_SP_AT) 8 ≡ bytes_at s.memory (x + ENTRY_SP_AT) 8 = bytes_alike (entry_saved s).memory s.memory (x + ENTRY_SP_AT) 8 (λ a low high. around a (region_outside a x v s.sp (omega (arith, low)) (omega (arith, high)) above)) in
+    let ms : List (Loc × ℕ) = in_exchange (entry_stores Amd64) in
+    let behind : (after_entry x s).pc ≡ s.pc + length (host_bytes Amd64 from 0 Entry) = omega arith in
+    let rises : v + 8 * length (stub_area Amd64) ≤ s.sp = omega (arith, room) in
+    let told : (l : Loc) → is_in l (G 11 ∷ []) ≡ false → held l t ≡ held l s = λ l out. received_other 3 x l (G 11) (entry_saved s) (neither (same_loc l (G 11)) false out).0 in
     record {
-      saved = area_still v (stub_area Amd64) s (entry_saved s) e area (went_to_area Amd64 0 v (stub_area Amd64) w first);
-      stored = went_from 11 x (entry_stores Amd64) s t e refl same (went_to_exchange Amd64 11 x (entry_stores Amd64) t refl);
-      area = exchange_beyond Amd64 11 x (entry_stores Amd64) t AREA_AT (omega arith) refl ∙ word_put (x + AREA_AT) v (entry_saved s).memory;
-      others = λ l out. same l (neither (same_loc l (G 11)) false out).0;
-      sp = ap (number_of 8) (exchange_beyond Amd64 11 x (entry_stores Amd64) t ENTRY_SP_AT (omega arith) refl ∙ bytes_other (x + AREA_AT) v (entry_saved s).memory (x + ENTRY_SP_AT) 8 (inl (omega arith)) ∙ word);
+      saved = words_saved Amd64 11 x v s.sp (stub_area Amd64) ms w t refl apart rises refl refl;
+      stored = stand_from x ms (G 11 ∷ []) s t p.memory refl told (went Amd64 11 x ms t refl);
+      area = word_for_exit Amd64 11 x v s.sp (stub_area Amd64) ms w t refl apart rises refl;
+      others = told;
+      sp = ap (number_of 8) (word_of_sp Amd64 11 x v s.sp (stub_area Amd64) ms w t refl apart rises refl refl);
       pc = behind;
-      memory = λ a low region word_out. places_outside Amd64 11 x (entry_stores Amd64) t a region ∙ byte_other (x + AREA_AT) v a (entry_saved s).memory (⊎_elim (λ h. inl h) (λ h. inr (omega (arith, h))) word_out) ∙ around a low;
+      memory = λ a low region word_out. elsewhere Amd64 11 x v s.sp (stub_area Amd64) ms w t refl apart rises a refl low region word_out;
       limit = refl;
       code = refl;
     }
 
-pub enters : (from : ℕ) → from < 16 → from ≢ 4 → Enters Amd64 from (host_bytes Amd64 from 0 Entry)
-enters from in_range not_sp s is sixteen low room to =
+pub enters : (from : ℕ) → IsSource Amd64 from → Enters Amd64 from (host_bytes Amd64 from 0 Entry)
+enters from source s is sixteen low room to =
     let x : ℕ = s.general from in
     let fits : 56 ≤ s.sp = omega (arith, room) in
     let in_stack : s.limit ≤ s.sp - 56 = omega (arith, room) in
-    let region : (x + 552 ≤ s.sp - 56) ⊎ (s.sp ≤ x) = apart_from x s.limit (s.sp - 56) s.sp in_stack is.region in
-    let after : IsRegionKept x (s.sp - 56) s = ⊎_elim (λ h. inl h) (λ h. inr (omega (arith, h))) is.region in
-    (after_entry x s, in_turn Amd64 26 s (after_entry x s) (entry_runs s from in_range not_sp is.high after fits low is.code), has_entered s from x region fits)
+    let apart : (x + 552 ≤ s.sp - 56) ⊎ (s.sp ≤ x) = apart_from x s.limit (s.sp - 56) s.sp in_stack is.region in
+    let above : IsRegionKept x (s.sp - 56) s = ⊎_elim (λ h. inl h) (λ h. inr (omega (arith, h))) is.region in
+    (after_entry x s, in_turn Amd64 26 s (after_entry x s) (entry_runs s from source is above low fits), has_entered s from x apart fits)

@@ -1,5 +1,5 @@
 -- The stubs and the slot of each instruction set, by any register, gap and distance.
-use Rattle.std.proofs.Common.{◌≡◌, ◌≢◌, ℕ, ◌≤◌, ◌==◌, Bool, true, false, refl, ap}
+use Rattle.std.proofs.Common.{◌≡◌, ℕ, ◌≤◌, refl}
 use Rattle.ffi3_type_spec.specs.declared.Isa.{Isa}
 use Rattle.ffi3_type_spec.specs.declared.Isa.TheVariants.{Amd64, Aarch64, Riscv}
 use Rattle.ffi3_machine_spec.specs.Stubs.{Call, Entry, Exit, Return, rows}
@@ -14,36 +14,25 @@ use Rattle.ffi3_host_stubs.proofs.Amd64Slot as amd64_slot
 use Rattle.ffi3_host_stubs.proofs.Aarch64Slot as aarch64_slot
 use Rattle.ffi3_host_stubs.proofs.RiscvSlot as riscv_slot
 
-zero_is : (k : ℕ) → k ≡ 0 → (k == 0) ≡ true
-zero_is k e = ap (λ (n : ℕ). n == 0) e
-
-never : (b : Bool) → b ≡ true → b ≡ false → ⊥
-never true e f = absurd cc
-never false e f = absurd cc
-
--- a register of RISC-V that is not always 0
-some : (k : ℕ) → (k == 0) ≡ false → k ≢ 0
-some k h e = never (k == 0) (zero_is k e) h
-
 pub all_call : (isa : Isa) (from : ℕ) → IsSource isa from → Calls isa from (host_bytes isa from 0 Call)
-all_call Amd64 from is = amd64.calls_by from is.in_range is.not_sp
-all_call Aarch64 from is = aarch64.calls_by from is.in_range is.not_sp
-all_call Riscv from is = riscv.calls_by from is.in_range is.not_sp (some from is.not_zero)
+all_call Amd64 from is = amd64.calls_by from is
+all_call Aarch64 from is = aarch64.calls_by from is
+all_call Riscv from is = riscv.calls_by from is
 
 pub all_return : (isa : Isa) (from : ℕ) → IsSource isa from → Returns isa from (host_bytes isa from 0 Return)
-all_return Amd64 from is = amd64.returns_back from is.in_range is.not_sp
-all_return Aarch64 from is = aarch64.returns_back from is.in_range is.not_sp
-all_return Riscv from is = riscv.returns_back from is.in_range is.not_sp (some from is.not_zero)
+all_return Amd64 from is = amd64.returns_back from is
+all_return Aarch64 from is = aarch64.returns_back from is
+all_return Riscv from is = riscv.returns_back from is
 
 pub all_enter : (isa : Isa) (from : ℕ) → IsSource isa from → Enters isa from (host_bytes isa from 0 Entry)
-all_enter Amd64 from is = amd64.enters from is.in_range is.not_sp
-all_enter Aarch64 from is = aarch64.enters from is.in_range is.not_sp
-all_enter Riscv from is = riscv.enters from is.in_range is.not_sp (some from is.not_zero)
+all_enter Amd64 from is = amd64.enters from is
+all_enter Aarch64 from is = aarch64.enters from is
+all_enter Riscv from is = riscv.enters from is
 
 pub all_leave : (isa : Isa) (from gap : ℕ) → IsSource isa from → gap ≤ most_gap → Leaves isa from gap (host_bytes isa from gap Exit)
-all_leave Amd64 from gap is room = amd64.leaves from gap is.in_range is.not_sp room
-all_leave Aarch64 from gap is room = aarch64.leaves from gap is.in_range is.not_sp room
-all_leave Riscv from gap is room = riscv.leaves from gap is.in_range is.not_sp (some from is.not_zero) room
+all_leave Amd64 from gap is room = amd64.leaves from gap is room
+all_leave Aarch64 from gap is room = aarch64.leaves from gap is room
+all_leave Riscv from gap is room = riscv.leaves from gap is room
 
 pub all_reach : (isa : Isa) (d : ℕ) → CanReach isa d → Reaches isa d (slot_code isa d)
 all_reach Amd64 d can = amd64_slot.reaches d can.0 can.1

@@ -1,11 +1,11 @@
 pub mod Standing
 pub mod Effects
 pub mod Memory
+pub mod Rows
+pub mod EntryMemory
 pub mod Amd64Rows
-pub mod Amd64Segments
 pub mod Amd64Stubs
 pub mod Amd64Slot
-pub mod WordSegments
 pub mod Aarch64Rows
 pub mod Aarch64Stubs
 pub mod Aarch64Slot

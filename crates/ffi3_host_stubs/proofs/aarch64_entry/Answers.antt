@@ -1,8 +1,10 @@
-use Rattle.std.proofs.Common.{refl, arith}
+use Rattle.std.proofs.Common.{refl}
+use Rattle.ffi3_type_spec.specs.declared.Isa.TheVariants.{Aarch64}
 use Rattle.ffi3_host_stubs.specs.Stubs.{host_bytes}
-use Rattle.ffi3_host_stubs.proofs.Aarch64Stubs.{enters}
+use Rattle.ffi3_host_stubs.proofs.Rows.{names, source_of}
+use Rattle.ffi3_host_stubs.proofs.Laws.{all_enter}
 use Rattle.ffi3_host_stubs.proofs.aarch64_entry.Goals as goal
 
 pub returns : goal.returns
-unfolding host_bytes
-returns c = record { bytes = refl; enters = enters 9 (omega arith) (λ e. omega (arith, e)) }
+unfolding host_bytes names
+returns c = record { bytes = refl; enters = all_enter Aarch64 9 (source_of Aarch64 0 9 refl) }

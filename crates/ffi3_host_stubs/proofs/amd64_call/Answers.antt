@@ -1,8 +1,10 @@
-use Rattle.std.proofs.Common.{refl, arith}
+use Rattle.std.proofs.Common.{refl}
+use Rattle.ffi3_type_spec.specs.declared.Isa.TheVariants.{Amd64}
 use Rattle.ffi3_host_stubs.specs.Stubs.{host_bytes}
-use Rattle.ffi3_host_stubs.proofs.Amd64Stubs.{calls_by}
+use Rattle.ffi3_host_stubs.proofs.Rows.{names, source_of}
+use Rattle.ffi3_host_stubs.proofs.Laws.{all_call}
 use Rattle.ffi3_host_stubs.proofs.amd64_call.Goals as goal
 
 pub returns : goal.returns
-unfolding host_bytes
-returns c = record { bytes = refl; calls = calls_by 7 (omega arith) (λ e. omega (arith, e)) }
+unfolding host_bytes names
+returns c = record { bytes = refl; calls = all_call Amd64 7 (source_of Amd64 0 7 refl) }

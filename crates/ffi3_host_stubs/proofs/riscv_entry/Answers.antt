@@ -1,8 +1,10 @@
-use Rattle.std.proofs.Common.{refl, arith}
+use Rattle.std.proofs.Common.{refl}
+use Rattle.ffi3_type_spec.specs.declared.Isa.TheVariants.{Riscv}
 use Rattle.ffi3_host_stubs.specs.Stubs.{host_bytes}
-use Rattle.ffi3_host_stubs.proofs.RiscvStubs.{enters}
+use Rattle.ffi3_host_stubs.proofs.Rows.{names, source_of}
+use Rattle.ffi3_host_stubs.proofs.Laws.{all_enter}
 use Rattle.ffi3_host_stubs.proofs.riscv_entry.Goals as goal
 
 pub returns : goal.returns
-unfolding host_bytes
-returns c = record { bytes = refl; enters = enters 5 (omega arith) (λ e. omega (arith, e)) (λ e. omega (arith, e)) }
+unfolding host_bytes names
+returns c = record { bytes = refl; enters = all_enter Riscv 5 (source_of Riscv 0 5 refl) }

@@ -1,8 +1,10 @@
-use Rattle.std.proofs.Common.{refl, arith}
+use Rattle.std.proofs.Common.{refl, lit≤}
+use Rattle.ffi3_type_spec.specs.declared.Isa.TheVariants.{Riscv}
 use Rattle.ffi3_host_stubs.specs.Stubs.{host_bytes}
-use Rattle.ffi3_host_stubs.proofs.RiscvStubs.{leaves}
+use Rattle.ffi3_host_stubs.proofs.Rows.{names, source_of}
+use Rattle.ffi3_host_stubs.proofs.Laws.{all_leave}
 use Rattle.ffi3_host_stubs.proofs.riscv_exit.Goals as goal
 
 pub returns : goal.returns
-unfolding host_bytes
-returns c = record { bytes = refl; leaves = leaves 5 576 (omega arith) (λ e. omega (arith, e)) (λ e. omega (arith, e)) (omega arith) }
+unfolding host_bytes names
+returns c = record { bytes = refl; leaves = all_leave Riscv 5 576 (source_of Riscv 0 5 refl) (lit≤ tt) }

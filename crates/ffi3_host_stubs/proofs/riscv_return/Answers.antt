@@ -1,8 +1,10 @@
-use Rattle.std.proofs.Common.{refl, arith}
+use Rattle.std.proofs.Common.{refl}
+use Rattle.ffi3_type_spec.specs.declared.Isa.TheVariants.{Riscv}
 use Rattle.ffi3_host_stubs.specs.Stubs.{host_bytes}
-use Rattle.ffi3_host_stubs.proofs.RiscvStubs.{returns_back}
+use Rattle.ffi3_host_stubs.proofs.Rows.{names, source_of}
+use Rattle.ffi3_host_stubs.proofs.Laws.{all_return}
 use Rattle.ffi3_host_stubs.proofs.riscv_return.Goals as goal
 
 pub returns : goal.returns
-unfolding host_bytes
-returns c = record { bytes = refl; returns = returns_back 8 (omega arith) (λ e. omega (arith, e)) (λ e. omega (arith, e)) }
+unfolding host_bytes names
+returns c = record { bytes = refl; returns = all_return Riscv 8 (source_of Riscv 0 8 refl) }
