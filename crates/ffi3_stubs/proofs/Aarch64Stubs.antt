@@ -8,7 +8,7 @@ use Rattle.ffi3_place_spec.specs.declared.Loc.{Loc}
 use Rattle.ffi3_place_spec.specs.declared.Loc.TheVariants.{G}
 use Rattle.ffi3_machine_spec.specs.declared.stub.TheConstants.{EXCHANGE}
 use Rattle.ffi3_machine_spec.specs.State.{State, x_of}
-use Rattle.ffi3_machine.specs.MachineStep.{StepsBy}
+use Rattle.ffi3_machine.specs.MachineStep.{base, StepsBy}
 use Rattle.ffi3_place_spec.specs.StubRegisters.{call_loads, stub_area, callee_saved_words, entry_stores, result_loads}
 use Rattle.ffi3_machine_spec.specs.Stubs.{Entry, Exit, Call, Return, rows, bytes_of, stub_bytes, aarch64_row, address, load, sum, jump, calls, returns, exchange_loads, exchange_stores, area_loads, area_stores}
 use Rattle.ffi3_machine.proofs.Stubs.{lengths}
@@ -17,7 +17,7 @@ use Rattle.ffi3_stubs.proofs.Standing.{Stands, onward, TakesBy, one_step, and_th
 use Rattle.ffi3_stubs.proofs.Region.{stands, call_there, entry_there, exit_there, return_there}
 use Rattle.ffi3_stubs.proofs.Places.{load_exchange}
 use Rattle.ffi3_stubs.proofs.WordSegments.{fits, all_fit, Came, Went, exchange_loaded, exchange_stored, area_loaded, area_stored}
-use Rattle.ffi3_stubs.proofs.Aarch64Rows.{address_row, load_general_row, move_row_16, move_row_17, rise_row, fall_row, call_row, return_row}
+use Rattle.ffi3_stubs.proofs.Aarch64Rows.{address_row, load_general_row, move_row, rise_row, fall_row, call_row, return_row}
 use Rattle.ffi3_stubs.proofs.Aarch64Laws.{aarch64_laws}
 
 -- behind a row of four bytes
@@ -53,13 +53,9 @@ under64 : (a : ℕ) → a ≤ STACK_TOP → a < 2 ^ 64
 under64 a h = low_word a (omega arith)
 
 -- mov sp, through a register that was loaded just before
-moved_16 : (s : State) (v : ℕ) (tail : List ℕ) → slice_index s.general 16 ≡ v → v < 2 ^ 64 → s.pc % 4 ≡ 0 → Stands Aarch64 s (aarch64_row s.pc (sum 31 16 (pos 0)) ++ tail) → StepsBy Aarch64 s (with_sp_by 4 v s)
-moved_16 s v tail is small al h =
-    subst (λ (x : ℕ). StepsBy Aarch64 s (with_sp_by 4 x s)) is (move_row_16 s tail al h (subst (λ (x : ℕ). x < 2 ^ 64) (sym is) small))
-
-moved_17 : (s : State) (v : ℕ) (tail : List ℕ) → slice_index s.general 17 ≡ v → v < 2 ^ 64 → s.pc % 4 ≡ 0 → Stands Aarch64 s (aarch64_row s.pc (sum 31 17 (pos 0)) ++ tail) → StepsBy Aarch64 s (with_sp_by 4 v s)
-moved_17 s v tail is small al h =
-    subst (λ (x : ℕ). StepsBy Aarch64 s (with_sp_by 4 x s)) is (move_row_17 s tail al h (subst (λ (x : ℕ). x < 2 ^ 64) (sym is) small))
+moved_by : (s : State) (k v : ℕ) (tail : List ℕ) → k < 31 → slice_index s.general k ≡ v → v < 2 ^ 64 → s.pc % 4 ≡ 0 → Stands Aarch64 s (aarch64_row s.pc (sum 31 k (pos 0)) ++ tail) → base Aarch64 k s ≡ slice_index s.general k → StepsBy Aarch64 s (with_sp_by 4 v s)
+moved_by s k v tail in_range is small al h at =
+    subst (λ (x : ℕ). StepsBy Aarch64 s (with_sp_by 4 x s)) is (move_row s k tail in_range al h at (subst (λ (x : ℕ). x < 2 ^ 64) (sym is) small))
 
 -- ---- Call
 
@@ -85,7 +81,7 @@ call_from s tail at count top h =
     let h2 : Stands Aarch64 s2 t2 = after s1 s2 (aarch64_row 8108 (load (G 16) 17 520)) t2 refl refl h1 in
     let base2 : slice_index s2.general 17 ≡ EXCHANGE = other_at s1.general 16 17 (x_of 520 s) EXCHANGE (ne 16 17 16 17 refl refl (omega arith)) base1 in
     let count2 : length s2.general ≡ 32 = length-set s1.general 16 (x_of 520 s) ∙ count1 in
-    let three = moved_16 s2 (x_of 520 s) t3 (same_at s1.general 16 (x_of 520 s) (omega arith) count1) (under64 (x_of 520 s) top) (omega arith) h2 in
+    let three = moved_by s2 16 (x_of 520 s) t3 (lit< tt) (same_at s1.general 16 (x_of 520 s) (omega arith) count1) (under64 (x_of 520 s) top) (omega arith) h2 refl in
     let h3 : Stands Aarch64 s3 t3 = after s2 s3 (aarch64_row 8112 (sum 31 16 (pos 0))) t3 refl refl h2 in
     let came : Came Aarch64 17 s3 s4 17 t4 = exchange_loaded Aarch64 31 18 17 18 (aarch64_laws 17 (omega arith)) (call_loads Aarch64) s3 t4 refl (omega arith) base2 count2 h3 in
     let five = load_general_row s4 16 17 512 131584 (x_of 512 s4) t5 (omega arith) (omega arith) refl (omega arith) came.aligned came.stands (ap (λ b. b + 512) came.base) (omega arith) (load_exchange Aarch64 s4 512 131584 (omega arith) refl) in
@@ -119,7 +115,7 @@ return_from s tail at count top h =
     let three = load_general_row s2 17 16 544 131616 (x_of 544 s2) t3 (omega arith) (omega arith) refl (omega arith) came.aligned came.stands (ap (λ b. b + 544) came.base) (omega arith) (load_exchange Aarch64 s2 544 131616 (omega arith) refl) in
     let h3 : Stands Aarch64 s3 t3 = after s2 s3 (aarch64_row 8220 (load (G 17) 16 544)) t3 refl refl came.stands in
     let al3 : s3.pc % 4 ≡ 0 = let x = came.aligned in omega arith in
-    let four = moved_17 s3 (x_of 544 s2) tail (same_at s2.general 17 (x_of 544 s2) (omega arith) came.count) top al3 h3 in
+    let four = moved_by s3 17 (x_of 544 s2) tail (lit< tt) (same_at s2.general 17 (x_of 544 s2) (omega arith) came.count) top al3 h3 refl in
     and_then Aarch64 1 8 9 s s1 e refl (one_step Aarch64 s s1 one) (and_then Aarch64 6 2 8 s1 s2 e refl came.steps (and_then Aarch64 1 1 2 s2 s3 e refl (one_step Aarch64 s2 s3 three) (one_step Aarch64 s3 e four)))
 
 pub return_runs : (s : State) → s.pc ≡ 8192 → length s.general ≡ 32 → x_of 544 (aarch64_taken s) < 2 ^ 64 → TakesBy Aarch64 9 s (aarch64_returned s)
@@ -157,7 +153,7 @@ entry_from s tail at count low top small h =
     let five = load_general_row s4 16 16 528 131600 (x_of 528 s4) t5 (lit< tt) (lit< tt) refl (lit< tt) came.aligned came.stands (ap (λ b. b + 528) came.base) (lit< tt) (load_exchange Aarch64 s4 528 131600 room refl) in
     let h5 : Stands Aarch64 s5 t5 = after s4 s5 (aarch64_row 4260 (load (G 16) 16 528)) t5 refl refl came.stands in
     let al5 : s5.pc % 4 ≡ 0 = next_aligned s4.pc came.aligned in
-    let six = moved_16 s5 (x_of 528 s4) tail (same_at s4.general 16 (x_of 528 s4) (lit< tt) came.count) small al5 h5 in
+    let six = moved_by s5 16 (x_of 528 s4) tail (lit< tt) (same_at s4.general 16 (x_of 528 s4) (lit< tt) came.count) small al5 h5 refl in
     and_then Aarch64 1 42 43 s s1 e refl (one_step Aarch64 s s1 one) (and_then Aarch64 21 21 42 s1 s2 e refl saves.steps (and_then Aarch64 1 20 21 s2 s3 e refl (one_step Aarch64 s2 s3 three) (and_then Aarch64 18 2 20 s3 s4 e refl came.steps (and_then Aarch64 1 1 2 s4 s5 e refl (one_step Aarch64 s4 s5 five) (one_step Aarch64 s5 e six)))))
 
 pub entry_runs : (s : State) → s.pc ≡ 4096 → length s.general ≡ 32 → STACK + 176 ≤ s.sp → s.sp ≤ STACK_TOP → x_of 528 (aarch64_passed s) < 2 ^ 64 → TakesBy Aarch64 43 s (aarch64_entered s)
@@ -193,7 +189,7 @@ exit_from s tail at count low top h =
     let h2 : Stands Aarch64 s2 t2 = after s1 s2 (aarch64_row 6148 (load (G 17) 16 536)) t2 refl refl h1 in
     let base2 : slice_index s2.general 16 ≡ EXCHANGE = other_at s1.general 17 16 (x_of 536 s) EXCHANGE (λ x. ne 16 17 16 17 refl refl (omega arith) (sym x)) base1 in
     let count2 : length s2.general ≡ 32 = length-set s1.general 17 (x_of 536 s) ∙ count1 in
-    let three = moved_17 s2 (x_of 536 s) t3 (same_at s1.general 17 (x_of 536 s) (omega arith) count1) (under64 (x_of 536 s) (omega arith)) (omega arith) h2 in
+    let three = moved_by s2 17 (x_of 536 s) t3 (lit< tt) (same_at s1.general 17 (x_of 536 s) (omega arith) count1) (under64 (x_of 536 s) (omega arith)) (omega arith) h2 refl in
     let h3 : Stands Aarch64 s3 t3 = after s2 s3 (aarch64_row 6152 (sum 31 17 (pos 0))) t3 refl refl h2 in
     let back : Came Aarch64 16 s3 s4 20 t4 = area_loaded Aarch64 31 18 16 18 (aarch64_laws 16 (lit< tt)) (callee_saved_words Aarch64) s3 0 t4 refl (at_multiple s3.pc 6156 (ap (λ i. i + 4 + 4 + 4) at) refl) refl short low within base2 count2 h3 in
     let given : Came Aarch64 16 s4 s5 6 t5 = exchange_loaded Aarch64 31 18 16 18 (aarch64_laws 16 (lit< tt)) (result_loads Aarch64) s4 t5 refl back.aligned back.base back.count back.stands in

@@ -1,25 +1,25 @@
 -- What each row of AMD64's tables does.
-use Rattle.std.proofs.Common.{◌≡◌, ◌≢◌, ℕ, ◌+◌, ◌-◌, ◌/◌, ◌%◌, ◌<◌, ◌≤◌, Bool, true, false, if◌then◌else◌, min, List, ◌++◌, length, take, drop, refl, sym, ap, ◌∙◌, arith, Option, Some, None, ℤ, pos, negsuc}
+use Rattle.std.proofs.Common.{◌≡◌, ◌≢◌, ℕ, ◌+◌, ◌-◌, ◌/◌, ◌%◌, ◌<◌, ◌≤◌, Bool, true, false, if◌then◌else◌, List, ◌++◌, length, refl, sym, ap, ◌∙◌, arith, Some, None, ℤ, pos, negsuc}
 use Rattle.std.proofs.lemmas.Bool.Decides.{nat_tests}
 use Rattle.std.proofs.lemmas.Nat.{from_le_bytes-to_le_bytes_4}
-use Rattle.std.specs.Prelude.{option_map, slice_index, nat_lt, ◌==◌, ◌||◌, unwrap_or}
-use Rattle.std.specs.List.{replace_range}
+use Rattle.std.specs.Prelude.{option_map, slice_index, nat_lt, ◌==◌, ◌||◌}
 use Rattle.std.specs.Int.{w32, byte_at, from_le_bytes, to_le_bytes}
-use Rattle.ffi3_isa.specs.declared.Instr.TheVariants.{Lea, Ld, Sd, Fld, Fsd, Addi, CallMem, Ret}
+use Rattle.ffi3_isa.specs.declared.Instr.TheVariants.{Lea, CallMem, Ret}
 use Rattle.ffi3_isa.specs.Fields.{sign_extend}
 use Rattle.ffi3_isa.specs.Amd64.{trampoline, fixed, mov_at_r11, mov_at_sp, movsd_at_r11, lea, lea_sp, call, ret, disp32}
 use Rattle.ffi3_machine_spec.specs.Encoding.{rex, mod_rm}
-use Rattle.ffi3_machine_spec.specs.Memory.{number_of, low_bytes}
+use Rattle.ffi3_machine_spec.specs.Memory.{number_of}
 use Rattle.ffi3_type_spec.specs.declared.Isa.TheVariants.{Amd64}
-use Rattle.ffi3_type_spec.specs.declared.limits.TheConstants.{STACK, STACK_TOP, CODE, CODE_END}
+use Rattle.ffi3_type_spec.specs.declared.limits.TheConstants.{STACK, STACK_TOP}
 use Rattle.ffi3_place_spec.specs.declared.Loc.TheVariants.{G, F}
-use Rattle.ffi3_machine_spec.specs.declared.stub.TheConstants.{EXCHANGE, EXCHANGE_END}
-use Rattle.ffi3_machine.specs.declared.step.Change.{Change}
-use Rattle.ffi3_machine_spec.specs.State.{State, x_of, stack_at}
+use Rattle.ffi3_machine_spec.specs.declared.stub.TheConstants.{EXCHANGE}
+use Rattle.ffi3_machine_spec.specs.State.{State, stack_at}
 use Rattle.ffi3_machine_spec.specs.Stubs.{address, load, store, sum, jump, calls_at, returns, amd64_row}
-use Rattle.ffi3_machine.specs.MachineStep.{StepsBy, has_eight, loaded, moved, next, sets, sums, floats, stores, pops, pushes, changed}
-use Rattle.ffi3_stubs.specs.Effects.{counted, addressed, received, with_sp_by, exchanged, saved, pushed, popped}
+use Rattle.ffi3_machine.specs.MachineStep.{StepsBy, loaded, moved, next, sets, stores, pops, pushes, changed}
+use Rattle.ffi3_stubs.specs.Effects.{addressed, received, with_sp_by, exchanged, saved, pushed, popped}
 use Rattle.ffi3_stubs.proofs.Standing.{Stands, plain, wraps}
+use Rattle.ffi3_stubs.proofs.Places.{along, load_stack, in_stack, takes_stack}
+use Rattle.ffi3_stubs.proofs.Instructions.{IsPlain, loads, loads_sp, exchanges, saves, sums_sp}
 
 -- ---- distances
 
@@ -39,39 +39,13 @@ disp-pos o h =
 pub up : (from o to : ℕ) → o < 2147483648 → from + o ≡ to → to < 4294967296 → moved from (disp o) ≡ to
 up from o to h e small = ap (λ (d : ℤ). moved from d) (disp-pos o h) ∙ plain from o to e small
 
-pub along : (s : State) (n : ℕ) → s.pc + n < 4294967296 → next n s ≡ s.pc + n
-along s n h = plain s.pc n (s.pc + n) refl h
-
--- ---- loads and stores
-
-has_eight-no_low : (low high addr : ℕ) → addr < low → has_eight low high addr ≡ false
-has_eight-no_low low high addr h = grind (arith, nat_tests)
-
-has_eight-no_high : (low high addr : ℕ) → high < addr + 8 → has_eight low high addr ≡ false
-has_eight-no_high low high addr h = grind (arith, nat_tests)
-
-has_eight-yes : (low high addr : ℕ) → low ≤ addr → addr + 8 ≤ high → has_eight low high addr ≡ true
-has_eight-yes low high addr h g = grind (arith, nat_tests)
-
-third_of : (b c d : Bool) (x y z w : Option ℕ) → b ≡ false → c ≡ false → d ≡ true → (if b then x else (if c then y else (if d then z else w))) ≡ z
-third_of b c d x y z w e f g = rw (e, f, g) refl
-
-first_of_two : (b : Bool) (x y : Option ℕ) → b ≡ true → (if b then x else y) ≡ x
-first_of_two b x y e = rw e refl
-
-pub load_exchange : (s : State) (o addr : ℕ) → o + 8 ≤ 552 → EXCHANGE + o ≡ addr → loaded Amd64 addr s ≡ Some (x_of o s)
-load_exchange s o addr h e =
-    let place : addr - EXCHANGE ≡ o = omega arith in
-    third_of (has_eight STACK STACK_TOP addr) (has_eight CODE CODE_END addr) (has_eight EXCHANGE EXCHANGE_END addr) _ _ _ _ (has_eight-no_low STACK STACK_TOP addr (omega arith)) (has_eight-no_high CODE CODE_END addr (omega arith)) (has_eight-yes EXCHANGE EXCHANGE_END addr (omega arith) (omega arith)) ∙ ap (λ i. Some (number_of 8 (take 8 (drop i s.exchange)))) place
-
-pub load_stack : (s : State) (addr : ℕ) → STACK ≤ addr → addr + 8 ≤ STACK_TOP → loaded Amd64 addr s ≡ Some (number_of 8 (stack_at addr 8 s))
-load_stack s addr low high =
-    first_of_two (has_eight STACK STACK_TOP addr) _ _ (has_eight-yes STACK STACK_TOP addr low high)
-
 -- ---- rows
 
 apart4 : (k : ℕ) → k ≢ 4 → (k == 4) ≡ false
 apart4 k h = grind (arith, nat_tests)
+
+plain_number : (k : ℕ) → k ≢ 4 → IsPlain Amd64 k
+plain_number k h = record { no_zero = refl; no_sp = apart4 k h }
 
 -- lea of the exchange region's address
 pub address_row : (s : State) (at k : ℕ) (tail : List ℕ) → s.pc ≡ at → k < 16 → k ≢ 4 → Stands Amd64 s (amd64_row at (address k) ++ tail) → StepsBy Amd64 s (addressed 7 k s)
@@ -101,185 +75,62 @@ pub load_general_row : (s : State) (k o addr v : ℕ) (tail : List ℕ) → k < 
 unfolding disp
 load_general_row s k o addr v tail in_range listed near h at far is =
     let high : s.pc + length (amd64_row s.pc (load (G k) 11 o) ++ tail) ≤ 10240 = h.high in
-    let behind : next 7 s ≡ s.pc + 7 = along s 7 (omega arith) in
-    let to : moved (slice_index s.general 11) (disp o) ≡ addr = up (slice_index s.general 11) o addr near at far in
-    let is_other : (k == 4) ≡ false = apart4 k listed in
-    record {
-      instr = Ld k 11 (disp o);
-      size = 7;
-      change = sets Amd64 k (s.pc + 7) v;
-      stands = record {
-        aligned = tt;
-        listed = mov_at_r11 (record { prefix = rex 1 (k / 8) 0 1; op = 0x8B; mod_reg_rm = mod_rm 2 (k % 8) 3; register = k; a = byte_at 0 o; b = byte_at 1 o; c = byte_at 2 o; d = byte_at 3 o; rest = tail; is_bytes = h.are; names = record { r = k / 8; reg = k % 8; r_in_range = omega arith; reg_in_range = omega arith; is_prefix = refl; is_mod_rm = refl; is_register = omega arith }; means = refl; is_size = refl });
-      };
-      does = ap (λ a. option_map (sets Amd64 k (next 7 s)) (loaded Amd64 a s)) to ∙ ap (option_map (sets Amd64 k (next 7 s))) is ∙ ap (λ a. Some (sets Amd64 k a v)) behind;
-      is_after = sym (ap (λ (b : Bool). changed Amd64 (record { general = if b then None else Some (k, v); floating = None; sp = if b then Some v else None; store = None; pc = s.pc + 7 }) s) is_other);
-    }
+    loads Amd64 s (G k) 11 (disp o) 7 addr v (plain_number k listed) (record { aligned = tt; listed = mov_at_r11 (record { prefix = rex 1 (k / 8) 0 1; op = 0x8B; mod_reg_rm = mod_rm 2 (k % 8) 3; register = k; a = byte_at 0 o; b = byte_at 1 o; c = byte_at 2 o; d = byte_at 3 o; rest = tail; is_bytes = h.are; names = record { r = k / 8; reg = k % 8; r_in_range = omega arith; reg_in_range = omega arith; is_prefix = refl; is_mod_rm = refl; is_register = omega arith }; means = refl; is_size = refl }) }) (along s 7 (omega arith)) (up (slice_index s.general 11) o addr near at far) is
 
 -- sp from [r11 + o]
 pub load_sp_row : (s : State) (o addr v : ℕ) (tail : List ℕ) → o < 2147483648 → Stands Amd64 s (amd64_row s.pc (load (G 4) 11 o) ++ tail) → slice_index s.general 11 + o ≡ addr → addr < 4294967296 → loaded Amd64 addr s ≡ Some v → StepsBy Amd64 s (with_sp_by 7 v s)
 unfolding disp
 load_sp_row s o addr v tail near h at far is =
     let high : s.pc + length (amd64_row s.pc (load (G 4) 11 o) ++ tail) ≤ 10240 = h.high in
-    let behind : next 7 s ≡ s.pc + 7 = along s 7 (omega arith) in
-    let to : moved (slice_index s.general 11) (disp o) ≡ addr = up (slice_index s.general 11) o addr near at far in
-    record {
-      instr = Ld 4 11 (disp o);
-      size = 7;
-      change = sets Amd64 4 (s.pc + 7) v;
-      stands = record {
-        aligned = tt;
-        listed = mov_at_r11 (record { prefix = rex 1 0 0 1; op = 0x8B; mod_reg_rm = mod_rm 2 4 3; register = 4; a = byte_at 0 o; b = byte_at 1 o; c = byte_at 2 o; d = byte_at 3 o; rest = tail; is_bytes = h.are; names = record { r = 0; reg = 4; r_in_range = omega arith; reg_in_range = omega arith; is_prefix = refl; is_mod_rm = refl; is_register = refl }; means = refl; is_size = refl });
-      };
-      does = ap (λ a. option_map (sets Amd64 4 (next 7 s)) (loaded Amd64 a s)) to ∙ ap (option_map (sets Amd64 4 (next 7 s))) is ∙ ap (λ a. Some (sets Amd64 4 a v)) behind;
-      is_after = refl;
-    }
+    loads_sp Amd64 s 11 (disp o) 7 addr v (record { aligned = tt; listed = mov_at_r11 (record { prefix = rex 1 0 0 1; op = 0x8B; mod_reg_rm = mod_rm 2 4 3; register = 4; a = byte_at 0 o; b = byte_at 1 o; c = byte_at 2 o; d = byte_at 3 o; rest = tail; is_bytes = h.are; names = record { r = 0; reg = 4; r_in_range = omega arith; reg_in_range = omega arith; is_prefix = refl; is_mod_rm = refl; is_register = refl }; means = refl; is_size = refl }) }) (along s 7 (omega arith)) (up (slice_index s.general 11) o addr near at far) is refl
 
 -- a general register from [rsp + o]
 pub load_area_row : (s : State) (k o addr v : ℕ) (tail : List ℕ) → k < 16 → k ≢ 4 → o < 2147483648 → Stands Amd64 s (amd64_row s.pc (load (G k) 4 o) ++ tail) → s.sp + o ≡ addr → addr < 4294967296 → loaded Amd64 addr s ≡ Some v → StepsBy Amd64 s (received 8 (G k) v s)
 unfolding disp
 load_area_row s k o addr v tail in_range listed near h at far is =
     let high : s.pc + length (amd64_row s.pc (load (G k) 4 o) ++ tail) ≤ 10240 = h.high in
-    let behind : next 8 s ≡ s.pc + 8 = along s 8 (omega arith) in
-    let to : moved s.sp (disp o) ≡ addr = up s.sp o addr near at far in
-    let is_other : (k == 4) ≡ false = apart4 k listed in
-    record {
-      instr = Ld k 4 (disp o);
-      size = 8;
-      change = sets Amd64 k (s.pc + 8) v;
-      stands = record { aligned = tt; listed = mov_at_sp (record { prefix = rex 1 (k / 8) 0 0; op = 0x8B; mod_reg_rm = mod_rm 2 (k % 8) 4; register = k; a = byte_at 0 o; b = byte_at 1 o; c = byte_at 2 o; d = byte_at 3 o; rest = tail; is_bytes = h.are; names = record { r = k / 8; reg = k % 8; r_in_range = omega arith; reg_in_range = omega arith; is_prefix = refl; is_mod_rm = refl; is_register = omega arith; is_listed = listed }; means = refl; is_size = refl }) };
-      does = ap (λ a. option_map (sets Amd64 k (next 8 s)) (loaded Amd64 a s)) to ∙ ap (option_map (sets Amd64 k (next 8 s))) is ∙ ap (λ a. Some (sets Amd64 k a v)) behind;
-      is_after = sym (ap (λ (b : Bool). changed Amd64 (record { general = if b then None else Some (k, v); floating = None; sp = if b then Some v else None; store = None; pc = s.pc + 8 }) s) is_other);
-    }
+    loads Amd64 s (G k) 4 (disp o) 8 addr v (plain_number k listed) (record { aligned = tt; listed = mov_at_sp (record { prefix = rex 1 (k / 8) 0 0; op = 0x8B; mod_reg_rm = mod_rm 2 (k % 8) 4; register = k; a = byte_at 0 o; b = byte_at 1 o; c = byte_at 2 o; d = byte_at 3 o; rest = tail; is_bytes = h.are; names = record { r = k / 8; reg = k % 8; r_in_range = omega arith; reg_in_range = omega arith; is_prefix = refl; is_mod_rm = refl; is_register = omega arith; is_listed = listed }; means = refl; is_size = refl }) }) (along s 8 (omega arith)) (up s.sp o addr near at far) is
 
 -- a floating register from [r11 + o]
 pub load_floating_row : (s : State) (k o addr v : ℕ) (tail : List ℕ) → k < 8 → o < 2147483648 → Stands Amd64 s (amd64_row s.pc (load (F k) 11 o) ++ tail) → slice_index s.general 11 + o ≡ addr → addr < 4294967296 → loaded Amd64 addr s ≡ Some v → StepsBy Amd64 s (received 9 (F k) v s)
 unfolding disp
 load_floating_row s k o addr v tail in_range near h at far is =
     let high : s.pc + length (amd64_row s.pc (load (F k) 11 o) ++ tail) ≤ 10240 = h.high in
-    let behind : next 9 s ≡ s.pc + 9 = along s 9 (omega arith) in
-    let to : moved (slice_index s.general 11) (disp o) ≡ addr = up (slice_index s.general 11) o addr near at far in
-    record {
-      instr = Fld k 11 (disp o);
-      size = 9;
-      change = floats k (s.pc + 9) v;
-      stands = record { aligned = tt; listed = movsd_at_r11 (record { op = 0x10; register = k; a = byte_at 0 o; b = byte_at 1 o; c = byte_at 2 o; d = byte_at 3 o; rest = tail; is_bytes = h.are; in_range = in_range; means = refl; is_size = refl }) };
-      does = ap (λ a. option_map (floats k (next 9 s)) (loaded Amd64 a s)) to ∙ ap (option_map (floats k (next 9 s))) is ∙ ap (λ a. Some (floats k a v)) behind;
-      is_after = refl;
-    }
-
--- ---- what a store changes
-
-in_exchange : (s : State) (addr o v pc : ℕ) → o + 8 ≤ 552 → EXCHANGE + o ≡ addr → changed Amd64 (record { general = None; floating = None; sp = None; store = Some (addr, v); pc = pc }) s ≡ record s { exchange = replace_range s.exchange o (o + length (low_bytes 8 v)) (low_bytes 8 v); pc = pc; steps = counted s }
-in_exchange s addr o v pc h at =
-    let place : addr - EXCHANGE ≡ o = omega arith in
-    let no : has_eight STACK STACK_TOP addr ≡ false = has_eight-no_low STACK STACK_TOP addr (omega arith) in
-    let yes : has_eight EXCHANGE EXCHANGE_END addr ≡ true = has_eight-yes EXCHANGE EXCHANGE_END addr (omega arith) (omega arith) in
-    let shape : Bool → Bool → ℕ → State = λ b c i. record s { stack = if b then replace_range s.stack (addr - STACK) (addr - STACK + length (low_bytes 8 v)) (low_bytes 8 v) else s.stack; mark = if b then min s.mark addr else s.mark; exchange = if c then replace_range s.exchange i (i + length (low_bytes 8 v)) (low_bytes 8 v) else s.exchange; pc = pc; steps = counted s } in
-    ap (λ (b : Bool). shape b (has_eight EXCHANGE EXCHANGE_END addr) (addr - EXCHANGE)) no ∙ ap (λ (c : Bool). shape false c (addr - EXCHANGE)) yes ∙ ap (λ (i : ℕ). shape false true i) place
-
-in_stack : (s : State) (sp : Option ℕ) (addr v pc : ℕ) → STACK ≤ addr → addr + 8 ≤ STACK_TOP → changed Amd64 (record { general = None; floating = None; sp = sp; store = Some (addr, v); pc = pc }) s ≡ record s { sp = unwrap_or sp s.sp; stack = replace_range s.stack (addr - STACK) (addr - STACK + length (low_bytes 8 v)) (low_bytes 8 v); mark = min s.mark addr; pc = pc; steps = counted s }
-in_stack s sp addr v pc low high =
-    let yes : has_eight STACK STACK_TOP addr ≡ true = has_eight-yes STACK STACK_TOP addr low high in
-    let no : has_eight EXCHANGE EXCHANGE_END addr ≡ false = has_eight-no_high EXCHANGE EXCHANGE_END addr (omega arith) in
-    let shape : Bool → Bool → State = λ b c. record s { sp = unwrap_or sp s.sp; stack = if b then replace_range s.stack (addr - STACK) (addr - STACK + length (low_bytes 8 v)) (low_bytes 8 v) else s.stack; mark = if b then min s.mark addr else s.mark; exchange = if c then replace_range s.exchange (addr - EXCHANGE) (addr - EXCHANGE + length (low_bytes 8 v)) (low_bytes 8 v) else s.exchange; pc = pc; steps = counted s } in
-    ap (λ (b : Bool). shape b (has_eight EXCHANGE EXCHANGE_END addr)) yes ∙ ap (λ (c : Bool). shape true c) no
-
--- a place that takes a store
-takes : (b c : Bool) (x : Option Change) → (b || c) ≡ true → (if b || c then x else None) ≡ x
-takes b c x e = rw e refl
-
-takes_exchange : (sp : Option ℕ) (pc addr o v : ℕ) → o + 8 ≤ 552 → EXCHANGE + o ≡ addr → stores sp pc addr v ≡ Some (record { general = None; floating = None; sp = sp; store = Some (addr, v); pc = pc })
-takes_exchange sp pc addr o v h at =
-    let no : has_eight STACK STACK_TOP addr ≡ false = has_eight-no_low STACK STACK_TOP addr (omega arith) in
-    let yes : has_eight EXCHANGE EXCHANGE_END addr ≡ true = has_eight-yes EXCHANGE EXCHANGE_END addr (omega arith) (omega arith) in
-    takes (has_eight STACK STACK_TOP addr) (has_eight EXCHANGE EXCHANGE_END addr) _ (ap (λ (b : Bool). b || has_eight EXCHANGE EXCHANGE_END addr) no ∙ ap (λ (c : Bool). false || c) yes)
-
-takes_stack : (sp : Option ℕ) (pc addr v : ℕ) → STACK ≤ addr → addr + 8 ≤ STACK_TOP → stores sp pc addr v ≡ Some (record { general = None; floating = None; sp = sp; store = Some (addr, v); pc = pc })
-takes_stack sp pc addr v low high =
-    let yes : has_eight STACK STACK_TOP addr ≡ true = has_eight-yes STACK STACK_TOP addr low high in
-    takes (has_eight STACK STACK_TOP addr) (has_eight EXCHANGE EXCHANGE_END addr) _ (ap (λ (b : Bool). b || has_eight EXCHANGE EXCHANGE_END addr) yes)
+    loads Amd64 s (F k) 11 (disp o) 9 addr v tt (record { aligned = tt; listed = movsd_at_r11 (record { op = 0x10; register = k; a = byte_at 0 o; b = byte_at 1 o; c = byte_at 2 o; d = byte_at 3 o; rest = tail; is_bytes = h.are; in_range = in_range; means = refl; is_size = refl }) }) (along s 9 (omega arith)) (up (slice_index s.general 11) o addr near at far) is
 
 -- a general register to [r11 + o]
 pub store_general_row : (s : State) (k o addr : ℕ) (tail : List ℕ) → k < 16 → k ≢ 4 → o + 8 ≤ 552 → Stands Amd64 s (amd64_row s.pc (store (G k) 11 o) ++ tail) → slice_index s.general 11 ≡ EXCHANGE → EXCHANGE + o ≡ addr → StepsBy Amd64 s (exchanged 7 o (slice_index s.general k) s)
 unfolding disp
 store_general_row s k o addr tail in_range listed room h base at =
     let high : s.pc + length (amd64_row s.pc (store (G k) 11 o) ++ tail) ≤ 10240 = h.high in
-    let behind : next 7 s ≡ s.pc + 7 = along s 7 (omega arith) in
-    let to : moved (slice_index s.general 11) (disp o) ≡ addr = up (slice_index s.general 11) o addr (omega arith) (omega arith) (omega arith) in
-    let is_other : (k == 4) ≡ false = apart4 k listed in
-    record {
-      instr = Sd k 11 (disp o);
-      size = 7;
-      change = record { general = None; floating = None; sp = None; store = Some (addr, slice_index s.general k); pc = s.pc + 7 };
-      stands = record { aligned = tt; listed = mov_at_r11 (record { prefix = rex 1 (k / 8) 0 1; op = 0x89; mod_reg_rm = mod_rm 2 (k % 8) 3; register = k; a = byte_at 0 o; b = byte_at 1 o; c = byte_at 2 o; d = byte_at 3 o; rest = tail; is_bytes = h.are; names = record { r = k / 8; reg = k % 8; r_in_range = omega arith; reg_in_range = omega arith; is_prefix = refl; is_mod_rm = refl; is_register = omega arith }; means = refl; is_size = refl }) };
-      does = ap (λ (b : Bool). stores None (next 7 s) (moved (slice_index s.general 11) (disp o)) (if b then s.sp else slice_index s.general k)) is_other ∙ ap (λ a. stores None a (moved (slice_index s.general 11) (disp o)) (slice_index s.general k)) behind ∙ ap (λ a. stores None (s.pc + 7) a (slice_index s.general k)) to ∙ takes_exchange None (s.pc + 7) addr o (slice_index s.general k) room at;
-      is_after = sym (in_exchange s addr o (slice_index s.general k) (s.pc + 7) room at);
-    }
+    exchanges Amd64 s (G k) 11 (disp o) 7 o addr (plain_number k listed) (record { aligned = tt; listed = mov_at_r11 (record { prefix = rex 1 (k / 8) 0 1; op = 0x89; mod_reg_rm = mod_rm 2 (k % 8) 3; register = k; a = byte_at 0 o; b = byte_at 1 o; c = byte_at 2 o; d = byte_at 3 o; rest = tail; is_bytes = h.are; names = record { r = k / 8; reg = k % 8; r_in_range = omega arith; reg_in_range = omega arith; is_prefix = refl; is_mod_rm = refl; is_register = omega arith }; means = refl; is_size = refl }) }) (along s 7 (omega arith)) (up (slice_index s.general 11) o addr (omega arith) (omega arith) (omega arith)) room at
 
 -- a floating register to [r11 + o]
 pub store_floating_row : (s : State) (k o addr : ℕ) (tail : List ℕ) → k < 8 → o + 8 ≤ 552 → Stands Amd64 s (amd64_row s.pc (store (F k) 11 o) ++ tail) → slice_index s.general 11 ≡ EXCHANGE → EXCHANGE + o ≡ addr → StepsBy Amd64 s (exchanged 9 o (slice_index s.floating k) s)
 unfolding disp
 store_floating_row s k o addr tail in_range room h base at =
     let high : s.pc + length (amd64_row s.pc (store (F k) 11 o) ++ tail) ≤ 10240 = h.high in
-    let behind : next 9 s ≡ s.pc + 9 = along s 9 (omega arith) in
-    let to : moved (slice_index s.general 11) (disp o) ≡ addr = up (slice_index s.general 11) o addr (omega arith) (omega arith) (omega arith) in
-    record {
-      instr = Fsd k 11 (disp o);
-      size = 9;
-      change = record { general = None; floating = None; sp = None; store = Some (addr, slice_index s.floating k); pc = s.pc + 9 };
-      stands = record { aligned = tt; listed = movsd_at_r11 (record { op = 0x11; register = k; a = byte_at 0 o; b = byte_at 1 o; c = byte_at 2 o; d = byte_at 3 o; rest = tail; is_bytes = h.are; in_range = in_range; means = refl; is_size = refl }) };
-      does = ap (λ a. stores None a (moved (slice_index s.general 11) (disp o)) (slice_index s.floating k)) behind ∙ ap (λ a. stores None (s.pc + 9) a (slice_index s.floating k)) to ∙ takes_exchange None (s.pc + 9) addr o (slice_index s.floating k) room at;
-      is_after = sym (in_exchange s addr o (slice_index s.floating k) (s.pc + 9) room at);
-    }
+    exchanges Amd64 s (F k) 11 (disp o) 9 o addr tt (record { aligned = tt; listed = movsd_at_r11 (record { op = 0x11; register = k; a = byte_at 0 o; b = byte_at 1 o; c = byte_at 2 o; d = byte_at 3 o; rest = tail; is_bytes = h.are; in_range = in_range; means = refl; is_size = refl }) }) (along s 9 (omega arith)) (up (slice_index s.general 11) o addr (omega arith) (omega arith) (omega arith)) room at
 
 -- a general register to [rsp + o]
 pub store_area_row : (s : State) (k o addr : ℕ) (tail : List ℕ) → k < 16 → k ≢ 4 → o < 2147483648 → Stands Amd64 s (amd64_row s.pc (store (G k) 4 o) ++ tail) → s.sp + o ≡ addr → STACK ≤ addr → addr + 8 ≤ STACK_TOP → StepsBy Amd64 s (saved 8 addr (slice_index s.general k) s)
 unfolding disp
 store_area_row s k o addr tail in_range listed near h at low top =
     let high : s.pc + length (amd64_row s.pc (store (G k) 4 o) ++ tail) ≤ 10240 = h.high in
-    let behind : next 8 s ≡ s.pc + 8 = along s 8 (omega arith) in
-    let to : moved s.sp (disp o) ≡ addr = up s.sp o addr near at (omega arith) in
-    let is_other : (k == 4) ≡ false = apart4 k listed in
-    record {
-      instr = Sd k 4 (disp o);
-      size = 8;
-      change = record { general = None; floating = None; sp = None; store = Some (addr, slice_index s.general k); pc = s.pc + 8 };
-      stands = record { aligned = tt; listed = mov_at_sp (record { prefix = rex 1 (k / 8) 0 0; op = 0x89; mod_reg_rm = mod_rm 2 (k % 8) 4; register = k; a = byte_at 0 o; b = byte_at 1 o; c = byte_at 2 o; d = byte_at 3 o; rest = tail; is_bytes = h.are; names = record { r = k / 8; reg = k % 8; r_in_range = omega arith; reg_in_range = omega arith; is_prefix = refl; is_mod_rm = refl; is_register = omega arith; is_listed = listed }; means = refl; is_size = refl }) };
-      does = ap (λ (b : Bool). stores None (next 8 s) (moved s.sp (disp o)) (if b then s.sp else slice_index s.general k)) is_other ∙ ap (λ a. stores None a (moved s.sp (disp o)) (slice_index s.general k)) behind ∙ ap (λ a. stores None (s.pc + 8) a (slice_index s.general k)) to ∙ takes_stack None (s.pc + 8) addr (slice_index s.general k) low top;
-      is_after = sym (in_stack s None addr (slice_index s.general k) (s.pc + 8) low top);
-    }
+    saves Amd64 s (G k) 4 (disp o) 8 addr (plain_number k listed) (record { aligned = tt; listed = mov_at_sp (record { prefix = rex 1 (k / 8) 0 0; op = 0x89; mod_reg_rm = mod_rm 2 (k % 8) 4; register = k; a = byte_at 0 o; b = byte_at 1 o; c = byte_at 2 o; d = byte_at 3 o; rest = tail; is_bytes = h.are; names = record { r = k / 8; reg = k % 8; r_in_range = omega arith; reg_in_range = omega arith; is_prefix = refl; is_mod_rm = refl; is_register = omega arith; is_listed = listed }; means = refl; is_size = refl }) }) (along s 8 (omega arith)) (up s.sp o addr near at (omega arith)) low top
 
 -- lea rsp, [rsp + n]
 pub rise_row : (s : State) (n to : ℕ) (tail : List ℕ) → n < 2147483648 → Stands Amd64 s (amd64_row s.pc (sum 4 4 (pos n)) ++ tail) → s.sp + n ≡ to → to < 4294967296 → StepsBy Amd64 s (with_sp_by 8 to s)
 unfolding disp
 rise_row s n to tail near h is small =
     let high : s.pc + length (amd64_row s.pc (sum 4 4 (pos n)) ++ tail) ≤ 10240 = h.high in
-    let behind : next 8 s ≡ s.pc + 8 = along s 8 (omega arith) in
-    let sp : moved s.sp (disp n) ≡ to = up s.sp n to near is small in
-    record {
-      instr = Addi 4 4 (disp n);
-      size = 8;
-      change = sums Amd64 4 (s.pc + 8) to;
-      stands = record { aligned = tt; listed = fixed (lea_sp h.are) };
-      does = λ i. Some (sums Amd64 4 (behind i) (sp i));
-      is_after = refl;
-    }
+    sums_sp Amd64 s 4 (disp n) 8 to (record { aligned = tt; listed = fixed (lea_sp h.are) }) (along s 8 (omega arith)) (up s.sp n to near is small)
 
 -- lea rsp, [rsp - 56]
 pub fall_row : (s : State) (to : ℕ) (tail : List ℕ) → Stands Amd64 s (amd64_row s.pc (sum 4 4 (negsuc 55)) ++ tail) → s.sp ≡ to + 56 → s.sp < 4294967296 → StepsBy Amd64 s (with_sp_by 8 to s)
 fall_row s to tail h is small =
     let high : s.pc + length (amd64_row s.pc (sum 4 4 (negsuc 55)) ++ tail) ≤ 10240 = h.high in
-    let behind : next 8 s ≡ s.pc + 8 = along s 8 (omega arith) in
-    let sp : moved s.sp (disp32 0xC8 0xFF 0xFF 0xFF) ≡ to = wraps s.sp 18446744073709551560 to (omega arith) (omega arith) in
-    record {
-      instr = Addi 4 4 (disp32 0xC8 0xFF 0xFF 0xFF);
-      size = 8;
-      change = sums Amd64 4 (s.pc + 8) to;
-      stands = record { aligned = tt; listed = fixed (lea_sp h.are) };
-      does = λ i. Some (sums Amd64 4 (behind i) (sp i));
-      is_after = refl;
-    }
+    sums_sp Amd64 s 4 (disp32 0xC8 0xFF 0xFF 0xFF) 8 to (record { aligned = tt; listed = fixed (lea_sp h.are) }) (along s 8 (omega arith)) (wraps s.sp 18446744073709551560 to (omega arith) (omega arith))
 
 -- call [r11 + o]
 pub call_row : (s : State) (o addr to : ℕ) (tail : List ℕ) → o < 2147483648 → Stands Amd64 s (amd64_row s.pc (jump (calls_at 11 o)) ++ tail) → slice_index s.general 11 + o ≡ addr → addr < 4294967296 → loaded Amd64 addr s ≡ Some to → STACK + 8 ≤ s.sp → s.sp ≤ STACK_TOP → StepsBy Amd64 s (pushed 7 to s)
@@ -295,7 +146,7 @@ call_row s o addr to tail near h at far is low top =
       change = record { general = None; floating = None; sp = Some (s.sp - 8); store = Some (s.sp - 8, s.pc + 7); pc = to };
       stands = record { aligned = tt; listed = fixed (call h.are) };
       does = ap (λ a. pushes (moved s.sp (negsuc 7)) (next 7 s) (loaded Amd64 a s)) through ∙ ap (pushes (moved s.sp (negsuc 7)) (next 7 s)) is ∙ (λ i. stores (Some (sp i)) to (sp i) (behind i)) ∙ takes_stack (Some (s.sp - 8)) to (s.sp - 8) (s.pc + 7) (omega arith) (omega arith);
-      is_after = sym (in_stack s (Some (s.sp - 8)) (s.sp - 8) (s.pc + 7) to (omega arith) (omega arith));
+      is_after = sym (in_stack Amd64 s (Some (s.sp - 8)) (s.sp - 8) (s.pc + 7) to (omega arith) (omega arith));
     }
 
 -- ret
@@ -307,6 +158,6 @@ return_row s tail h low top =
       size = 1;
       change = pops (s.sp + 8) (number_of 8 (stack_at s.sp 8 s));
       stands = record { aligned = tt; listed = fixed (ret h.are) };
-      does = ap (option_map (pops (moved s.sp (pos 8)))) (load_stack s s.sp low top) ∙ ap (λ a. Some (pops a (number_of 8 (stack_at s.sp 8 s)))) sp;
+      does = ap (option_map (pops (moved s.sp (pos 8)))) (load_stack Amd64 s s.sp low top) ∙ ap (λ a. Some (pops a (number_of 8 (stack_at s.sp 8 s)))) sp;
       is_after = refl;
     }

@@ -14,7 +14,8 @@ use Rattle.ffi3_machine_spec.specs.Stubs.{load, store, amd64_row, bytes_of, exch
 use Rattle.ffi3_machine.specs.MachineStep.{StepsBy}
 use Rattle.ffi3_stubs.specs.Effects.{received, exchanged, saved, from_exchange, to_exchange, from_area, to_area}
 use Rattle.ffi3_stubs.proofs.Standing.{Stands, onward, TakesBy, one_step, none_taken, and_then}
-use Rattle.ffi3_stubs.proofs.Amd64Rows.{load_exchange, load_stack, load_general_row, load_floating_row, load_area_row, store_general_row, store_floating_row, store_area_row}
+use Rattle.ffi3_stubs.proofs.Places.{load_exchange, load_stack}
+use Rattle.ffi3_stubs.proofs.Amd64Rows.{load_general_row, load_floating_row, load_area_row, store_general_row, store_floating_row, store_area_row}
 
 -- ---- tests of the tables
 
@@ -89,7 +90,7 @@ exchange_loaded (G k ∷ ls) s tail ok base count h =
     let m : State = received 7 (G k) v s in
     let rest : List ℕ = bytes_of Amd64 (s.pc + 7) (exchange_loads 11 ls) ++ tail in
     let at : slice_index s.general 11 + 8 * k ≡ EXCHANGE + 8 * k = ap (λ b. b + 8 * k) base in
-    let step : StepsBy Amd64 s m = load_general_row s k (8 * k) (EXCHANGE + 8 * k) v rest plain.in_range plain.not_sp (omega arith) h at (omega arith) (load_exchange s (8 * k) (EXCHANGE + 8 * k) (omega arith) refl) in
+    let step : StepsBy Amd64 s m = load_general_row s k (8 * k) (EXCHANGE + 8 * k) v rest plain.in_range plain.not_sp (omega arith) h at (omega arith) (load_exchange Amd64 s (8 * k) (EXCHANGE + 8 * k) (omega arith) refl) in
     joined s m _ (length ls) tail step (exchange_loaded ls m tail parts.1 (kept_base s.general k v plain.not_base base) (length-set s.general k v ∙ count) (onward Amd64 s m (amd64_row s.pc (load (G k) 11 (8 * k))) rest 7 refl refl (length-append (amd64_row s.pc (load (G k) 11 (8 * k))) rest) h))
 exchange_loaded (F k ∷ ls) s tail ok base count h =
     let parts = both (nat_lt k 8) (are_moved ls) ok in
@@ -98,7 +99,7 @@ exchange_loaded (F k ∷ ls) s tail ok base count h =
     let m : State = received 9 (F k) v s in
     let rest : List ℕ = bytes_of Amd64 (s.pc + 9) (exchange_loads 11 ls) ++ tail in
     let at : slice_index s.general 11 + (256 + 8 * k) ≡ EXCHANGE + (256 + 8 * k) = ap (λ b. b + (256 + 8 * k)) base in
-    let step : StepsBy Amd64 s m = load_floating_row s k (256 + 8 * k) (EXCHANGE + (256 + 8 * k)) v rest small (omega arith) h at (omega arith) (load_exchange s (256 + 8 * k) (EXCHANGE + (256 + 8 * k)) (omega arith) refl) in
+    let step : StepsBy Amd64 s m = load_floating_row s k (256 + 8 * k) (EXCHANGE + (256 + 8 * k)) v rest small (omega arith) h at (omega arith) (load_exchange Amd64 s (256 + 8 * k) (EXCHANGE + (256 + 8 * k)) (omega arith) refl) in
     joined s m _ (length ls) tail step (exchange_loaded ls m tail parts.1 base count (onward Amd64 s m (amd64_row s.pc (load (F k) 11 (256 + 8 * k))) rest 9 refl refl (length-append (amd64_row s.pc (load (F k) 11 (256 + 8 * k))) rest) h))
 exchange_loaded (S k w ∷ ls) s tail ok base count h = absurd cc
 
@@ -145,7 +146,7 @@ area_loaded (G k ∷ ls) s at tail ok low high base count h =
     let v : ℕ = number_of 8 (stack_at (s.sp + at) 8 s) in
     let m : State = received 8 (G k) v s in
     let rest : List ℕ = bytes_of Amd64 (s.pc + 8) (area_loads 4 (at + 8) ls) ++ tail in
-    let step : StepsBy Amd64 s m = load_area_row s k at (s.sp + at) v rest plain.in_range plain.not_sp (omega arith) h refl (omega arith) (load_stack s (s.sp + at) (omega arith) (omega arith)) in
+    let step : StepsBy Amd64 s m = load_area_row s k at (s.sp + at) v rest plain.in_range plain.not_sp (omega arith) h refl (omega arith) (load_stack Amd64 s (s.sp + at) (omega arith) (omega arith)) in
     joined s m _ (length ls) tail step (area_loaded ls m (at + 8) tail parts.1 low (omega arith) (kept_base s.general k v plain.not_base base) (length-set s.general k v ∙ count) (onward Amd64 s m (amd64_row s.pc (load (G k) 4 at)) rest 8 refl refl (length-append (amd64_row s.pc (load (G k) 4 at)) rest) h))
 area_loaded (F k ∷ ls) s at tail ok low high base count h = absurd cc
 area_loaded (S k w ∷ ls) s at tail ok low high base count h = absurd cc

@@ -13,7 +13,8 @@ use Rattle.ffi3_machine.proofs.Stubs.{lengths}
 use Rattle.ffi3_stubs.specs.Effects.{addressed, with_sp_by, amd64_placed, amd64_loaded, amd64_called, amd64_saved, amd64_passed, amd64_entered, amd64_restored, amd64_given, amd64_left, amd64_taken, amd64_returned}
 use Rattle.ffi3_stubs.proofs.Standing.{Stands, onward, TakesBy, one_step, and_then}
 use Rattle.ffi3_stubs.proofs.Region.{stands, call_there, entry_there, exit_there, return_there}
-use Rattle.ffi3_stubs.proofs.Amd64Rows.{address_row, load_sp_row, load_exchange, call_row, return_row, rise_row, fall_row}
+use Rattle.ffi3_stubs.proofs.Places.{load_exchange}
+use Rattle.ffi3_stubs.proofs.Amd64Rows.{address_row, load_sp_row, call_row, return_row, rise_row, fall_row}
 use Rattle.ffi3_stubs.proofs.Amd64Segments.{is_plain, are_moved, are_saved, Came, exchange_loaded, exchange_stored, area_loaded, area_stored}
 
 no_sp : (k : ℕ) → k ≡ 11 → k ≢ 4
@@ -39,10 +40,10 @@ call_from s tail at count low top h =
     let one = address_row s 8050 11 t1 at (omega arith) (no_sp 11 refl) h in
     let h1 : Stands Amd64 s1 t1 = onward Amd64 s s1 (amd64_row 8050 (address 11)) t1 7 refl refl (length-append (amd64_row 8050 (address 11)) t1) h in
     let base : slice_index s1.general 11 ≡ EXCHANGE = based s.general count in
-    let two = load_sp_row s1 520 131592 (x_of 520 s) t2 (omega arith) h1 (ap (λ b. b + 520) base) (omega arith) (load_exchange s1 520 131592 (omega arith) refl) in
+    let two = load_sp_row s1 520 131592 (x_of 520 s) t2 (omega arith) h1 (ap (λ b. b + 520) base) (omega arith) (load_exchange Amd64 s1 520 131592 (omega arith) refl) in
     let h2 : Stands Amd64 s2 t2 = onward Amd64 s1 s2 (amd64_row 8057 (load (G 4) 11 520)) t2 7 refl refl (length-append (amd64_row 8057 (load (G 4) 11 520)) t2) h1 in
     let came : Came s2 s3 15 t3 = exchange_loaded (call_loads Amd64) s2 t3 refl base (sized s.general count) h2 in
-    let last = call_row s3 512 131584 (x_of 512 s3) tail (omega arith) came.stands (ap (λ b. b + 512) came.base) (omega arith) (load_exchange s3 512 131584 (omega arith) refl) low top in
+    let last = call_row s3 512 131584 (x_of 512 s3) tail (omega arith) came.stands (ap (λ b. b + 512) came.base) (omega arith) (load_exchange Amd64 s3 512 131584 (omega arith) refl) low top in
     and_then Amd64 1 17 18 s s1 (amd64_called s) refl (one_step Amd64 s s1 one) (and_then Amd64 1 16 17 s1 s2 (amd64_called s) refl (one_step Amd64 s1 s2 two) (and_then Amd64 15 1 16 s2 s3 (amd64_called s) refl came.steps (one_step Amd64 s3 (amd64_called s) last)))
 
 pub call_runs : (s : State) → s.pc ≡ 8050 → length s.general ≡ 32 → STACK + 8 ≤ x_of 520 s → x_of 520 s ≤ STACK_TOP → TakesBy Amd64 18 s (amd64_called s)
@@ -63,7 +64,7 @@ return_from s tail at count h =
     let h1 : Stands Amd64 s1 t1 = onward Amd64 s s1 (amd64_row 8192 (address 11)) t1 7 refl refl (length-append (amd64_row 8192 (address 11)) t1) h in
     let base : slice_index s1.general 11 ≡ EXCHANGE = based s.general count in
     let came : Came s1 s2 4 t2 = exchange_stored (result_loads Amd64) s1 t2 refl base (sized s.general count) h1 in
-    let last = load_sp_row s2 544 131616 (x_of 544 s2) tail (omega arith) came.stands (ap (λ b. b + 544) came.base) (omega arith) (load_exchange s2 544 131616 (omega arith) refl) in
+    let last = load_sp_row s2 544 131616 (x_of 544 s2) tail (omega arith) came.stands (ap (λ b. b + 544) came.base) (omega arith) (load_exchange Amd64 s2 544 131616 (omega arith) refl) in
     and_then Amd64 1 5 6 s s1 (amd64_returned s) refl (one_step Amd64 s s1 one) (and_then Amd64 4 1 5 s1 s2 (amd64_returned s) refl came.steps (one_step Amd64 s2 (amd64_returned s) last))
 
 pub return_runs : (s : State) → s.pc ≡ 8192 → length s.general ≡ 32 → TakesBy Amd64 6 s (amd64_returned s)
@@ -89,7 +90,7 @@ exit_from s tail at count low top h =
     let one = address_row s 6144 11 t1 at (omega arith) (no_sp 11 refl) h in
     let h1 : Stands Amd64 s1 t1 = onward Amd64 s s1 (amd64_row 6144 (address 11)) t1 7 refl refl (length-append (amd64_row 6144 (address 11)) t1) h in
     let base : slice_index s1.general 11 ≡ EXCHANGE = based s.general count in
-    let two = load_sp_row s1 536 131608 (x_of 536 s) t2 (omega arith) h1 (ap (λ b. b + 536) base) (omega arith) (load_exchange s1 536 131608 (omega arith) refl) in
+    let two = load_sp_row s1 536 131608 (x_of 536 s) t2 (omega arith) h1 (ap (λ b. b + 536) base) (omega arith) (load_exchange Amd64 s1 536 131608 (omega arith) refl) in
     let h2 : Stands Amd64 s2 t2 = onward Amd64 s1 s2 (amd64_row 6151 (load (G 4) 11 536)) t2 7 refl refl (length-append (amd64_row 6151 (load (G 4) 11 536)) t2) h1 in
     let back : Came s2 s3 6 t3 = area_loaded (callee_saved_words Amd64) s2 0 t3 refl low (omega arith) base (sized s.general count) h2 in
     let given : Came s3 s4 4 t4 = exchange_loaded (result_loads Amd64) s3 t4 refl back.base back.count back.stands in
@@ -125,7 +126,7 @@ entry_from s tail at count low top h =
     let three = address_row s2 4160 11 t3 here (omega arith) (no_sp 11 refl) saves.stands in
     let h3 : Stands Amd64 s3 t3 = onward Amd64 s2 s3 (amd64_row 4160 (address 11)) t3 7 refl refl (length-append (amd64_row 4160 (address 11)) t3) saves.stands in
     let came : Came s3 s4 15 t4 = exchange_stored (entry_stores Amd64) s3 t4 refl (based s.general count) (sized s.general count) h3 in
-    let last = load_sp_row s4 528 131600 (x_of 528 s4) tail (omega arith) came.stands (ap (λ b. b + 528) came.base) (omega arith) (load_exchange s4 528 131600 (omega arith) refl) in
+    let last = load_sp_row s4 528 131600 (x_of 528 s4) tail (omega arith) came.stands (ap (λ b. b + 528) came.base) (omega arith) (load_exchange Amd64 s4 528 131600 (omega arith) refl) in
     and_then Amd64 1 24 25 s s1 e refl (one_step Amd64 s s1 one) (and_then Amd64 7 17 24 s1 s2 e refl saves.steps (and_then Amd64 1 16 17 s2 s3 e refl (one_step Amd64 s2 s3 three) (and_then Amd64 15 1 16 s3 s4 e refl came.steps (one_step Amd64 s4 e last))))
 
 pub entry_runs : (s : State) → s.pc ≡ 4096 → length s.general ≡ 32 → STACK + 56 ≤ s.sp → s.sp ≤ STACK_TOP → TakesBy Amd64 25 s (amd64_entered s)

@@ -2,7 +2,7 @@
 use Rattle.std.proofs.Common.{◌≡◌, ◌≢◌, ℕ, ◌+◌, ◌-◌, ◌<◌, ◌≤◌, Bool, true, false, if◌then◌else◌, min, List, ◌++◌, length, take, drop, refl, ap, ◌∙◌, arith, Option, Some, None}
 use Rattle.std.proofs.lemmas.Bool.Decides.{nat_tests}
 use Rattle.std.proofs.lemmas.Nat.{from_le_bytes-to_le_bytes_4}
-use Rattle.std.specs.Prelude.{◌==◌, ◌||◌}
+use Rattle.std.specs.Prelude.{◌==◌, ◌||◌, unwrap_or}
 use Rattle.std.specs.List.{replace_range}
 use Rattle.std.specs.Int.{w32, to_le_bytes}
 use Rattle.ffi3_isa.specs.Fields.{first_word}
@@ -55,11 +55,11 @@ in_exchange isa s addr o v pc h at =
     let shape : Bool → Bool → ℕ → State = λ b c i. record s { stack = if b then replace_range s.stack (addr - STACK) (addr - STACK + length (low_bytes 8 v)) (low_bytes 8 v) else s.stack; mark = if b then min s.mark addr else s.mark; exchange = if c then replace_range s.exchange i (i + length (low_bytes 8 v)) (low_bytes 8 v) else s.exchange; pc = pc; steps = counted s } in
     ap (λ (b : Bool). shape b (has_eight EXCHANGE EXCHANGE_END addr) (addr - EXCHANGE)) none ∙ ap (λ (c : Bool). shape false c (addr - EXCHANGE)) there ∙ ap (λ (i : ℕ). shape false true i) place
 
-pub in_stack : (isa : Isa) (s : State) (addr v pc : ℕ) → STACK ≤ addr → addr + 8 ≤ STACK_TOP → changed isa (record { general = None; floating = None; sp = None; store = Some (addr, v); pc = pc }) s ≡ record s { stack = replace_range s.stack (addr - STACK) (addr - STACK + length (low_bytes 8 v)) (low_bytes 8 v); mark = min s.mark addr; pc = pc; steps = counted s }
-in_stack isa s addr v pc low high =
+pub in_stack : (isa : Isa) (s : State) (sp : Option ℕ) (addr v pc : ℕ) → STACK ≤ addr → addr + 8 ≤ STACK_TOP → changed isa (record { general = None; floating = None; sp = sp; store = Some (addr, v); pc = pc }) s ≡ record s { sp = unwrap_or sp s.sp; stack = replace_range s.stack (addr - STACK) (addr - STACK + length (low_bytes 8 v)) (low_bytes 8 v); mark = min s.mark addr; pc = pc; steps = counted s }
+in_stack isa s sp addr v pc low high =
     let there : has_eight STACK STACK_TOP addr ≡ true = yes STACK STACK_TOP addr low high in
     let none : has_eight EXCHANGE EXCHANGE_END addr ≡ false = no_high EXCHANGE EXCHANGE_END addr (omega arith) in
-    let shape : Bool → Bool → State = λ b c. record s { stack = if b then replace_range s.stack (addr - STACK) (addr - STACK + length (low_bytes 8 v)) (low_bytes 8 v) else s.stack; mark = if b then min s.mark addr else s.mark; exchange = if c then replace_range s.exchange (addr - EXCHANGE) (addr - EXCHANGE + length (low_bytes 8 v)) (low_bytes 8 v) else s.exchange; pc = pc; steps = counted s } in
+    let shape : Bool → Bool → State = λ b c. record s { sp = unwrap_or sp s.sp; stack = if b then replace_range s.stack (addr - STACK) (addr - STACK + length (low_bytes 8 v)) (low_bytes 8 v) else s.stack; mark = if b then min s.mark addr else s.mark; exchange = if c then replace_range s.exchange (addr - EXCHANGE) (addr - EXCHANGE + length (low_bytes 8 v)) (low_bytes 8 v) else s.exchange; pc = pc; steps = counted s } in
     ap (λ (b : Bool). shape b (has_eight EXCHANGE EXCHANGE_END addr)) there ∙ ap (λ (c : Bool). shape true c) none
 
 takes : (b c : Bool) (x : Option Change) → (b || c) ≡ true → (if b || c then x else None) ≡ x

@@ -48,14 +48,8 @@ differ a b h e = grind (arith, nat_tests)
 
 received_other : (size v : ℕ) (l m : Loc) (s : State) → same_loc l m ≡ false → held l (received size m v s) ≡ held l s
 received_other size v (G a) (G b) s h = get_or-set_other s.general b a v 0 (differ a b h)
-received_other size v (G a) (F b) s h = refl
-received_other size v (G a) (S b w) s h = refl
-received_other size v (F a) (G b) s h = refl
 received_other size v (F a) (F b) s h = get_or-set_other s.floating b a v 0 (differ a b h)
-received_other size v (F a) (S b w) s h = refl
-received_other size v (S a w) (G b) s h = refl
-received_other size v (S a w) (F b) s h = refl
-received_other size v (S a x) (S b y) s h = refl
+received_other size v _ _ s h = refl
 
 pub addressed_other : (general : List ℕ) (l : Loc) (k v : ℕ) (s t : State) → t.general ≡ slice_set s.general k v → t.floating ≡ s.floating → same_loc l (G k) ≡ false → held l t ≡ held l s
 addressed_other general (G a) k v s t e f h = ap (λ (g : List ℕ). slice_index g a) e ∙ get_or-set_other s.general k a v 0 (differ a k h)
@@ -258,8 +252,7 @@ went_to_area isa at addr (l ∷ ls) s here low high len =
 
 turned : (b : ℕ) (l : Loc) → same_loc (G b) l ≡ false → same_loc l (G b) ≡ false
 turned b (G a) h = let ne : b ≢ a = differ b a h in grind (arith, nat_tests)
-turned b (F a) h = refl
-turned b (S a w) h = refl
+turned b _ h = refl
 
 -- registers that hold the same but for one that is none of the list
 pub went_from : (b : ℕ) (ls : List Loc) (s t u : State) → is_in (G b) ls ≡ false → ((l : Loc) → same_loc l (G b) ≡ false → held l t ≡ held l s) → WentToExchange ls t u → WentToExchange ls s u

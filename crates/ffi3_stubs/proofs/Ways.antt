@@ -61,23 +61,19 @@ return_way Riscv s at is = riscv.return_runs s at is.general
 
 pub some_call : (isa : Isa) → 0 < steps_of isa Call
 some_call Amd64 = omega arith
-some_call Aarch64 = omega arith
-some_call Riscv = omega arith
+some_call _ = omega arith
 
 pub some_entry : (isa : Isa) → 0 < steps_of isa Entry
 some_entry Amd64 = omega arith
-some_entry Aarch64 = omega arith
-some_entry Riscv = omega arith
+some_entry _ = omega arith
 
 pub some_exit : (isa : Isa) → 0 < steps_of isa Exit
 some_exit Amd64 = omega arith
-some_exit Aarch64 = omega arith
-some_exit Riscv = omega arith
+some_exit _ = omega arith
 
 pub some_return : (isa : Isa) → 0 < steps_of isa Return
 some_return Amd64 = omega arith
-some_return Aarch64 = omega arith
-some_return Riscv = omega arith
+some_return _ = omega arith
 
 -- a machine is one wherever its pc is
 pub machine_at : (s : State) (pc : ℕ) → pc < 2 ^ 64 → IsMachine s → IsMachine (with_pc pc s)
@@ -101,8 +97,7 @@ machine_at s pc small is = record {
 
 pub call_word : (isa : Isa) → stub_at isa Call < 2 ^ 64
 call_word Amd64 = lit< tt
-call_word Aarch64 = lit< tt
-call_word Riscv = lit< tt
+call_word _ = lit< tt
 
 pub exit_word : (isa : Isa) → stub_at isa Exit < 2 ^ 64
 exit_word isa = lit< tt

@@ -94,8 +94,7 @@ received_base n a b c size v (S k w) s h base = base
 
 received_count : (size v : ℕ) (l : Loc) (s : State) → length s.general ≡ 32 → length (received size l v s).general ≡ 32
 received_count size v (G k) s h = length-set s.general k v ∙ h
-received_count size v (F k) s h = h
-received_count size v (S k w) s h = h
+received_count size v _ s h = h
 
 received_pc : (n a b c v : ℕ) (l : Loc) (s : State) → fits n a b c l ≡ true → (received 4 l v s).pc ≡ s.pc + 4
 unfolding fits
@@ -105,8 +104,7 @@ received_pc n a b c v (S k w) s h = absurd cc
 
 received_sp : (size v : ℕ) (l : Loc) (s : State) → (received size l v s).sp ≡ s.sp
 received_sp size v (G k) s = refl
-received_sp size v (F k) s = refl
-received_sp size v (S k w) s = refl
+received_sp size v _ s = refl
 
 sized : (isa : Isa) (s : State) (row : List ℕ) (pc pc2 k : ℕ) (rows : List Row) (tail : List ℕ) → k ≡ 4 → Stands isa s ((row ++ bytes_of isa (s.pc + k) rows) ++ tail) → Stands isa s (row ++ (bytes_of isa (s.pc + 4) rows ++ tail))
 sized isa s row pc pc2 k rows tail e h =
