@@ -42,8 +42,7 @@ no_run isa (p ∷ ps) h = by_place p.loc h.0 (no_run isa ps h.1)
     by_place : (l : Loc) → StandsIn isa 0 l → stack_runs ps ≡ [] → run_then (run_at l p) (stack_runs ps) ≡ []
     by_place (S n w) (inl low) e = absurd (omega (arith, low.0, low.1))
     by_place (S n w) (inr further) e = absurd further
-    by_place (G r) low e = e
-    by_place (F r) low e = e
+    by_place _ low e = e
 
 at_place : (isa : Isa) (p : Place) → AllByRecursion (StandsIn isa 0) (place_locs p) → HasNoRuns p
 at_place isa (Direct pieces) h = no_run isa pieces h

@@ -19,15 +19,6 @@ use Rattle.ffi3_cif.proofs.Glue.{are_glued}
 
 -- ---- what comes next
 
-pub no_bytes_next : (r n : Run) (rest : List Run) → n.len ≡ 0 → glued r rest ≡ glued r (n ∷ rest)
-no_bytes_next r n rest e = rw e refl
-
-pub longer_next : (r n : Run) (rest : List Run) → ltb 0 n.len ≡ true → goes_on r n ≡ true → glued (longer r n) rest ≡ glued r (n ∷ rest)
-longer_next r n rest some on = rw (some, on) refl
-
-pub other_next : (r n : Run) (rest : List Run) → ltb 0 n.len ≡ true → goes_on r n ≡ false → some_run r ++ glued n rest ≡ glued r (n ∷ rest)
-other_next r n rest some off = rw (some, off) refl
-
 -- ---- the runs of pieces
 
 abbrev pub first_run : Run
@@ -45,8 +36,7 @@ first_rises p start size at (q ∷ qs) h k = by_place q.loc refl (first_rises p 
     by_place (S high w) there rest k =
         let rises = h.0 start size high w at there in
         (record { at = rises.0; off = rises.1 }, k)
-    by_place (G r) there rest k = rest k
-    by_place (F r) there rest k = rest k
+    by_place _ there rest k = rest k
 
 runs_rise : (pieces : List Piece) → AreRising pieces → Neighbours Rises (stack_runs pieces)
 runs_rise [] h = tt
@@ -54,8 +44,7 @@ runs_rise (p ∷ ps) h = by_place p.loc refl (runs_rise ps h.1)
   where
     by_place : (l : Loc) → p.loc ≡ l → Neighbours Rises (stack_runs ps) → Neighbours Rises (run_then (run_at l p) (stack_runs ps))
     by_place (S start w) at k = first_rises p start w at ps h.0 k
-    by_place (G r) at k = k
-    by_place (F r) at k = k
+    by_place _ at k = k
 
 pub runs_made : (pieces : List Piece) → AreRising pieces → AreRunsOf pieces (glued first_run (stack_runs pieces))
 runs_made pieces rising =
@@ -80,15 +69,13 @@ runs_made pieces rising =
 
 pub one_more : (ps : List Place) (p : Place) (rs : List (List Run)) (r : List Run) → PlacesHaveRuns ps rs → AreRunsOf (pieces_of p) r → PlacesHaveRuns (ps ++ p ∷ []) (rs ++ r ∷ [])
 one_more [] p [] r h k = (k, tt)
-one_more [] p (s ∷ rs) r h k = absurd h
-one_more (q ∷ ps) p [] r h k = absurd h
 one_more (q ∷ ps) p (s ∷ rs) r h k = (h.0, one_more ps p rs r h.1 k)
+one_more _ p _ r h k = absurd h
 
 pub as_many : (ps : List Place) (rs : List (List Run)) → PlacesHaveRuns ps rs → length rs ≡ length ps
 as_many [] [] h = refl
-as_many [] (r ∷ rs) h = absurd h
-as_many (p ∷ ps) [] h = absurd h
 as_many (p ∷ ps) (r ∷ rs) h = ap suc (as_many ps rs h.1)
+as_many _ _ h = absurd h
 
 -- ---- one turn of the loop over pieces
 
@@ -135,14 +122,9 @@ run_ends size pieces i p n inside read e all = ends p.loc e
         let off : p.off ≡ n.off = cc in
         let len : p.len ≡ n.len = cc in
         omega (arith, here, off, len)
-    ends (G k) f = cc
-    ends (F k) f = cc
+    ends _ f = cc
 
 -- ---- one turn of the loop over places
-
-pub none_of_none : AreRunsOf [] []
-none_of_none =
-    record { has_each = λ at off c. c; has_no_other = λ at off c. c; some_bytes = tt; whole = tt; rising = tt }
 
 pub place_taken : (places : List Place) (i : ℕ) (p : Place) (all out : List (List Run)) (r : List Run) → i < length places → p ≡ slice_index_or places i p → PlacesHaveRuns (take i places) all → out ≡ all ++ r ∷ [] → AreRunsOf (pieces_of p) r → PlacesHaveRuns (take (i + 1) places) out
 place_taken places i p all out r inside read before pushed has =
@@ -156,8 +138,6 @@ all_places places i all end h =
 -- the pieces of places that have all of their values end within the values
 pub places_end : (size : ℕ) (ts : List Tree) (ps : List Place) → ((k : ℕ) → k < length ts → size_of (tree_at ts k) ≤ size) → PlacesHaveAll ts ps → AllByRecursion (PlaceEndsWithin size) ps
 places_end size [] [] small h = tt
-places_end size [] (p ∷ ps) small h = absurd h
-places_end size (t ∷ ts) [] small h = absurd h
 places_end size (t ∷ ts) (p ∷ ps) small h =
     (place_ends p h.0, places_end size ts ps (λ k below. small (suc k) (omega (arith, below))) h.1)
   where
@@ -168,6 +148,7 @@ places_end size (t ∷ ts) (p ∷ ps) small h =
     place_ends (Direct pieces) all =
         each_weaker (IsPieceOf t) (EndsWithin size) (λ p e. omega (arith, e.within, first)) pieces all.each
     place_ends (ByRef at copy) all = tt
+places_end size _ _ small h = absurd h
 
 -- ---- the accessor
 

@@ -1,4 +1,4 @@
-//! Prepared call interfaces.
+//! Call interfaces: a signature and where a standard puts its values, worked out once for all calls.
 #![tactic(auto)]
 
 ghost use Rattle.std.specs.Prelude.{◌≡◌, ◌<◌, length, IfOk, IfErr, IsSomeAnd, None, Some, slice_get};

@@ -1,5 +1,5 @@
-//! What the C library answers of an interface that is kept: one is prepared, shared, and asked for its sizes and its
-//! moves, and values go by it between memory and the registers and stack of a call.
+//! What C does with a call interface that it keeps: it prepares one, shares it, asks for its sizes and moves, and moves the
+//! values of a call by it.
 #![tactic(auto)]
 
 mod keeping;

@@ -1,4 +1,5 @@
-//! Values at the places of a plan: stored to registers and stack, and read from them, whatever has these.
+//! Puts the values of a call into the registers and stack bytes where a plan wants them, and reads them from there. What
+//! has these registers and this stack is up to the caller.
 #![tactic(auto)]
 
 ghost use Rattle.std.specs.Prelude.{◌≡◌, ℕ, ◌+◌, ◌<◌, ◌≤◌, length, get_or};

@@ -111,13 +111,12 @@ module _ (sp base : ℕ) (link : List ℕ) (linked : length link ≡ base) (x : 
     -- the leaves that stand in the pieces are read
     leaves_collected : (ps : List Piece) (out : List ℕ) → HasAgreed ps out → at + size_of t ≤ length out → (ls : List Leaf) (bs : List (List ℕ)) → AllByRecursion (EndsIn (size_of t)) ls → AllByRecursion (CoversLeaf ps) ls → LeavesStand m base ps ls bs → LeavesRead (part out at (size_of t)) ls bs
     leaves_collected ps out agreed room [] [] ends covers stand = tt
-    leaves_collected ps out agreed room [] (b ∷ bs) ends covers stand = absurd stand
-    leaves_collected ps out agreed room (l ∷ ls) [] ends covers stand = absurd stand
     leaves_collected ps out agreed room (l ∷ ls) (b ∷ bs) ends covers stand = (
       λ k h. let a = covers.0 k h in
           index_part out at (size_of t) (l.at + k) (omega (arith, ends.0, h)) ∙ agreed (l.at + k) (get_or b k 0) (stand.0 k h) a.0 a.1 a.2 a.3 a.4,
       leaves_collected ps out agreed room ls bs ends.1 covers.1 stand.1,
     )
+    leaves_collected ps out agreed room _ _ ends covers stand = absurd stand
 
     pub record IsCollectedAs (v : ValueTree) (old new : List ℕ) : Type 0 where
       pub value : value_in t (part new at (size_of t)) ≡ v
@@ -185,8 +184,6 @@ module _ (sp base : ℕ) (link : List ℕ) (linked : length link ≡ base) (x : 
     pub arguments_read : (i at : ℕ) (ts : List Tree) (ps : List Place) (vs : List ValueTree) (out : List ℕ) → at + packed_size ts ≤ length out → AreReadyIn 40 target (length x - frame_at) ts ps → OwnsArguments m base ts ps vs → AreCollectedAs at ts vs out (play (sp + base) (arguments_out i at ts ps) x out)
     arguments_read i at [] [] [] out room ready owns = record { values = refl; size = refl; before = λ k h. refl }
     arguments_read i at [] [] (v ∷ vs) out room ready owns = absurd owns
-    arguments_read i at [] (p ∷ ps) vs out room ready owns = absurd ready
-    arguments_read i at (t ∷ ts) [] vs out room ready owns = absurd ready
     arguments_read i at (t ∷ ts) (p ∷ ps) [] out room ready owns = absurd owns
     arguments_read i at (t ∷ ts) (p ∷ ps) (v ∷ vs) out room ready owns =
         let first = argument_read i at t p v out (omega (arith, room, in_room t)) ready.0 owns.0 in
@@ -205,3 +202,4 @@ module _ (sp base : ℕ) (link : List ℕ) (linked : length link ≡ base) (x : 
           before = λ k h. rest.before k (omega (arith, h)) ∙ first.within.outside k (inl h);
         } in
         subst (AreCollectedAs at (t ∷ ts) (v ∷ vs) out) (sym (play_append (sp + base) (argument_out i at t p) (arguments_out (i + 1) (at + round8 (size_of t)) ts ps) x out)) all
+    arguments_read i at _ _ vs out room ready owns = absurd ready

@@ -4,7 +4,7 @@ use Rattle.std.proofs.Common.{◌≡◌, ℕ, suc, ◌+◌, ◌*◌, ◌<◌, �
 use Rattle.std.proofs.lemmas.Int.{to_z_pos}
 use Rattle.std.proofs.lemmas.Bool.{cases_lt}
 use Rattle.std.specs.Int.{w8, w16, w32, w64, from_le_bytes, cast_signed, cast_unsigned}
-use Rattle.ffi3_type_spec.specs.Tree.{Scalar, u8, s8, u16, s16, u32, s32, u64, s64, u128, s128, float, double, pointer, x87, binary128, scalar}
+use Rattle.ffi3_type_spec.specs.Tree.{Scalar, u8, s8, u16, s16, u32, s32, x87, binary128, scalar}
 use Rattle.ffi3_type_spec.specs.Layout.{scalar_size, scalar_room}
 use Rattle.ffi3_type_spec.specs.Integer.{modulo, widened, widened_from_32}
 use Rattle.ffi3_type_spec.proofs.Widened.{read_negative}
@@ -97,53 +97,39 @@ by_bit n half whole top x low high below at_low at_high scale is =
     nothing m = omega arith
 
 zeros_1 : (bytes : List ℕ) → length bytes ≡ 1 → from_le_bytes w64 (to_eight 0 bytes) ≡ from_le_bytes w8 bytes
-zeros_1 [] l = absurd (omega arith)
 zeros_1 (a ∷ []) l =
     let same : from_le_bytes w8 (a ∷ []) ≡ a = omega arith in
     eight_of_1 a 0 ∙ omega (arith, same)
-zeros_1 (a ∷ e ∷ bytes) l = absurd (omega arith)
+zeros_1 _ l = absurd (omega arith)
 
 signs_1 : (bytes : List ℕ) → length bytes ≡ 1 → ((k : ℕ) → get_or bytes k 0 < 256) → (x : ℕ) → (from_le_bytes w8 bytes < 2 ^ 7 → x ≡ from_le_bytes w8 bytes) → (2 ^ 7 ≤ from_le_bytes w8 bytes → from_le_bytes w8 bytes < 2 ^ 8 → x ≡ from_le_bytes w8 bytes + (2 ^ 64 - 2 ^ 8)) → from_le_bytes w64 (to_eight (sign_of bytes) bytes) ≡ x
-signs_1 [] l small x low high = absurd (omega arith)
 signs_1 (a ∷ []) l small x low high =
     let same : from_le_bytes w8 (a ∷ []) ≡ a = omega arith in
     let s0 : a < 256 = small 0 in
     eight_of_1 a (a / 128 * 255) ∙ by_bit (a) (2 ^ 7) (2 ^ 8) (a / 128 * 255) x (λ h. low (omega (arith, h, same)) ∙ same) (λ h k. high (omega (arith, h, same)) (omega (arith, k, same)) ∙ ap (λ m. m + (2 ^ 64 - 2 ^ 8)) same) (omega (arith, s0)) (λ h. omega (arith, h, s0)) (λ h. omega (arith, h, s0)) 72340172838076672 refl
-signs_1 (a ∷ e ∷ bytes) l small x low high = absurd (omega arith)
+signs_1 _ l small x low high = absurd (omega arith)
 
 zeros_2 : (bytes : List ℕ) → length bytes ≡ 2 → from_le_bytes w64 (to_eight 0 bytes) ≡ from_le_bytes w16 bytes
-zeros_2 [] l = absurd (omega arith)
-zeros_2 (a ∷ []) l = absurd (omega arith)
 zeros_2 (a ∷ b ∷ []) l =
     let same : from_le_bytes w16 (a ∷ b ∷ []) ≡ a + 256 * b = omega arith in
     eight_of_2 a b 0 ∙ omega (arith, same)
-zeros_2 (a ∷ b ∷ e ∷ bytes) l = absurd (omega arith)
+zeros_2 _ l = absurd (omega arith)
 
 signs_2 : (bytes : List ℕ) → length bytes ≡ 2 → ((k : ℕ) → get_or bytes k 0 < 256) → (x : ℕ) → (from_le_bytes w16 bytes < 2 ^ 15 → x ≡ from_le_bytes w16 bytes) → (2 ^ 15 ≤ from_le_bytes w16 bytes → from_le_bytes w16 bytes < 2 ^ 16 → x ≡ from_le_bytes w16 bytes + (2 ^ 64 - 2 ^ 16)) → from_le_bytes w64 (to_eight (sign_of bytes) bytes) ≡ x
-signs_2 [] l small x low high = absurd (omega arith)
-signs_2 (a ∷ []) l small x low high = absurd (omega arith)
 signs_2 (a ∷ b ∷ []) l small x low high =
     let same : from_le_bytes w16 (a ∷ b ∷ []) ≡ a + 256 * b = omega arith in
     let s0 : a < 256 = small 0 in
     let s1 : b < 256 = small 1 in
     eight_of_2 a b (b / 128 * 255) ∙ by_bit (a + 256 * b) (2 ^ 15) (2 ^ 16) (b / 128 * 255) x (λ h. low (omega (arith, h, same)) ∙ same) (λ h k. high (omega (arith, h, same)) (omega (arith, k, same)) ∙ ap (λ m. m + (2 ^ 64 - 2 ^ 16)) same) (omega (arith, s0, s1)) (λ h. omega (arith, h, s0, s1)) (λ h. omega (arith, h, s0, s1)) 72340172838076416 refl
-signs_2 (a ∷ b ∷ e ∷ bytes) l small x low high = absurd (omega arith)
+signs_2 _ l small x low high = absurd (omega arith)
 
 zeros_4 : (bytes : List ℕ) → length bytes ≡ 4 → from_le_bytes w64 (to_eight 0 bytes) ≡ from_le_bytes w32 bytes
-zeros_4 [] l = absurd (omega arith)
-zeros_4 (a ∷ []) l = absurd (omega arith)
-zeros_4 (a ∷ b ∷ []) l = absurd (omega arith)
-zeros_4 (a ∷ b ∷ c ∷ []) l = absurd (omega arith)
 zeros_4 (a ∷ b ∷ c ∷ d ∷ []) l =
     let same : from_le_bytes w32 (a ∷ b ∷ c ∷ d ∷ []) ≡ a + 256 * b + 65536 * c + 16777216 * d = omega arith in
     eight_of_4 a b c d 0 ∙ omega (arith, same)
-zeros_4 (a ∷ b ∷ c ∷ d ∷ e ∷ bytes) l = absurd (omega arith)
+zeros_4 _ l = absurd (omega arith)
 
 signs_4 : (bytes : List ℕ) → length bytes ≡ 4 → ((k : ℕ) → get_or bytes k 0 < 256) → (x : ℕ) → (from_le_bytes w32 bytes < 2 ^ 31 → x ≡ from_le_bytes w32 bytes) → (2 ^ 31 ≤ from_le_bytes w32 bytes → from_le_bytes w32 bytes < 2 ^ 32 → x ≡ from_le_bytes w32 bytes + (2 ^ 64 - 2 ^ 32)) → from_le_bytes w64 (to_eight (sign_of bytes) bytes) ≡ x
-signs_4 [] l small x low high = absurd (omega arith)
-signs_4 (a ∷ []) l small x low high = absurd (omega arith)
-signs_4 (a ∷ b ∷ []) l small x low high = absurd (omega arith)
-signs_4 (a ∷ b ∷ c ∷ []) l small x low high = absurd (omega arith)
 signs_4 (a ∷ b ∷ c ∷ d ∷ []) l small x low high =
     let same : from_le_bytes w32 (a ∷ b ∷ c ∷ d ∷ []) ≡ a + 256 * b + 65536 * c + 16777216 * d = omega arith in
     let s0 : a < 256 = small 0 in
@@ -151,7 +137,7 @@ signs_4 (a ∷ b ∷ c ∷ d ∷ []) l small x low high =
     let s2 : c < 256 = small 2 in
     let s3 : d < 256 = small 3 in
     eight_of_4 a b c d (d / 128 * 255) ∙ by_bit (a + 256 * b + 65536 * c + 16777216 * d) (2 ^ 31) (2 ^ 32) (d / 128 * 255) x (λ h. low (omega (arith, h, same)) ∙ same) (λ h k. high (omega (arith, h, same)) (omega (arith, k, same)) ∙ ap (λ m. m + (2 ^ 64 - 2 ^ 32)) same) (omega (arith, s0, s1, s2, s3)) (λ h. omega (arith, h, s0, s1, s2, s3)) (λ h. omega (arith, h, s0, s1, s2, s3)) 72340172821233664 refl
-signs_4 (a ∷ b ∷ c ∷ d ∷ e ∷ bytes) l small x low high = absurd (omega arith)
+signs_4 _ l small x low high = absurd (omega arith)
 
 -- ---- a move's eight bytes
 
@@ -169,15 +155,7 @@ module _ (bytes : List ℕ) (small : (k : ℕ) → get_or bytes k 0 < 256) where
   widen_filled s16 narrow l = (signs_2 bytes l small (widened s16 bytes) (low_16 (from_le_bytes w16 bytes)) (high_16 (from_le_bytes w16 bytes)))
   widen_filled u32 narrow l = (zeros_4 bytes l)
   widen_filled s32 narrow l = (signs_4 bytes l small (widened s32 bytes) (low_32 (from_le_bytes w32 bytes)) (high_32 (from_le_bytes w32 bytes)))
-  widen_filled u64 narrow l = cc
-  widen_filled s64 narrow l = cc
-  widen_filled u128 narrow l = cc
-  widen_filled s128 narrow l = cc
-  widen_filled float narrow l = cc
-  widen_filled double narrow l = cc
-  widen_filled pointer narrow l = cc
-  widen_filled x87 narrow l = cc
-  widen_filled binary128 narrow l = cc
+  widen_filled _ narrow l = cc
 
   below_8 : from_le_bytes w8 bytes < 2 ^ 8
   below_8 = omega (arith, small 0)
@@ -192,12 +170,4 @@ module _ (bytes : List ℕ) (small : (k : ℕ) → get_or bytes k 0 < 256) where
   riscv_filled s16 narrow l = (signs_2 bytes l small (widened_from_32 s16 bytes) (low_16_from_32 (from_le_bytes w16 bytes)) (high_16_from_32 (from_le_bytes w16 bytes)))
   riscv_filled u32 narrow l = (signs_4 bytes l small (widened_from_32 u32 bytes) (unsigned_low (from_le_bytes w32 bytes)) (unsigned_high (from_le_bytes w32 bytes)))
   riscv_filled s32 narrow l = (signs_4 bytes l small (widened_from_32 s32 bytes) (low_32_from_32 (from_le_bytes w32 bytes)) (high_32_from_32 (from_le_bytes w32 bytes)))
-  riscv_filled u64 narrow l = cc
-  riscv_filled s64 narrow l = cc
-  riscv_filled u128 narrow l = cc
-  riscv_filled s128 narrow l = cc
-  riscv_filled float narrow l = cc
-  riscv_filled double narrow l = cc
-  riscv_filled pointer narrow l = cc
-  riscv_filled x87 narrow l = cc
-  riscv_filled binary128 narrow l = cc
+  riscv_filled _ narrow l = cc

@@ -8,7 +8,7 @@ use Rattle.std.proofs.lemmas.Nat.{le_bytes_8}
 use Rattle.std.proofs.lemmas.List.{get_or_append_left, get_or-append_right, get_or-replicate, get_or_past, length-append, length-replicate}
 use Rattle.ffi3_type_spec.specs.Value.{part}
 use Rattle.ffi3_moves.specs.declared.Kind.{Kind}
-use Rattle.ffi3_moves.specs.declared.Kind.TheVariants.{Bytes, Zero, Sign, Ones, Number, Address, Behind}
+use Rattle.ffi3_moves.specs.declared.Kind.TheVariants.{Zero, Sign}
 use Rattle.ffi3_moves.specs.Play.{moved, sign_of, to_eight}
 use Rattle.ffi3_moves.specs.Exchange.{AreBytes}
 use Rattle.ffi3_moves.proofs.Extended.{IsFilledBy}
@@ -62,8 +62,4 @@ filled_word frame source from len Zero n few are is =
 filled_word frame source from len Sign n few are is =
     let above = sign_of (part source from len) in
     eight_word (to_eight (sign_of (part source from len)) (part source from len)) n (eight_long (part source from len) few above) (eight_are (part source from len) few above (sign_small (part source from len) are) are) is
-filled_word frame source from len Bytes n few are is = absurd is
-filled_word frame source from len Ones n few are is = absurd is
-filled_word frame source from len Number n few are is = absurd is
-filled_word frame source from len Address n few are is = absurd is
-filled_word frame source from len Behind n few are is = absurd is
+filled_word frame source from len _ n few are is = absurd is

@@ -43,13 +43,11 @@ play_append frame (m ∷ ms) ns source target = play_append frame ms ns source (
 
 -- what places keep of what stood there since a store elsewhere they keep of what stood before it
 places_since : (base : ℕ) (ls : List Loc) (o a b : Image) (ts : List Tree) (ps : List Place) → AllByRecursion (IsNoneOf ls) (all_uses ts ps) → Stays base ls o a → PlacesKeep base a b ts ps → PlacesKeep base o b ts ps
-places_since base ls o a b [] [] none s keep = tt
-places_since base ls o a b [] (p ∷ ps) none s keep = tt
-places_since base ls o a b (t ∷ ts) [] none s keep = tt
 places_since base ls o a b (t ∷ ts) (p ∷ ps) none s keep = (
   keeps_since base t p ls o a b (each_first (IsNoneOf ls) (place_uses t p) (all_uses ts ps) none) s keep.0,
   places_since base ls o a b ts ps (each_rest (IsNoneOf ls) (place_uses t p) (all_uses ts ps) none) s keep.1,
 )
+places_since base ls o a b _ _ none s keep = tt
 
 -- ---- a word
 
@@ -175,8 +173,6 @@ module _ (sp base : ℕ) (link : List ℕ) (linked : length link ≡ base) where
 
     pub arguments_played : (i at : ℕ) (ts : List Tree) (ps : List Place) (x : List ℕ) → at + packed_size ts ≤ length values → frame_at ≤ length x → AreBytes x → sp + base + (length x - frame_at) < 2 ^ 64 → AreReadyIn 40 target (length x - frame_at) ts ps → AreApart (all_uses ts ps) → AreArgumentsPlayed ts ps (drop at values) x (play (sp + base) (arguments_in i at ts ps) values x)
     arguments_played i at [] [] x room long are high ready apart = record { stand = tt; kept = tt; stays = stays_none base (image_at sp link x); keeps = keeps_none x are }
-    arguments_played i at [] (p ∷ ps) x room long are high ready apart = absurd ready
-    arguments_played i at (t ∷ ts) [] x room long are high ready apart = absurd ready
     arguments_played i at (t ∷ ts) (p ∷ ps) x room long are high ready apart =
         let here : at + size_of t ≤ length values = omega (arith, room, in_room t) in
         let first = argument_played i at t p x here long are high ready.0 (apart_first (place_uses t p) (all_uses ts ps) apart) in
@@ -199,3 +195,4 @@ module _ (sp base : ℕ) (link : List ℕ) (linked : length link ≡ base) where
           keeps = keeps_both x y z first.keeps rest.keeps;
         } in
         subst (AreArgumentsPlayed (t ∷ ts) (p ∷ ps) (drop at values) x) (sym (play_append (sp + base) (argument_in i at t p) (arguments_in (i + 1) (at + round8 (size_of t)) ts ps) values x)) all
+    arguments_played i at _ _ x room long are high ready apart = absurd ready

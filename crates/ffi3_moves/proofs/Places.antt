@@ -21,9 +21,8 @@ use Rattle.ffi3_moves.proofs.Bytes.{over_inside, over_outside, over_size, over_p
 -- ---- where places stand
 
 pub place_fits : (l : Loc) (size : ℕ) → frame_at ≤ size → IsPlace (size - frame_at) l → exchange_at l + place_size l ≤ size
-place_fits (G r) size long h = omega (arith, long, h)
-place_fits (F r) size long h = omega (arith, long, h)
 place_fits (S n w) size long h = omega (arith, long, h.0)
+place_fits _ size long h = omega (arith, long, h)
 
 -- two registers of one kind
 lower_of : (a b : ℕ) → a ≢ b → (a < b) ⊎ (b < a)
@@ -45,14 +44,12 @@ apart_there room (G a) (G b) at_q at_l apart =
     elim (lower_of a b apart) [ inl below ↦ inl (omega (arith, below)) | inr above ↦ inr (omega (arith, above)) ]
 apart_there room (G a) (F b) at_q at_l apart = inl (omega (arith, at_q))
 apart_there room (G a) (S b w) at_q at_l apart = inl (omega (arith, at_q))
-apart_there room (F a) (G b) at_q at_l apart = inr (omega (arith, at_l))
 apart_there room (F a) (F b) at_q at_l apart =
     elim (lower_of a b apart) [ inl below ↦ inl (omega (arith, below)) | inr above ↦ inr (omega (arith, above)) ]
 apart_there room (F a) (S b w) at_q at_l apart = inl (omega (arith, at_q))
-apart_there room (S a v) (G b) at_q at_l apart = inr (omega (arith, at_l))
-apart_there room (S a v) (F b) at_q at_l apart = inr (omega (arith, at_l))
 apart_there room (S a v) (S b w) at_q at_l (inl below) = inl (omega (arith, below))
 apart_there room (S a v) (S b w) at_q at_l (inr above) = inr (omega (arith, above))
+apart_there room _ _ at_q at_l apart = inr (omega (arith, at_l))
 
 module _ (sp base : ℕ) (link : List ℕ) (linked : length link ≡ base) where
   -- a byte of the frame

@@ -7,7 +7,7 @@ use Rattle.ffi3_type_spec.specs.TargetIsa.{isa_of}
 use Rattle.ffi3_type_spec.specs.Tree.{Tree, void}
 use Rattle.ffi3_type_spec.specs.Layout.{size_of}
 use Rattle.ffi3_type_spec.specs.Signature.{Signature, SignatureIsPlaced, HasNoLongDouble}
-use Rattle.ffi3_type_spec.specs.Value.{ValueTree, void_value, leaf_value, struct_value, value_in, fits, part}
+use Rattle.ffi3_type_spec.specs.Value.{ValueTree, void_value, value_in, fits, part}
 use Rattle.ffi3_type_spec.proofs.Parts.{length_part}
 use Rattle.ffi3_type_spec.proofs.Placed.{placed_result_is_laid_out}
 use Rattle.ffi3_type_spec.proofs.Fitting.{value_fits}
@@ -51,8 +51,7 @@ whole_part bytes n is = take_all n bytes (omega (arith, is))
 
 void_value_of : (v : ValueTree) (out : List ℕ) → fits void v ≡ true → value_in void out ≡ v
 void_value_of void_value out f = refl
-void_value_of (leaf_value b) out f = cc
-void_value_of (struct_value vs) out f = cc
+void_value_of _ out f = cc
 
 no_value : (t : Tree) (v : ValueTree) (out : List ℕ) → t ≡ void → fits t v ≡ true → value_in t out ≡ v
 no_value t v out e fit = subst (λ u. value_in u out ≡ v) (sym e) (void_value_of v out (subst (λ u. fits u v ≡ true) e fit))

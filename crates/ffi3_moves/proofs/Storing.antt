@@ -3,24 +3,24 @@ use Rattle.std.specs.Prelude.{true, ◌/◌, ◌^◌}
 use Rattle.std.proofs.Common.{◌≡◌, ℕ, ◌+◌, ◌-◌, ◌*◌, ◌<◌, ◌≤◌, List, [], ◌∷◌, ◌++◌, length, get_or, refl, ap, sym, ◌∙◌, subst, arith}
 use Rattle.std.specs.Int.{w64, to_le_bytes, from_le_bytes}
 use Rattle.std.specs.List.{AllByRecursion}
-use Rattle.ffi3_type_spec.specs.Tree.{Tree, Scalar, void, scalar, left_out, structure, array}
+use Rattle.ffi3_type_spec.specs.Tree.{Tree, Scalar, scalar}
 use Rattle.ffi3_type_spec.specs.Layout.{scalar_size, size_of}
 use Rattle.ffi3_type_spec.specs.Integer.{scalar_of, widened, widened_from_32}
 use Rattle.ffi3_type_spec.specs.Value.{part}
 use Rattle.ffi3_type_spec.proofs.Parts.{index_part, length_part}
 use Rattle.ffi3_place_spec.specs.declared.Loc.{Loc}
-use Rattle.ffi3_place_spec.specs.declared.Loc.TheVariants.{G, F, S}
+use Rattle.ffi3_place_spec.specs.declared.Loc.TheVariants.{F}
 use Rattle.ffi3_place_spec.specs.declared.Ext.{Ext}
 use Rattle.ffi3_place_spec.specs.declared.Ext.TheVariants.{Free, Widen, Riscv, Boxed}
 use Rattle.ffi3_place_spec.specs.declared.Piece.{Piece}
 use Rattle.ffi3_place_spec.specs.Image.{Image}
-use Rattle.ffi3_place_spec.specs.Sound.{place_size, IsWhole, Apart, AreApart, IsNoneOf, IsExtended, IsPieceOf, is_floating_place, is_narrow_integer, piece_locs}
+use Rattle.ffi3_place_spec.specs.Sound.{place_size, IsWhole, AreApart, IsExtended, IsPieceOf, is_floating_place, is_narrow_integer, piece_locs}
 use Rattle.ffi3_marshal.specs.Standing.{PiecesStand}
-use Rattle.ffi3_marshal.specs.Stored.{IsPut, IsStored, KeepsAbove, Stays}
-use Rattle.ffi3_marshal.proofs.Composing.{apart_sym, none_append, same_then, stays_none}
+use Rattle.ffi3_marshal.specs.Stored.{IsPut, IsStored, IsWordPut, KeepsAbove, Stays}
+use Rattle.ffi3_marshal.proofs.Composing.{none_append, same_then, stays_none}
 use Rattle.ffi3_marshal.proofs.Filling.{boxed_stored, free_stored, from_32_stored, widened_stored}
 use Rattle.ffi3_marshal.proofs.Puts.{piece_set, word_put}
-use Rattle.ffi3_marshal.proofs.Stepping.{all_keep, all_since, all_stand_stays}
+use Rattle.ffi3_marshal.proofs.Stepping.{none_of_one, all_keep, all_since, all_stand_stays}
 use Rattle.ffi3_transfer.specs.Places.{IsPlace}
 use Rattle.ffi3_moves.specs.Play.{frame_at, moved, play, play_one, to_eight, written_over}
 use Rattle.ffi3_moves.specs.Moves.{exchange_at, filling, piece_in, pieces_in}
@@ -62,10 +62,6 @@ keeps_over x bytes l long are lies few bytes_are =
 -- ---- a float with ones above it
 
 ones_high : (bytes : List ℕ) → length bytes ≡ 4 → ((k : ℕ) → get_or bytes k 0 < 256) → from_le_bytes w64 (to_eight 255 bytes) / 2 ^ 32 ≡ 2 ^ 32 - 1
-ones_high [] l small = absurd (omega arith)
-ones_high (a ∷ []) l small = absurd (omega arith)
-ones_high (a ∷ b ∷ []) l small = absurd (omega arith)
-ones_high (a ∷ b ∷ c ∷ []) l small = absurd (omega arith)
 ones_high (a ∷ b ∷ c ∷ d ∷ []) l small =
     let s0 : a < 256 = small 0 in
     let s1 : b < 256 = small 1 in
@@ -73,26 +69,18 @@ ones_high (a ∷ b ∷ c ∷ d ∷ []) l small =
     let s3 : d < 256 = small 3 in
     let all : from_le_bytes w64 (to_eight 255 (a ∷ b ∷ c ∷ d ∷ [])) ≡ a + 256 * b + 65536 * c + 16777216 * d + 72340172821233664 * 255 = eight_of_4 a b c d 255 in
     omega (arith, all, s0, s1, s2, s3)
-ones_high (a ∷ b ∷ c ∷ d ∷ e ∷ bytes) l small = absurd (omega arith)
+ones_high _ l small = absurd (omega arith)
 
 -- ---- pieces
-
-none_of_one : (l : Loc) (ls : List Loc) → AllByRecursion (Apart l) ls → AllByRecursion (IsNoneOf (l ∷ [])) ls
-none_of_one l [] h = tt
-none_of_one l (k ∷ ls) h = ((apart_sym l k h.0, tt), none_of_one l ls h.1)
 
 -- a floating register has eight bytes
 floating_whole : (l : Loc) → is_floating_place l ≡ true → IsWhole l
 floating_whole (F r) h = refl
-floating_whole (G r) h = cc
-floating_whole (S n w) h = cc
+floating_whole _ h = cc
 
 scalar_is : (t : Tree) → is_narrow_integer t ≡ true → t ≡ scalar (scalar_of t)
-scalar_is void narrow = cc
-scalar_is (left_out k) narrow = cc
-scalar_is (structure ts) narrow = cc
-scalar_is (array ts n) narrow = cc
 scalar_is (scalar s) narrow = refl
+scalar_is _ narrow = cc
 
 module _ (sp base : ℕ) (link : List ℕ) (linked : length link ≡ base) (frame : ℕ) (values : List ℕ) (values_are : AreBytes values) (i at : ℕ) (t : Tree) (room : at + size_of t ≤ length values) where
   abbrev value : List ℕ
@@ -173,49 +161,27 @@ module _ (sp base : ℕ) (link : List ℕ) (linked : length link ≡ base) (fram
     few : length source ≤ 8
     few = omega (arith, source_long, of.short)
 
-    widen_word : (s : Scalar) → is_narrow_integer (scalar s) ≡ true → length value ≡ scalar_size s → source ≡ value → AreWord (moved (filling Widen s) frame values (at + p.off) p.len) (widened s value)
-    widen_word s narrow many same =
-        filled_word frame values (at + p.off) p.len (filling Widen s) (widened s value) few source_are (subst (λ z. IsFilledBy source (filling Widen s) (widened s z)) same (widen_filled source source_are s narrow (ap length same ∙ many)))
-
-    riscv_word : (s : Scalar) → is_narrow_integer (scalar s) ≡ true → length value ≡ scalar_size s → source ≡ value → AreWord (moved (filling Riscv s) frame values (at + p.off) p.len) (widened_from_32 s value)
-    riscv_word s narrow many same =
-        filled_word frame values (at + p.off) p.len (filling Riscv s) (widened_from_32 s value) few source_are (subst (λ z. IsFilledBy source (filling Riscv s) (widened_from_32 s z)) same (riscv_filled source source_are s narrow (ap length same ∙ many)))
-
-    value_sized : t ≡ scalar (scalar_of t) → is_narrow_integer t ≡ true → length value ≡ scalar_size (scalar_of t)
-    value_sized alone narrow =
-        sized ∙ ap size_of alone ∙ narrow_room (scalar_of t) (subst (λ u. is_narrow_integer u ≡ true) alone narrow)
-
-    widen_moved : p.ext ≡ Widen → IsExtended t p Widen → IsMoved
-    widen_moved ext e =
-        let is : bytes ≡ moved (filling Widen (scalar_of t)) frame values (at + p.off) p.len = ap (λ e. moved (filling e (scalar_of t)) frame values (at + p.off) p.len) ext in
-        let alone = scalar_is t e.0 in
-        let n = widened (scalar_of t) value in
-        let word = subst (λ z. AreWord z (widened (scalar_of t) value)) (sym is) (widen_word (scalar_of t) (subst (λ u. is_narrow_integer u ≡ true) alone e.0) (value_sized alone e.0) (whole e.1 e.2)) in
-        let put = word_moved e.3 n word in
-        let put_word = word_put base p.loc n bytes (image_at sp link x) (image_at sp link after) e.3 word.small word.is put.0 in
+    -- a number that it is extended to is moved
+    number_moved : (e : Ext) (f : Scalar → List ℕ → ℕ) → p.ext ≡ e → (is_narrow_integer t ≡ true) × (p.off ≡ 0) × (p.len ≡ size_of t) × IsWhole p.loc → ((s : Scalar) → is_narrow_integer (scalar s) ≡ true → length source ≡ scalar_size s → IsFilledBy source (filling e s) (f s source)) → ((w : ℕ) → w ≡ f (scalar_of t) value → IsWordPut base p.loc w (image_at sp link x) (image_at sp link after) → IsStored base t value p (image_at sp link x) (image_at sp link after)) → IsMoved
+    number_moved e f ext lone filled store =
+        let is : bytes ≡ moved (filling e (scalar_of t)) frame values (at + p.off) p.len = ap (λ e. moved (filling e (scalar_of t)) frame values (at + p.off) p.len) ext in
+        let alone = scalar_is t lone.0 in
+        let narrow = subst (λ u. is_narrow_integer u ≡ true) alone lone.0 in
+        let many = sized ∙ ap size_of alone ∙ narrow_room (scalar_of t) narrow in
+        let same = whole lone.1 lone.2 in
+        let fills = subst (λ z. IsFilledBy source (filling e (scalar_of t)) (f (scalar_of t) z)) same (filled (scalar_of t) narrow (ap length same ∙ many)) in
+        let word = subst (λ z. AreWord z (f (scalar_of t) value)) (sym is) (filled_word frame values (at + p.off) p.len (filling e (scalar_of t)) (f (scalar_of t) value) few source_are fills) in
+        let put = word_moved lone.3 (f (scalar_of t) value) word in
         record {
-          stored = widened_stored base value p (image_at sp link x) (image_at sp link after) value_are t n ext e sized refl put_word;
-          keeps = put.1;
-        }
-
-    riscv_moved : p.ext ≡ Riscv → IsExtended t p Riscv → IsMoved
-    riscv_moved ext e =
-        let is : bytes ≡ moved (filling Riscv (scalar_of t)) frame values (at + p.off) p.len = ap (λ e. moved (filling e (scalar_of t)) frame values (at + p.off) p.len) ext in
-        let alone = scalar_is t e.0 in
-        let n = widened_from_32 (scalar_of t) value in
-        let word = subst (λ z. AreWord z (widened_from_32 (scalar_of t) value)) (sym is) (riscv_word (scalar_of t) (subst (λ u. is_narrow_integer u ≡ true) alone e.0) (value_sized alone e.0) (whole e.1 e.2)) in
-        let put = word_moved e.3 n word in
-        let put_word = word_put base p.loc n bytes (image_at sp link x) (image_at sp link after) e.3 word.small word.is put.0 in
-        record {
-          stored = from_32_stored base value p (image_at sp link x) (image_at sp link after) value_are t n ext e sized refl put_word;
+          stored = store (f (scalar_of t) value) refl (word_put base p.loc (f (scalar_of t) value) bytes (image_at sp link x) (image_at sp link after) lone.3 word.small word.is put.0);
           keeps = put.1;
         }
 
     by_ext : (e : Ext) → p.ext ≡ e → IsExtended t p e → IsMoved
     by_ext Free ext e = free_moved ext
     by_ext Boxed ext e = boxed_moved ext e
-    by_ext Widen ext e = widen_moved ext e
-    by_ext Riscv ext e = riscv_moved ext e
+    by_ext Widen ext e = number_moved Widen widened ext e (widen_filled source source_are) (λ w is put. widened_stored base value p (image_at sp link x) (image_at sp link after) value_are t w ext e sized is put)
+    by_ext Riscv ext e = number_moved Riscv widened_from_32 ext e (riscv_filled source source_are) (λ w is put. from_32_stored base value p (image_at sp link x) (image_at sp link after) value_are t w ext e sized is put)
 
     pub piece_moved : IsMoved
     piece_moved = by_ext p.ext refl of.extended

@@ -4,7 +4,7 @@ use Rattle.std.proofs.Common.{◌≡◌, ℕ, ◌+◌, ◌-◌, ◌*◌, ◌<◌
 use Rattle.std.specs.Int.{w64, to_le_bytes}
 use Rattle.std.specs.List.{AllByRecursion}
 use Rattle.ffi3_type_spec.specs.declared.Isa.{Isa}
-use Rattle.ffi3_type_spec.specs.declared.Isa.TheVariants.{Amd64, Aarch64, Riscv}
+use Rattle.ffi3_type_spec.specs.declared.Isa.TheVariants.{Amd64}
 use Rattle.ffi3_type_spec.specs.Signature.{Signature, HasNoLongDouble}
 use Rattle.ffi3_place_spec.specs.declared.Loc.{Loc}
 use Rattle.ffi3_place_spec.specs.declared.Loc.TheVariants.{G, F, S}
@@ -25,10 +25,8 @@ IsLow (S n w) = ⊤
 
 low : (isa : Isa) (n : ℕ) (l : Loc) → LiesIn isa n l → IsLow l
 low Amd64 n (F r) h = omega (arith, h)
-low Aarch64 n (F r) h = omega (arith, h)
-low Riscv n (F r) h = omega (arith, h)
-low isa n (G r) h = tt
-low isa n (S k w) h = tt
+low _ n (F r) h = omega (arith, h)
+low isa n _ h = tt
 
 pub all_low : (isa : Isa) (n : ℕ) (ls : List Loc) → AllByRecursion (LiesIn isa n) ls → AllByRecursion IsLow ls
 all_low isa n [] h = tt
@@ -36,8 +34,7 @@ all_low isa n (l ∷ ls) h = (low isa n l h.0, all_low isa n ls h.1)
 
 low_apart : (r : ℕ) (l : Loc) → 32 ≤ r → IsLow l → Apart (F r) l
 low_apart r (F a) h below = λ e. omega (arith, e, h, below)
-low_apart r (G a) h below = tt
-low_apart r (S n w) h below = tt
+low_apart r _ h below = tt
 
 none_of_low : (r : ℕ) (ls : List Loc) → 32 ≤ r → AllByRecursion IsLow ls → IsNoneOf ls (F r)
 none_of_low r [] h all = tt

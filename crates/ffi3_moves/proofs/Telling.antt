@@ -7,14 +7,16 @@ use Rattle.ffi3_type_spec.specs.Tree.{Tree}
 use Rattle.ffi3_type_spec.specs.Layout.{size_of}
 use Rattle.ffi3_place_spec.specs.declared.Piece.{Piece}
 use Rattle.ffi3_place_spec.specs.declared.Place.{Place}
-use Rattle.ffi3_place_spec.specs.declared.Place.TheVariants.{Direct, ByRef}
+use Rattle.ffi3_place_spec.specs.declared.Place.TheVariants.{Direct}
 use Rattle.ffi3_place_spec.specs.Standard.{round8}
 use Rattle.ffi3_place_spec.proofs.Elements.{drop_read}
 use Rattle.ffi3_moves.specs.declared.Move.{Move}
 use Rattle.ffi3_moves.specs.declared.told.ToldMove.{ToldMove}
-use Rattle.ffi3_moves.specs.Moves.{argument_in, argument_out, arguments_in, arguments_out, piece_in, piece_out, pieces_in, pieces_out}
+use Rattle.ffi3_moves.specs.declared.kinds.Way.{Way}
+use Rattle.ffi3_moves.specs.declared.kinds.Way.TheVariants.{In, Out}
+use Rattle.ffi3_moves.specs.Moves.{argument_moves, arguments_moves, piece_in, piece_out, pieces_in, pieces_out}
 use Rattle.ffi3_moves.specs.Told.{told_in, told_move}
-use Rattle.ffi3_moves.proofs.Turns.{turn_in, turn_out}
+use Rattle.ffi3_moves.proofs.Turns.{turn}
 
 -- what is written first, and then what goes behind it
 pub sets_then : {X : Type 0} (ys : List X) (i : ℕ) (us vs : List X) → sets (sets ys i us) (i + length us) vs ≡ sets ys i (us ++ vs)
@@ -80,93 +82,52 @@ pieces_in_count i at t ps = length-map ps (piece_in i at t)
 -- ---- arguments
 
 -- how many moves an argument has does not depend on where its value stands
-pub count_in_same : (i at j bt : ℕ) (t : Tree) (p : Place) → length (argument_in i at t p) ≡ length (argument_in j bt t p)
-count_in_same i at j bt t (Direct pieces) = pieces_in_count i at t pieces ∙ sym (pieces_in_count j bt t pieces)
-count_in_same i at j bt t (ByRef l copy) = refl
+pub count_same : (way : Way) (i at j bt : ℕ) (t : Tree) (p : Place) → length (argument_moves way i at t p) ≡ length (argument_moves way j bt t p)
+count_same In i at j bt t (Direct pieces) = pieces_in_count i at t pieces ∙ sym (pieces_in_count j bt t pieces)
+count_same Out i at j bt t (Direct pieces) = pieces_out_count i at pieces ∙ sym (pieces_out_count j bt pieces)
+count_same _ i at j bt t _ = refl
 
-pub count_out_same : (i at j bt : ℕ) (t : Tree) (p : Place) → length (argument_out i at t p) ≡ length (argument_out j bt t p)
-count_out_same i at j bt t (Direct pieces) = pieces_out_count i at pieces ∙ sym (pieces_out_count j bt pieces)
-count_out_same i at j bt t (ByRef l copy) = refl
+pub direct_count : (way : Way) (i at : ℕ) (t : Tree) (ps : List Piece) → length (argument_moves way i at t (Direct ps)) ≡ length ps
+direct_count In i at t ps = pieces_in_count i at t ps
+direct_count Out i at t ps = pieces_out_count i at ps
 
-counts_in_same : (ts : List Tree) (ps : List Place) (i at j bt : ℕ) → length (arguments_in i at ts ps) ≡ length (arguments_in j bt ts ps)
-counts_in_same [] ps i at j bt = refl
-counts_in_same (t ∷ ts) [] i at j bt = refl
-counts_in_same (t ∷ ts) (p ∷ ps) i at j bt =
-    length-append (argument_in i at t p) (arguments_in (i + 1) (at + round8 (size_of t)) ts ps) ∙ omega (arith, count_in_same i at j bt t p, counts_in_same ts ps (i + 1) (at + round8 (size_of t)) (j + 1) (bt + round8 (size_of t))) ∙ sym (length-append (argument_in j bt t p) (arguments_in (j + 1) (bt + round8 (size_of t)) ts ps))
+module _ (way : Way) where
+  counts_same : (ts : List Tree) (ps : List Place) (i at j bt : ℕ) → length (arguments_moves way i at ts ps) ≡ length (arguments_moves way j bt ts ps)
+  counts_same (t ∷ ts) (p ∷ ps) i at j bt =
+      length-append (argument_moves way i at t p) (arguments_moves way (i + 1) (at + round8 (size_of t)) ts ps) ∙ omega (arith, count_same way i at j bt t p, counts_same ts ps (i + 1) (at + round8 (size_of t)) (j + 1) (bt + round8 (size_of t))) ∙ sym (length-append (argument_moves way j bt t p) (arguments_moves way (j + 1) (bt + round8 (size_of t)) ts ps))
+  counts_same _ _ i at j bt = refl
 
-counts_out_same : (ts : List Tree) (ps : List Place) (i at j bt : ℕ) → length (arguments_out i at ts ps) ≡ length (arguments_out j bt ts ps)
-counts_out_same [] ps i at j bt = refl
-counts_out_same (t ∷ ts) [] i at j bt = refl
-counts_out_same (t ∷ ts) (p ∷ ps) i at j bt =
-    length-append (argument_out i at t p) (arguments_out (i + 1) (at + round8 (size_of t)) ts ps) ∙ omega (arith, count_out_same i at j bt t p, counts_out_same ts ps (i + 1) (at + round8 (size_of t)) (j + 1) (bt + round8 (size_of t))) ∙ sym (length-append (argument_out j bt t p) (arguments_out (j + 1) (bt + round8 (size_of t)) ts ps))
+  module _ (ts : List Tree) (ps : List Place) (j : ℕ) (t : Tree) (p : Place) (types : drop j ts ≡ t ∷ drop (j + 1) ts) (places : drop j ps ≡ p ∷ drop (j + 1) ps) where
+    -- the moves of one argument, and those of the arguments behind it
+    module _ (at next : ℕ) (ends : next ≡ at + round8 (size_of t)) where
+      first : argument_moves way j at t p ++ arguments_moves way (j + 1) next (drop (j + 1) ts) (drop (j + 1) ps) ≡ arguments_moves way j at (drop j ts) (drop j ps)
+      first = turn way ts ps j at next t p types places ends [] (arguments_moves way j at (drop j ts) (drop j ps)) refl
 
-module _ (ts : List Tree) (ps : List Place) (j : ℕ) (t : Tree) (p : Place) (types : drop j ts ≡ t ∷ drop (j + 1) ts) (places : drop j ps ≡ p ∷ drop (j + 1) ps) where
-  -- the moves of one argument, and those of the arguments behind it
-  module _ (at next : ℕ) (ends : next ≡ at + round8 (size_of t)) where
-    first_in : argument_in j at t p ++ arguments_in (j + 1) next (drop (j + 1) ts) (drop (j + 1) ps) ≡ arguments_in j at (drop j ts) (drop j ps)
-    first_in = turn_in ts ps j at next t p types places ends [] (arguments_in j at (drop j ts) (drop j ps)) refl
+      pub argument_told : (k end : ℕ) (old now whole : List ToldMove) → end ≡ k + length (argument_moves way j at t p) → now ≡ sets old k (map told_move (argument_moves way j at t p)) → sets old k (map told_move (arguments_moves way j at (drop j ts) (drop j ps))) ≡ whole → sets now end (map told_move (arguments_moves way (j + 1) next (drop (j + 1) ts) (drop (j + 1) ps))) ≡ whole
+      argument_told k end old now whole behind wrote e =
+          told_turn (argument_moves way j at t p) (arguments_moves way (j + 1) next (drop (j + 1) ts) (drop (j + 1) ps)) (arguments_moves way j at (drop j ts) (drop j ps)) k end old now whole first behind wrote e
 
-    first_out : argument_out j at t p ++ arguments_out (j + 1) next (drop (j + 1) ts) (drop (j + 1) ps) ≡ arguments_out j at (drop j ts) (drop j ps)
-    first_out = turn_out ts ps j at next t p types places ends [] (arguments_out j at (drop j ts) (drop j ps)) refl
+      -- how many these are
+      pub left : length (arguments_moves way j at (drop j ts) (drop j ps)) ≡ length (argument_moves way j at t p) + length (arguments_moves way (j + 1) next (drop (j + 1) ts) (drop (j + 1) ps))
+      left =
+          sym (ap length first) ∙ length-append (argument_moves way j at t p) (arguments_moves way (j + 1) next (drop (j + 1) ts) (drop (j + 1) ps))
 
-    module _ (k end : ℕ) (old now whole : List ToldMove) where
-      pub argument_told_in : end ≡ k + length (argument_in j at t p) → now ≡ sets old k (map told_move (argument_in j at t p)) → sets old k (map told_move (arguments_in j at (drop j ts) (drop j ps))) ≡ whole → sets now end (map told_move (arguments_in (j + 1) next (drop (j + 1) ts) (drop (j + 1) ps))) ≡ whole
-      argument_told_in behind wrote e =
-          told_turn (argument_in j at t p) (arguments_in (j + 1) next (drop (j + 1) ts) (drop (j + 1) ps)) (arguments_in j at (drop j ts) (drop j ps)) k end old now whole first_in behind wrote e
-
-      pub argument_told_out : end ≡ k + length (argument_out j at t p) → now ≡ sets old k (map told_move (argument_out j at t p)) → sets old k (map told_move (arguments_out j at (drop j ts) (drop j ps))) ≡ whole → sets now end (map told_move (arguments_out (j + 1) next (drop (j + 1) ts) (drop (j + 1) ps))) ≡ whole
-      argument_told_out behind wrote e =
-          told_turn (argument_out j at t p) (arguments_out (j + 1) next (drop (j + 1) ts) (drop (j + 1) ps)) (arguments_out j at (drop j ts) (drop j ps)) k end old now whole first_out behind wrote e
-
-    -- how many these are
-    pub left_in : length (arguments_in j at (drop j ts) (drop j ps)) ≡ length (argument_in j at t p) + length (arguments_in (j + 1) next (drop (j + 1) ts) (drop (j + 1) ps))
-    left_in =
-        sym (ap length first_in) ∙ length-append (argument_in j at t p) (arguments_in (j + 1) next (drop (j + 1) ts) (drop (j + 1) ps))
-
-    pub left_out : length (arguments_out j at (drop j ts) (drop j ps)) ≡ length (argument_out j at t p) + length (arguments_out (j + 1) next (drop (j + 1) ts) (drop (j + 1) ps))
-    left_out =
-        sym (ap length first_out) ∙ length-append (argument_out j at t p) (arguments_out (j + 1) next (drop (j + 1) ts) (drop (j + 1) ps))
-
-  module _ (count here : ℕ) where
-    module _ (now all : ℕ) where
-      pub counted_in : here ≡ length (argument_in j 0 t p) → now ≡ count + here → count + length (arguments_in j 0 (drop j ts) (drop j ps)) ≡ all → now + length (arguments_in (j + 1) 0 (drop (j + 1) ts) (drop (j + 1) ps)) ≡ all
-      counted_in is sum e =
+    module _ (count here : ℕ) (is : here ≡ length (argument_moves way j 0 t p)) where
+      pub counted : (now all : ℕ) → now ≡ count + here → count + length (arguments_moves way j 0 (drop j ts) (drop j ps)) ≡ all → now + length (arguments_moves way (j + 1) 0 (drop (j + 1) ts) (drop (j + 1) ps)) ≡ all
+      counted now all sum e =
           let next : ℕ = 0 + round8 (size_of t) in
-          omega (arith, is, sum, e, left_in 0 next refl, counts_in_same (drop (j + 1) ts) (drop (j + 1) ps) (j + 1) next (j + 1) 0)
+          omega (arith, is, sum, e, left 0 next refl, counts_same (drop (j + 1) ts) (drop (j + 1) ps) (j + 1) next (j + 1) 0)
 
-      pub counted_out : here ≡ length (argument_out j 0 t p) → now ≡ count + here → count + length (arguments_out j 0 (drop j ts) (drop j ps)) ≡ all → now + length (arguments_out (j + 1) 0 (drop (j + 1) ts) (drop (j + 1) ps)) ≡ all
-      counted_out is sum e =
-          let next : ℕ = 0 + round8 (size_of t) in
-          omega (arith, is, sum, e, left_out 0 next refl, counts_out_same (drop (j + 1) ts) (drop (j + 1) ps) (j + 1) next (j + 1) 0)
-
-    -- with these there are too many already
-    module _ (most all : ℕ) (over : count + here < most → ⊥) where
-      pub uncounted_in : here ≡ length (argument_in j 0 t p) → count + length (arguments_in j 0 (drop j ts) (drop j ps)) ≡ all → all < most → ⊥
-      uncounted_in is e small =
-          let next : ℕ = 0 + round8 (size_of t) in
-          let sum : count + here < most = omega (arith, is, e, small, left_in 0 next refl) in
+      -- with these there are too many already
+      pub uncounted : (most all : ℕ) → (count + here < most → ⊥) → count + length (arguments_moves way j 0 (drop j ts) (drop j ps)) ≡ all → all < most → ⊥
+      uncounted most all over e small =
+          let sum : count + here < most = omega (arith, is, e, small, left 0 (0 + round8 (size_of t)) refl) in
           over sum
 
-      pub uncounted_out : here ≡ length (argument_out j 0 t p) → count + length (arguments_out j 0 (drop j ts) (drop j ps)) ≡ all → all < most → ⊥
-      uncounted_out is e small =
-          let next : ℕ = 0 + round8 (size_of t) in
-          let sum : count + here < most = omega (arith, is, e, small, left_out 0 next refl) in
-          over sum
-
--- none are left
-module _ (ts : List Tree) (ps : List Place) (j count all most : ℕ) (ended : length ts ≤ j) (small : count < most) where
-  none_left : drop j ts ≡ []
-  none_left = drop_all j ts ended
-
-  pub all_in : count + length (arguments_in j 0 (drop j ts) (drop j ps)) ≡ all → (all < most) × (count ≡ all)
-  all_in e =
-      let last : length (arguments_in j 0 (drop j ts) (drop j ps)) ≡ 0 = ap (λ us. length (arguments_in j 0 us (drop j ps))) none_left in
-      let is : count ≡ all = omega (arith, e, last) in
-      (subst (λ (n : ℕ). n < most) is small, is)
-
-  pub all_out : count + length (arguments_out j 0 (drop j ts) (drop j ps)) ≡ all → (all < most) × (count ≡ all)
-  all_out e =
-      let last : length (arguments_out j 0 (drop j ts) (drop j ps)) ≡ 0 = ap (λ us. length (arguments_out j 0 us (drop j ps))) none_left in
+  -- none are left
+  pub all_counted : (ts : List Tree) (ps : List Place) (j count all most : ℕ) → length ts ≤ j → count < most → count + length (arguments_moves way j 0 (drop j ts) (drop j ps)) ≡ all → (all < most) × (count ≡ all)
+  all_counted ts ps j count all most ended small e =
+      let last : length (arguments_moves way j 0 (drop j ts) (drop j ps)) ≡ 0 = ap (λ us. length (arguments_moves way j 0 us (drop j ps))) (drop_all j ts ended) in
       let is : count ≡ all = omega (arith, e, last) in
       (subst (λ (n : ℕ). n < most) is small, is)
 

@@ -12,7 +12,7 @@ use Rattle.ffi3_place_spec.specs.declared.Loc.{Loc}
 use Rattle.ffi3_place_spec.specs.declared.Loc.TheVariants.{G, F, S}
 use Rattle.ffi3_place_spec.specs.declared.Place.{Place}
 use Rattle.ffi3_place_spec.specs.declared.Res.{Res}
-use Rattle.ffi3_place_spec.specs.declared.Res.TheVariants.{Nothing, Direct as DirectRes, Hidden}
+use Rattle.ffi3_place_spec.specs.declared.Res.TheVariants.{Nothing, Hidden}
 use Rattle.ffi3_place_spec.specs.MachineRegisters.{to_list}
 use Rattle.ffi3_place_spec.specs.Image.{Image}
 use Rattle.ffi3_place_spec.specs.Agrees.{AgreesWithMachine}
@@ -42,18 +42,16 @@ use Rattle.ffi3_moves.proofs.Passing.{arguments_played, play_append, word_moved}
 -- ---- what is needed lies in a longer exchange
 
 pub place_more : (n m : ℕ) → n ≤ m → (l : Loc) → IsPlace n l → IsPlace m l
-place_more n m h (G r) lies = lies
-place_more n m h (F r) lies = lies
 place_more n m h (S k w) lies = (omega (arith, h, lies.0), lies.1, lies.2)
+place_more n m h _ lies = lies
 
 pub ready_more : (target : Target) (n m : ℕ) → n ≤ m → (ts : List Tree) (ps : List Place) → AreReadyIn 40 target n ts ps → AreReadyIn 40 target m ts ps
 ready_more target n m h [] [] ready = tt
-ready_more target n m h [] (p ∷ ps) ready = absurd ready
-ready_more target n m h (t ∷ ts) [] ready = absurd ready
 ready_more target n m h (t ∷ ts) (p ∷ ps) ready = (
   record { has_all = ready.0.has_all; lies = lies_more_in 40 n m t p h ready.0.lies; writable = ready.0.writable },
   ready_more target n m h ts ps ready.1,
 )
+ready_more target n m h _ _ ready = absurd ready
 
 stays_as : (base : ℕ) (ls ks : List Loc) (a b : Image) → ((l : Loc) → IsNoneOf ks l → IsNoneOf ls l) → Stays base ls a b → Stays base ks a b
 stays_as base ls ks a b has s = record { sp = s.sp; size = s.size; below = s.below; others = λ l none. s.others l (has l none) }
@@ -67,13 +65,11 @@ register_stays base (Some (S k w)) n ls a b registers none s holds = absurd (ome
 
 address_played : (frame : ℕ) (r : Res) (values x : List ℕ) → play frame (moves_of (hidden_in r)) values x ≡ with_address (address_of frame r) r x
 address_played frame Nothing values x = refl
-address_played frame (DirectRes pieces) values x = refl
-address_played frame (Hidden at buffer) values x = refl
+address_played frame _ values x = refl
 
 hidden_owned : (base : ℕ) (m : Image) (r : Res) → HasAddress base m (address_of (m.sp + base) r) r → OwnsHidden m base r
-hidden_owned base m Nothing h = tt
-hidden_owned base m (DirectRes pieces) h = tt
 hidden_owned base m (Hidden at buffer) h = h
+hidden_owned base m _ h = tt
 
 module _ (sp base : ℕ) (link : List ℕ) (linked : length link ≡ base) where
   record IsCountPlayed (k : Option Loc) (n : ℕ) (x y : List ℕ) : Type 0 where
@@ -97,11 +93,10 @@ module _ (sp base : ℕ) (link : List ℕ) (linked : length link ≡ base) where
     keeps : StaysLong x y
 
   address_written : (r : Res) (address : ℕ) (x : List ℕ) → address < 2 ^ 64 → frame_at ≤ length x → AreBytes x → AllByRecursion (IsPlace (length x - frame_at)) (hidden_locs r) → AllByRecursion IsWhole (hidden_locs r) → IsAddressPlayed r address x (with_address address r x)
-  address_written Nothing address x small long are lie wide = record { told = tt; stays = stays_none base (image_at sp link x); keeps = keeps_none x are }
-  address_written (DirectRes pieces) address x small long are lie wide = record { told = tt; stays = stays_none base (image_at sp link x); keeps = keeps_none x are }
   address_written (Hidden at buffer) address x small long are lie wide =
       let word = word_moved sp base link linked x at address long are lie.0 wide.0 small in
       record { told = word.put.word; stays = word.put.stays; keeps = word.keeps }
+  address_written _ address x small long are lie wide = record { told = tt; stays = stays_none base (image_at sp link x); keeps = keeps_none x are }
 
 module _ (std : Standard) (s : Signature) (sound : IsSound std s) (right : SignatureIsPlaced s) (agrees : AgreesWithMachine std) where
   abbrev ts : List Tree
@@ -199,9 +194,8 @@ module _ (std : Standard) (s : Signature) (sound : IsSound std s) (right : Signa
         subst (λ y. ArePassedWith std s values sp link address x (with_address address (plan_of std s).res y)) (sym stored_all) (passed_to address small)
 
     address_small : (r : Res) → r ≡ (plan_of std s).res → address_of frame r < 2 ^ 64
-    address_small Nothing is = omega arith
-    address_small (DirectRes pieces) is = omega arith
     address_small (Hidden at buffer) is = omega (arith, high, room, buffer_within std s at buffer (sym is))
+    address_small _ is = omega arith
 
     pub passed : ArePassed std s values sp link x (play (sp + std.link) (store_moves std s ++ moves_of (hidden_move std s)) values x)
     passed =

@@ -17,6 +17,8 @@ use Rattle.ffi3_place_spec.specs.Standard.{Standard, plan_of, round8}
 use Rattle.ffi3_moves.specs.declared.Kind.{Kind}
 use Rattle.ffi3_moves.specs.declared.Kind.TheVariants.{Bytes, Zero, Sign, Ones, Number, Address, Behind}
 use Rattle.ffi3_moves.specs.declared.Move.{Move}
+use Rattle.ffi3_moves.specs.declared.kinds.Way.{Way}
+use Rattle.ffi3_moves.specs.declared.kinds.Way.TheVariants.{In, Out}
 use Rattle.ffi3_moves.specs.Play.{frame_at}
 
 -- where a place stands in an exchange: a register's as the stubs have it, with AMD64's st(0) and st(1) at 384 to 415 by the numbers of their words; the upper halves of AArch64's v0 to v7 by theirs at 512 to 575, where stubs keep addresses, since no stub moves them; a stack place behind the start of the frame
@@ -77,14 +79,21 @@ abbrev pub argument_out : ℕ → ℕ → Tree → Place → List Move
 argument_out i at t (Direct pieces) = pieces_out i at pieces
 argument_out i at t (ByRef l copy) = copy_out i at t l ∷ []
 
+-- by the way that they go
+abbrev pub argument_moves : Way → ℕ → ℕ → Tree → Place → List Move
+argument_moves In = argument_in
+argument_moves Out = argument_out
+
 -- those of the arguments from number i on
+abbrev pub arguments_moves : Way → ℕ → ℕ → List Tree → List Place → List Move
+arguments_moves way i at (t ∷ ts) (p ∷ ps) = argument_moves way i at t p ++ arguments_moves way (i + 1) (at + round8 (size_of t)) ts ps
+arguments_moves way i at _ _ = []
+
 abbrev pub arguments_in : ℕ → ℕ → List Tree → List Place → List Move
-arguments_in i at (t ∷ ts) (p ∷ ps) = argument_in i at t p ++ arguments_in (i + 1) (at + round8 (size_of t)) ts ps
-arguments_in i at _ _ = []
+arguments_in = arguments_moves In
 
 abbrev pub arguments_out : ℕ → ℕ → List Tree → List Place → List Move
-arguments_out i at (t ∷ ts) (p ∷ ps) = argument_out i at t p ++ arguments_out (i + 1) (at + round8 (size_of t)) ts ps
-arguments_out i at _ _ = []
+arguments_out = arguments_moves Out
 
 -- the number of vector registers, where a register tells it (System V psABI AMD64 3.2.3, "Parameter Passing": %al)
 abbrev pub count_in : Option Loc → ℕ → List Move

@@ -1,9 +1,9 @@
 // The moves of the arguments of a call: its caller's, and its callee's.
 ghost use Rattle.std.specs.Prelude.{◌≡◌, ◌<◌, ◌^◌, ◌++◌, IfOk, OnOk};
 ghost use Rattle.ffi3_place_spec.specs.Standard.{plan_of};
-ghost use Rattle.ffi3_moves.specs.Moves.{argument_in, argument_out, arguments_in, arguments_out, collect_moves, count_in, store_moves};
+ghost use Rattle.ffi3_moves.specs.Moves.{argument_in, argument_moves, argument_out, arguments_moves, collect_moves, count_in, store_moves};
 
-use crate::kinds::exchange_at;
+use crate::kinds::{Way, exchange_at};
 use crate::pieces::{push_pieces_in, push_pieces_out};
 use crate::{FRAME_AT, Kind, Move, Moves};
 use ffi3_cif::Placed;
@@ -67,29 +67,35 @@ fn push_argument_out(
     }
 }
 
-// Those of all arguments.
-fn push_arguments_in<A: Abi>(moves: &mut Moves, cif: &Placed<A>) -> Result<(), NoMemory>
-    ensures { OnOk result (moves.new ≡ moves.old ++ arguments_in 0 0 cif.now.arguments (plan_of A.standard cif.now).places) }
+// Those of an argument, the one way or the other.
+#[inline(always)]
+fn push_argument(
+    moves: &mut Moves,
+    way: Way,
+    part: u32,
+    at: u64,
+    ty: &CheckedType<'_>,
+    place: &Place,
+) -> Result<(), NoMemory>
+    requires { at < 2 ^ 32 }
+    ensures { OnOk result (moves.new ≡ moves.old ++ argument_moves way part at ty.now place.now) }
 {
-    let sig = cif.placed_sig();
-    let mut at = 0;
-    for i in 0..sig.count() {
-        let ty = sig.arg(i);
-        push_argument_in(moves, i, at, &ty, cif.place(i))?;
-        at += round_up(ty.size(), 8);
+    match way {
+        Way::In => push_argument_in(moves, part, at, ty, place),
+        Way::Out => push_argument_out(moves, part, at, ty, place),
     }
-    Ok(())
 }
 
-// And back.
-fn push_arguments_out<A: Abi>(moves: &mut Moves, cif: &Placed<A>) -> Result<(), NoMemory>
-    ensures { OnOk result (moves.new ≡ moves.old ++ arguments_out 0 0 cif.now.arguments (plan_of A.standard cif.now).places) }
+// Those of all arguments.
+#[inline(always)]
+fn push_arguments<A: Abi>(moves: &mut Moves, way: Way, cif: &Placed<A>) -> Result<(), NoMemory>
+    ensures { OnOk result (moves.new ≡ moves.old ++ arguments_moves way 0 0 cif.now.arguments (plan_of A.standard cif.now).places) }
 {
     let sig = cif.placed_sig();
     let mut at = 0;
     for i in 0..sig.count() {
         let ty = sig.arg(i);
-        push_argument_out(moves, i, at, &ty, cif.place(i))?;
+        push_argument(moves, way, i, at, &ty, cif.place(i))?;
         at += round_up(ty.size(), 8);
     }
     Ok(())
@@ -122,7 +128,7 @@ pub fn moves_to_store<A: Abi>(alloc: Global, cif: &Placed<A>) -> Result<Moves, N
     ensures { IfOk result (λ moves. moves ≡ store_moves A.standard cif.now) }
 {
     let mut moves = Moves::with_capacity(alloc, likely_count(cif))?;
-    push_arguments_in(&mut moves, cif)?;
+    push_arguments(&mut moves, Way::In, cif)?;
     push_count(&mut moves, A::vector_count(), cif.vectors())?;
     Ok(moves)
 }
@@ -132,6 +138,6 @@ pub fn moves_to_collect<A: Abi>(alloc: Global, cif: &Placed<A>) -> Result<Moves,
     ensures { IfOk result (λ moves. moves ≡ collect_moves A.standard cif.now) }
 {
     let mut moves = Moves::with_capacity(alloc, likely_count(cif))?;
-    push_arguments_out(&mut moves, cif)?;
+    push_arguments(&mut moves, Way::Out, cif)?;
     Ok(moves)
 }

@@ -9,6 +9,13 @@ use crate::{FRAME_AT, Kind, Move};
 use ffi3_place::{Ext, Loc, Piece};
 use ffi3_types::{CheckedType, FfiType};
 
+/// The way that moves go: from values into an exchange, or out of one to values.
+#[derive(Clone, Copy)]
+pub enum Way {
+    In,
+    Out,
+}
+
 /// Where a place stands in an exchange.
 #[inline(always)]
 pub(crate) fn exchange_at(at: Loc) -> u64

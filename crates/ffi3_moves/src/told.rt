@@ -2,11 +2,13 @@
 ghost use Rattle.std.specs.Prelude.{◌≡◌, ◌+◌, ◌<◌, ◌≤◌, ◌^◌, ℕ, SomeIff, OnSome, None, [], ◌∷◌, length, map};
 ghost use Rattle.std.proofs.lemmas.List.Edits.{sets};
 ghost use Rattle.ffi3_type_spec.specs.Tree.{Tree};
+ghost use Rattle.ffi3_place_spec.specs.declared.Loc.{Loc};
+ghost use Rattle.ffi3_place_spec.specs.declared.Place.TheVariants.{ByRef};
 ghost use Rattle.ffi3_place_spec.specs.Standard.{plan_of};
-ghost use Rattle.ffi3_moves.specs.Moves.{argument_in, argument_out, arguments_in, arguments_out, collect_moves, count_in, give_moves, hidden_move, load_moves, moves_of, pieces_in, pieces_out, result_in, result_out, store_moves};
+ghost use Rattle.ffi3_moves.specs.Moves.{argument_in, argument_moves, argument_out, arguments_moves, collect_moves, count_in, give_moves, hidden_move, load_moves, moves_of, pieces_in, pieces_out, result_in, result_out, store_moves};
 ghost use Rattle.ffi3_moves.specs.Told.{kind_number, told_in, told_move};
 
-use crate::kinds::{exchange_at, piece_in, piece_out};
+use crate::kinds::{Way, exchange_at, piece_in, piece_out};
 use crate::{FRAME_AT, Kind, Move, hidden_move};
 use ffi3_cif::Placed;
 use ffi3_place::{Abi, Loc, Pieces, Place, Res};
@@ -157,49 +159,57 @@ fn put_argument_out(
     }
 }
 
-// ---- how many they are
-
-fn count_of_argument_in(place: &Place) -> usize
-    ensures { (i at : ℕ) (t : Tree) → result ≡ length (argument_in i at t place.now) }
+// The one way or the other.
+#[inline(always)]
+fn put_argument(
+    told: &mut [ToldMove],
+    way: Way,
+    at: usize,
+    part: u32,
+    offset: u64,
+    ty: &CheckedType<'_>,
+    place: &Place,
+) -> usize
+    requires low { offset < 2 ^ 32 }
+    requires room { at + length (argument_moves way part offset ty.now place.now) ≤ length told.old }
+    ensures end { result ≡ at + length (argument_moves way part offset ty.now place.now) }
+    ensures put { told.new ≡ sets told.old at (map told_move (argument_moves way part offset ty.now place.now)) }
 {
-    match place {
-        Place::Direct(pieces) => pieces.len(),
-        Place::ByRef { .. } => 2,
+    match way {
+        Way::In => put_argument_in(told, at, part, offset, ty, place),
+        Way::Out => put_argument_out(told, at, part, offset, ty, place),
     }
 }
 
-fn count_of_argument_out(place: &Place) -> usize
-    ensures { (i at : ℕ) (t : Tree) → result ≡ length (argument_out i at t place.now) }
+// ---- how many they are
+
+// Of an argument by reference the value is moved and, on the way in, the address of its copy.
+fn count_of_reference(way: Way) -> usize
+    ensures { (i at : ℕ) (t : Tree) (l : Loc) (copy : ℕ) → result ≡ length (argument_moves way i at t (ByRef l copy)) }
+{
+    match way {
+        Way::In => 2,
+        Way::Out => 1,
+    }
+}
+
+fn count_of_argument(way: Way, place: &Place) -> usize
+    ensures { (i at : ℕ) (t : Tree) → result ≡ length (argument_moves way i at t place.now) }
 {
     match place {
         Place::Direct(pieces) => pieces.len(),
-        Place::ByRef { .. } => 1,
+        Place::ByRef { .. } => count_of_reference(way),
     }
 }
 
 // Those of all arguments, unless they are 2^64 or more.
-fn count_of_arguments_in<A: Abi>(cif: &Placed<A>) -> Option<usize>
-    ensures { SomeIff result (length (arguments_in 0 0 cif.now.arguments (plan_of A.standard cif.now).places) < 2 ^ 64) (length (arguments_in 0 0 cif.now.arguments (plan_of A.standard cif.now).places)) }
+fn count_of_arguments<A: Abi>(way: Way, cif: &Placed<A>) -> Option<usize>
+    ensures { SomeIff result (length (arguments_moves way 0 0 cif.now.arguments (plan_of A.standard cif.now).places) < 2 ^ 64) (length (arguments_moves way 0 0 cif.now.arguments (plan_of A.standard cif.now).places)) }
 {
     let sig = cif.placed_sig();
     let mut count: usize = 0;
     for i in 0..sig.count() {
-        let here = count_of_argument_in(cif.place(i));
-        let Some(more) = count.checked_add(here) else {
-            return None;
-        };
-        count = more;
-    }
-    Some(count)
-}
-
-fn count_of_arguments_out<A: Abi>(cif: &Placed<A>) -> Option<usize>
-    ensures { SomeIff result (length (arguments_out 0 0 cif.now.arguments (plan_of A.standard cif.now).places) < 2 ^ 64) (length (arguments_out 0 0 cif.now.arguments (plan_of A.standard cif.now).places)) }
-{
-    let sig = cif.placed_sig();
-    let mut count: usize = 0;
-    for i in 0..sig.count() {
-        let here = count_of_argument_out(cif.place(i));
+        let here = count_of_argument(way, cif.place(i));
         let Some(more) = count.checked_add(here) else {
             return None;
         };
@@ -210,34 +220,18 @@ fn count_of_arguments_out<A: Abi>(cif: &Placed<A>) -> Option<usize>
 
 // ---- those of all arguments, from the first item on
 
-fn put_arguments_in<A: Abi>(told: &mut [ToldMove], cif: &Placed<A>) -> usize
-    requires { length (arguments_in 0 0 cif.now.arguments (plan_of A.standard cif.now).places) ≤ length told.old }
-    ensures end { result ≡ length (arguments_in 0 0 cif.now.arguments (plan_of A.standard cif.now).places) }
-    ensures put { told.new ≡ sets told.old 0 (map told_move (arguments_in 0 0 cif.now.arguments (plan_of A.standard cif.now).places)) }
+fn put_arguments<A: Abi>(told: &mut [ToldMove], way: Way, cif: &Placed<A>) -> usize
+    requires { length (arguments_moves way 0 0 cif.now.arguments (plan_of A.standard cif.now).places) ≤ length told.old }
+    ensures end { result ≡ length (arguments_moves way 0 0 cif.now.arguments (plan_of A.standard cif.now).places) }
+    ensures put { told.new ≡ sets told.old 0 (map told_move (arguments_moves way 0 0 cif.now.arguments (plan_of A.standard cif.now).places)) }
 {
     let sig = cif.placed_sig();
     let mut at = 0;
-    let mut from = 0;
+    let mut offset = 0;
     for i in 0..sig.count() {
         let ty = sig.arg(i);
-        at = put_argument_in(told, at, i, from, &ty, cif.place(i));
-        from += round_up(ty.size(), 8);
-    }
-    at
-}
-
-fn put_arguments_out<A: Abi>(told: &mut [ToldMove], cif: &Placed<A>) -> usize
-    requires { length (arguments_out 0 0 cif.now.arguments (plan_of A.standard cif.now).places) ≤ length told.old }
-    ensures end { result ≡ length (arguments_out 0 0 cif.now.arguments (plan_of A.standard cif.now).places) }
-    ensures put { told.new ≡ sets told.old 0 (map told_move (arguments_out 0 0 cif.now.arguments (plan_of A.standard cif.now).places)) }
-{
-    let sig = cif.placed_sig();
-    let mut at = 0;
-    let mut to = 0;
-    for i in 0..sig.count() {
-        let ty = sig.arg(i);
-        at = put_argument_out(told, at, i, to, &ty, cif.place(i));
-        to += round_up(ty.size(), 8);
+        at = put_argument(told, way, at, i, offset, &ty, cif.place(i));
+        offset += round_up(ty.size(), 8);
     }
     at
 }
@@ -276,7 +270,7 @@ fn put_count(told: &mut [ToldMove], end: usize, at: Option<Loc>, vectors: u8)
 fn count_of_store<A: Abi>(cif: &Placed<A>) -> Option<usize>
     ensures { SomeIff result (length (store_moves A.standard cif.now) < 2 ^ 64) (length (store_moves A.standard cif.now)) }
 {
-    let Some(arguments) = count_of_arguments_in(cif) else {
+    let Some(arguments) = count_of_arguments(Way::In, cif) else {
         return None;
     };
     arguments.checked_add(count_of_count(A::vector_count()))
@@ -286,7 +280,7 @@ fn put_store<A: Abi>(told: &mut [ToldMove], cif: &Placed<A>)
     requires { length (store_moves A.standard cif.now) ≤ length told.old }
     ensures { told.new ≡ told_in (store_moves A.standard cif.now) told.old }
 {
-    let end = put_arguments_in(told, cif);
+    let end = put_arguments(told, Way::In, cif);
     put_count(told, end, A::vector_count(), cif.vectors());
 }
 
@@ -310,7 +304,7 @@ fn put_collect<A: Abi>(told: &mut [ToldMove], cif: &Placed<A>)
     requires { length (collect_moves A.standard cif.now) ≤ length told.old }
     ensures { told.new ≡ told_in (collect_moves A.standard cif.now) told.old }
 {
-    put_arguments_out(told, cif);
+    put_arguments(told, Way::Out, cif);
 }
 
 /// The callee's arguments: what `moves_to_collect` lists.
@@ -319,7 +313,7 @@ pub fn tell_moves_to_collect<A: Abi>(told: &mut [ToldMove], cif: &Placed<A>) -> 
     ensures told { OnSome result (told.new ≡ told_in (collect_moves A.standard cif.now) told.old) }
     ensures untold { result ≡ None → told.new ≡ told.old }
 {
-    let Some(count) = count_of_arguments_out(cif) else {
+    let Some(count) = count_of_arguments(Way::Out, cif) else {
         return None;
     };
     if told.len() < count {

@@ -4,4 +4,4 @@ use Rattle.ffi3_moves.proofs.told.put_collect.Goals as goal
 
 pub returns : goal.returns
 returns g c =
-    told_front (collect_moves g.A.Abi.standard c.args.cif.now) c.args.told.now c.put_arguments_out.new.told c.requires c.put_arguments_out.ensures.put
+    told_front (collect_moves g.A.Abi.standard c.args.cif.now) c.args.told.now c.put_arguments.new.told c.requires c.put_arguments.ensures.put
