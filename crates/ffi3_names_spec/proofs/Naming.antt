@@ -3,7 +3,7 @@ use Rattle.std.proofs.Common.{◌≡◌, ◌∙◌, ℕ, zero, suc, ◌+◌, ◌
 use Rattle.std.specs.Prelude.{◌==◌}
 use Rattle.std.proofs.lemmas.Bool.{eqb-true, false_from_ne_true}
 use Rattle.ffi3_type_spec.specs.Tree.{Tree}
-use Rattle.ffi3_cdecl_spec.specs.Tokens.{wide, Sign, Token, const_word, void_word, struct_word, union_word, enum_word, close_round, close_square, comma, dots, Found, blank, skipped, nothing_known, found, found_in, Placed, Cut, tokens, bad_at, cut_from, before, bytes_more}
+use Rattle.ffi3_cdecl_spec.specs.Tokens.{wide, Sign, Token, void_word, close_round, close_square, comma, Found, blank, skipped, found, found_in, Placed, Cut, tokens, bad_at, cut_from, before, bytes_more}
 use Rattle.ffi3_cdecl_spec.specs.Reading.{tokens_of, reads, IsReadingIn, is_read}
 use Rattle.ffi3_cdecl_spec.specs.Grammar.{Kind, nothing, Shape, a_value, Naming, may_be_named, specifier_number, named_by, passed, AreSpecifiers, no_more_words, a_word, IsBase, by_word, by_size, by_sign, a_char, by_specifiers, a_void, a_tag, a_union, an_enum, a_name, a_struct, a_tagged_struct, IsQualified, unqualified, constant, IsSuffixes, no_suffix, known_array, open_array, named_array, a_list, IsDeclarator, a_pointer, a_named, unnamed, in_round, IsParameter, without_name, with_name, a_declared_one, IsParameters, last_parameter, last_before_dots, before_types, next_parameter, IsParameterList, no_parameters, only_void, some_parameters, IsCalled, the_name, in_brackets, Function, IsFunction, returns_pointer, a_function_here, a_function_inside, Declaration, IsDeclarationIn, declares, declares_by}
 use Rattle.ffi3_names_spec.specs.Names.{declared_name, parameter_name, parameter_names, list_names, function_names, declaration_names, AreNames, are_names}
@@ -70,15 +70,9 @@ record Joins (l : Bool) (middle : List Token) : Type 0 where
   behind_tag : names_from (tagged l) middle ≡ names_from (into l) middle
 
 joins_declarator : {m : Naming} {d : ℕ} {before after : List Token} {s t : Shape} → IsDeclarator wide m d before after s t → Ends after → Joins true before
-joins_declarator (a_pointer inner) e = record { behind_words = refl; behind_tag = refl }
-joins_declarator (a_named more) e = record { behind_words = refl; behind_tag = refl }
-joins_declarator (unnamed is no_suffix) at_comma = record { behind_words = refl; behind_tag = refl }
-joins_declarator (unnamed is no_suffix) at_close = record { behind_words = refl; behind_tag = refl }
-joins_declarator (unnamed is (known_array more by)) e = record { behind_words = refl; behind_tag = refl }
-joins_declarator (unnamed is (open_array more)) e = record { behind_words = refl; behind_tag = refl }
-joins_declarator (unnamed is (named_array by more)) e = record { behind_words = refl; behind_tag = refl }
 joins_declarator (unnamed is (a_list room list more)) e = absurd (cc)
-joins_declarator (in_round begins room inner more) e = record { behind_words = refl; behind_tag = refl }
+joins_declarator (unnamed is no_suffix) at_comma = record { behind_words = refl; behind_tag = refl }
+joins_declarator p e = record { behind_words = refl; behind_tag = refl }
 
 joins_function : {f : Function} {d : ℕ} {before after : List Token} {s : Shape} → IsFunction wide f d before after s → Joins false before
 joins_function (returns_pointer p) = record { behind_words = refl; behind_tag = refl }
@@ -112,12 +106,7 @@ module _ (l : Bool) where
   words_more (a_word {x = x} some more) = word_more x _ some ∙ words_more more
 
   first_word : (x : Token) → 0 < specifier_number x → next_base l x ≡ words l
-  first_word const_word some = absurd (omega (arith, some))
-  first_word struct_word some = absurd (omega (arith, some))
-  first_word union_word some = absurd (omega (arith, some))
-  first_word enum_word some = absurd (omega (arith, some))
-  first_word dots some = absurd (omega (arith, some))
-  first_word x some = refl
+  first_word x some = grind arith
 
   -- the members of a base's own struct
   abbrev own_members : ℕ → Spot
@@ -189,21 +178,13 @@ no_type e = cc
 
 -- a `void` that is no parameter is not behind a star or the like
 void_goes_on : {d : ℕ} {before after : List Token} {s : Shape} {t : Tree} → IsDeclarator wide may_be_named d before after (a_value nothing) s → Ends after → passed s ≡ Some t → names_from sole_void before ≡ names_from (words true) before
-void_goes_on (a_pointer inner) e is = refl
-void_goes_on (a_named more) e is = refl
-void_goes_on (unnamed o no_suffix) at_comma is = refl
 void_goes_on (unnamed o no_suffix) at_close is = absurd (no_type is)
-void_goes_on (unnamed o (known_array more by)) e is = refl
-void_goes_on (unnamed o (open_array more)) e is = refl
-void_goes_on (unnamed o (named_array by more)) e is = refl
 void_goes_on (unnamed o (a_list room list more)) e is = absurd (cc)
-void_goes_on (in_round begins room inner more) e is = refl
+void_goes_on p e is = refl
 
 parameter_opens : {before after : List Token} {t : Tree} → IsParameter wide before after t → Ends after → names_from opened before ≡ names_from (base true) before
 parameter_opens (without_name e type) ends = absurd (isnt_plain e)
 parameter_opens (with_name e type) ends = absurd (isnt_plain e)
-parameter_opens (a_declared_one r (constant b) p is) ends = refl
-parameter_opens (a_declared_one r (unqualified by_word) p is) ends = refl
 parameter_opens (a_declared_one r (unqualified (by_size e w)) p is) ends = absurd (isnt_plain e)
 parameter_opens (a_declared_one r (unqualified (by_sign e w)) p is) ends = absurd (isnt_plain e)
 parameter_opens (a_declared_one r (unqualified (a_char e)) p is) ends = absurd (isnt_plain e)
@@ -211,12 +192,7 @@ parameter_opens (a_declared_one r (unqualified (by_specifiers q no_more_words w)
 parameter_opens (a_declared_one r (unqualified (by_specifiers q (a_word {before = more} {x = x} some ws) w)) p is) ends =
     word_opens x more some
 parameter_opens (a_declared_one r (unqualified a_void) p is) ends = void_goes_on p ends is
-parameter_opens (a_declared_one r (unqualified a_tag) p is) ends = refl
-parameter_opens (a_declared_one r (unqualified (a_union q)) p is) ends = refl
-parameter_opens (a_declared_one r (unqualified (an_enum q)) p is) ends = refl
-parameter_opens (a_declared_one r (unqualified (a_name q w)) p is) ends = refl
-parameter_opens (a_declared_one r (unqualified (a_struct room ms)) p is) ends = refl
-parameter_opens (a_declared_one r (unqualified (a_tagged_struct q room ms)) p is) ends = refl
+parameter_opens p ends = refl
 
 parameters_open : {before after : List Token} {ts : List Tree} {fixed : Option ℕ} → IsParameters wide before after ts fixed → names_from opened before ≡ names_from (base true) before
 parameters_open (last_parameter p) = parameter_opens p at_close
@@ -254,10 +230,9 @@ of_cut s (bad_at at) = []
 by_found : (f : Found) (at : ℕ) (cut : Cut) (ps : List Placed) (s : Spot) (go : ℕ → Spot → List (List ℕ)) → ((qs : List Placed) (t : Spot) → cut ≡ tokens qs → go (bytes_more f) t ≡ names_from t (tokens_of qs)) → before f at cut ≡ tokens ps → names_found f s go ≡ names_from s (tokens_of ps)
 by_found blank at cut ps s go more e = more ps s e
 by_found (skipped n) at cut ps s go more e = more ps s e
-by_found nothing_known at cut ps s go more e = absurd (cc)
 by_found (found t n) at (tokens qs) ps s go more e =
     ap (λ ns. told s t ++ ns) (more qs (next s t) refl) ∙ ap (of_cut s) e
-by_found (found t n) at (bad_at there) ps s go more e = absurd (cc)
+by_found _ at _ ps s go more e = absurd (cc)
 
 over_bytes : (c : Sign) (bs : List ℕ) (at inside : ℕ) (s : Spot) (ps : List Placed) → cut_from wide c at inside bs ≡ tokens ps → names_over c inside s bs ≡ names_from s (tokens_of ps)
 over_bytes c [] at inside s ps e = ap (of_cut s) e
@@ -277,15 +252,13 @@ found_in_one_pass c text d (is_read cut declaration great right) =
 -- ---- a name of each
 
 parameters_count : {before after : List Token} {ts : List Tree} {fixed : Option ℕ} (ps : IsParameters wide before after ts fixed) → length (parameter_names ps) ≡ length ts
-parameters_count (last_parameter p) = refl
-parameters_count (last_before_dots p) = refl
 parameters_count (before_types r p ps) = ap suc (parameters_count ps)
 parameters_count (next_parameter p ps) = ap suc (parameters_count ps)
+parameters_count _ = refl
 
 list_counts : {before after : List Token} {ts : List Tree} {fixed : Option ℕ} (p : IsParameterList wide before after ts fixed) → length (list_names p) ≡ length ts
-list_counts no_parameters = refl
-list_counts only_void = refl
 list_counts (some_parameters ps) = parameters_count ps
+list_counts _ = refl
 
 function_counts : {f : Function} {d : ℕ} {before after : List Token} {s : Shape} (p : IsFunction wide f d before after s) → length (function_names p) ≡ length f.parameters
 function_counts (returns_pointer p) = function_counts p

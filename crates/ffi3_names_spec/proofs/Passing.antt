@@ -10,22 +10,10 @@ isnt_plain e = cc
 
 -- a word of a type is no bracket
 pub word_is_neither : (x : Token) → 0 < specifier_number x → bracket x ≡ neither
-word_is_neither open_round some = absurd (omega (arith, some))
-word_is_neither open_curly some = absurd (omega (arith, some))
-word_is_neither open_square some = absurd (omega (arith, some))
-word_is_neither close_round some = absurd (omega (arith, some))
-word_is_neither close_curly some = absurd (omega (arith, some))
-word_is_neither close_square some = absurd (omega (arith, some))
-word_is_neither x some = refl
+word_is_neither x some = grind arith
 
 pub bound_is_neither : (x : Token) → is_named_bound x ≡ true → bracket x ≡ neither
-bound_is_neither open_round is = cc
-bound_is_neither open_curly is = cc
-bound_is_neither open_square is = cc
-bound_is_neither close_round is = cc
-bound_is_neither close_curly is = cc
-bound_is_neither close_square is = cc
-bound_is_neither x is = refl
+bound_is_neither x is = grind arith
 
 no_member : {d : ℕ} {before after : List Token} {m : Tree} → IsMember wide d before after m → ⊥
 no_member (a_member e type counts) = isnt_plain e

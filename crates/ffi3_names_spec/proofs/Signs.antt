@@ -2,7 +2,7 @@
 use Rattle.std.proofs.Common.{◌≡◌, ◌∙◌, ℕ, zero, suc, Bool, true, false, cond, List, [], ◌∷◌, ◌++◌, length, drop, refl, ap}
 use Rattle.std.specs.Prelude.{◌==◌, codes, bytes_eq}
 use Rattle.ffi3_cdecl_spec.specs.Tokens.{wide, signed, unsigned, Token, char_word, Found, blank, skipped, nothing_known, found, found_in, wide_word, wide_word_at, word_among, more_words, words as all_words, is_among, blank_words, attribute_words, assembler_words, is_letter, front, goes_on_word, attribute_at, are_silent, begins_string, comment_at, found_at}
-use Rattle.ffi3_names_spec.specs.Scan.{Spot, base, words, tag, tagged, members, declarator, behind, function, called, opened, sole_void, over, told, next, names_found, names_over, names_in}
+use Rattle.ffi3_names_spec.specs.Scan.{Spot, base, tagged, declarator, behind, told, next, names_found, names_over, names_in}
 
 -- one thing, or a `char` of each sign
 data Same : Found → Found → Type 0 where
@@ -34,36 +34,14 @@ there b bs =
     in_first (is_letter b) (cond (b == 47) (comment_at bs) (found_at b bs)) (word_there (b ∷ front goes_on_word bs) (length (front goes_on_word bs)) (drop (length (front goes_on_word bs)) bs))
 
 char_told : (s : Spot) → told s (char_word signed) ≡ told s (char_word unsigned)
-char_told (base l) = refl
-char_told (words l) = refl
-char_told (tag l) = refl
 char_told (tagged true) = refl
-char_told (tagged false) = refl
-char_told (members l n) = refl
-char_told (declarator n) = refl
-char_told (behind n) = refl
-char_told function = refl
-char_told called = refl
-char_told opened = refl
-char_told sole_void = refl
-char_told over = refl
+char_told s = refl
 
 char_next : (s : Spot) → next s (char_word signed) ≡ next s (char_word unsigned)
-char_next (base l) = refl
-char_next (words l) = refl
-char_next (tag l) = refl
 char_next (tagged true) = refl
-char_next (tagged false) = refl
-char_next (members l n) = refl
 char_next (declarator zero) = refl
-char_next (declarator (suc n)) = refl
 char_next (behind zero) = refl
-char_next (behind (suc n)) = refl
-char_next function = refl
-char_next called = refl
-char_next opened = refl
-char_next sole_void = refl
-char_next over = refl
+char_next s = refl
 
 by_found : {f g : Found} → Same f g → (s : Spot) (go on : ℕ → Spot → List (List ℕ)) → ((n : ℕ) (t : Spot) → go n t ≡ on n t) → names_found f s go ≡ names_found g s on
 by_found (itself {f = blank}) s go on e = e 0 s

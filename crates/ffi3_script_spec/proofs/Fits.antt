@@ -4,7 +4,7 @@ use Rattle.std.specs.Prelude.{slice_index_or, nat_lt, ◌&&◌, is_none, replica
 use Rattle.std.specs.Int.{w64, to_le_bytes}
 use Rattle.std.specs.List.{list_all}
 use Rattle.std.proofs.lemmas.Bool.{eq-eqb, ltb-true}
-use Rattle.ffi3_type_spec.specs.Tree.{Scalar, u8, s8, u16, s16, u32, s32, u64, s64, u128, s128, float, double, pointer, x87, binary128, Tree, void, scalar, left_out, structure, array, Trees, no_trees, tree, tree_at, trees_of, list_of, elements_of, trees_of-list_of}
+use Rattle.ffi3_type_spec.specs.Tree.{Scalar, float, pointer, Tree, void, scalar, left_out, structure, array, Trees, no_trees, tree, tree_at, trees_of, list_of, elements_of, trees_of-list_of}
 use Rattle.ffi3_type_spec.specs.declared.Role.TheVariants.{Anywhere}
 use Rattle.ffi3_type_spec.specs.Integer.{is_integer, is_number, bytes_of_number, number_of, sum_of}
 use Rattle.ffi3_type_spec.specs.Layout.{scalar_size}
@@ -44,68 +44,39 @@ nowhere i t here = omega (arith, ltb-true i 0 (and_left (nat_lt i 0) _ here))
 element_fits : (u : Tree) (v : ValueTree) (i : ℕ) (t : Tree) → fits u v ≡ true → is_at (elements_of u) i t ≡ true → fits t (element_value v i) ≡ true
 element_fits (structure ts) (struct_value vs) i t h here =
     at_place (list_of ts) (list_of_values vs) i t (ap (λ us. all_fit us (values.values_of (list_of_values vs))) (trees_of-list_of ts) ∙ ap (all_fit ts) (values_of-list_of_values vs) ∙ h) here
-element_fits (structure ts) void_value i t h here = cc
-element_fits (structure ts) (leaf_value bytes) i t h here = cc
 element_fits void v i t h here = absurd (nowhere i t here)
 element_fits (scalar s) v i t h here = absurd (nowhere i t here)
 element_fits (left_out k) v i t h here = absurd (nowhere i t here)
-element_fits (array no_trees n) v i t h here = cc
 element_fits (array (tree u us) n) (struct_value vs) i t h here =
     at_place (replicate n u) (list_of_values vs) i t (ap (all_fit (trees_of (replicate n u))) (values_of-list_of_values vs) ∙ h) here
-element_fits (array (tree u us) n) void_value i t h here = cc
-element_fits (array (tree u us) n) (leaf_value bytes) i t h here = cc
+element_fits _ _ i t h here = cc
 
 -- a leaf of as many bytes as the type has
 leaf_fits : (t : Tree) (bytes : List ℕ) → is_scalar_of (length bytes) t ≡ true → fits t (leaf_value bytes) ≡ true
 leaf_fits (scalar s) bytes h = h
-leaf_fits void bytes h = cc
-leaf_fits (left_out k) bytes h = cc
-leaf_fits (structure ts) bytes h = cc
-leaf_fits (array ts n) bytes h = cc
+leaf_fits _ bytes h = cc
 
 -- the bytes of a number
 number_fits : (s : Scalar) (t : Tree) (bytes : List ℕ) → (is_number s ≡ true → length bytes ≡ scalar_size s) → is_number_of s t ≡ true → fits t (leaf_value bytes) ≡ true
 number_fits s (scalar r) bytes n h =
     let same = scalars_are_same s r (and_left (same_scalar s r) _ h) in
     eq-eqb (length bytes) (scalar_size r) (n (ap is_number same ∙ and_right (same_scalar s r) _ h) ∙ ap scalar_size same)
-number_fits s void bytes n h = cc
-number_fits s (left_out k) bytes n h = cc
-number_fits s (structure ts) bytes n h = cc
-number_fits s (array ts count) bytes n h = cc
+number_fits s _ bytes n h = cc
 
 pub integer_is_number : (s : Scalar) → is_integer s ≡ true → is_number s ≡ true
-integer_is_number u8 h = refl
-integer_is_number s8 h = refl
-integer_is_number u16 h = refl
-integer_is_number s16 h = refl
-integer_is_number u32 h = refl
-integer_is_number s32 h = refl
-integer_is_number u64 h = refl
-integer_is_number s64 h = refl
-integer_is_number u128 h = refl
-integer_is_number s128 h = refl
 integer_is_number float h = cc
-integer_is_number double h = cc
-integer_is_number pointer h = cc
-integer_is_number x87 h = cc
-integer_is_number binary128 h = cc
+integer_is_number _ h = cc
 
 -- an integer's type is a number's
 pub number_by_integer : (s : Scalar) (t : Tree) → is_integer_of s t ≡ true → is_number_of s t ≡ true
 number_by_integer s (scalar r) h =
     both (same_scalar s r) (is_number r) (and_left (same_scalar s r) _ h) (integer_is_number r (and_right (same_scalar s r) _ h))
-number_by_integer s void h = cc
-number_by_integer s (left_out k) h = cc
-number_by_integer s (structure ts) h = cc
-number_by_integer s (array ts n) h = cc
+number_by_integer s _ h = cc
 
 composed_fits : (t : Tree) (vs : ValueTrees) → is_list_type t ≡ true → all_fit (trees_in t) vs ≡ true → fits t (struct_value vs) ≡ true
 composed_fits (structure ts) vs h each = each
-composed_fits void vs h each = cc
-composed_fits (scalar s) vs h each = cc
-composed_fits (left_out k) vs h each = cc
-composed_fits (array no_trees n) vs h each = cc
 composed_fits (array (tree t ts) n) vs h each = each
+composed_fits _ vs h each = cc
 
 pointer_fits : (t : Tree) (address : ℕ) → scalar pointer ≡ t → fits t (leaf_value (to_le_bytes w64 address)) ≡ true
 pointer_fits t address same = subst (λ u. fits u (leaf_value (to_le_bytes w64 address)) ≡ true) same refl
@@ -133,20 +104,18 @@ module _ (kinds : Kinds) (k : Known) (arguments : all_fit (trees_of kinds.argume
 
     pub values_fit : (ts : Trees) (es : Expressions) → have_types kinds ts es ≡ true → all_fit ts (values_of k es) ≡ true
     values_fit no_trees no_expressions h = refl
-    values_fit no_trees (expression e es) h = cc
-    values_fit (tree t ts) no_expressions h = cc
     values_fit (tree t ts) (expression e es) h =
         both (fits t (value_of k e)) _ (value_fits t e (and_left (has_type kinds t e) _ h)) (values_fit ts es (and_right (has_type kinds t e) _ h))
+    values_fit _ _ h = cc
 
 -- ---- moves
 
 -- the result types of moves, and one more
 pub one_more_fits : (ts : List Tree) (vs : List ValueTree) (t : Tree) (v : ValueTree) → all_fit (trees_of ts) (values.values_of vs) ≡ true → fits t v ≡ true → all_fit (trees_of (ts ++ t ∷ [])) (values.values_of (vs ++ v ∷ [])) ≡ true
 one_more_fits [] [] t v h last = both (fits t v) true last refl
-one_more_fits [] (w ∷ vs) t v h last = cc
-one_more_fits (u ∷ ts) [] t v h last = cc
 one_more_fits (u ∷ ts) (w ∷ vs) t v h last =
     both (fits u w) _ (and_left (fits u w) _ h) (one_more_fits ts vs t v (and_right (fits u w) _ h) last)
+one_more_fits _ _ t v h last = cc
 
 void_fits : (t : Tree) → void ≡ t → fits t void_value ≡ true
 void_fits t same = subst (λ u. fits u void_value ≡ true) same refl
@@ -154,30 +123,21 @@ void_fits t same = subst (λ u. fits u void_value ≡ true) same refl
 -- a result is of the type of the move that it answers
 module _ (signatures : List Signature) (k : Known) where
   pub result_fits : (a : Act) (r : ValueTree) → IsOfType r (result_type_of signatures (move_of k a)) → fits (type_of_act signatures a) r ≡ true
-  result_fits (call to sig arguments) r h = h
-  result_fits (make function user) r h = h
-  result_fits (free to) r h = h
-  result_fits (print v) r h = h
   result_fits (return e) r h = absurd h
   result_fits return_void r h = absurd h
+  result_fits _ r h = h
 
   pub none_after_return : (a : Act) (r : ValueTree) → is_return a ≡ true → ¬ IsOfType r (result_type_of signatures (move_of k a))
-  none_after_return (call to sig arguments) r h of_type = cc
-  none_after_return (make function user) r h of_type = cc
-  none_after_return (free to) r h of_type = cc
-  none_after_return (print v) r h of_type = cc
   none_after_return (return e) r h of_type = of_type
   none_after_return return_void r h of_type = of_type
+  none_after_return _ r h of_type = cc
 
 -- a move that is not done has the zero of its type
 pub unfinished_fits : (signatures : List Signature) (a : Act) → list_all signature_is_right signatures ≡ true → fits (type_of_act signatures a) (zero_value (type_of_act signatures a)) ≡ true
 unfinished_fits signatures (call to sig arguments) right =
     zero_fits (signature_at signatures sig).result_type (any_result_type_is_right signatures sig right)
 unfinished_fits signatures (make function user) right = zero_fits (scalar pointer) refl
-unfinished_fits signatures (free to) right = refl
-unfinished_fits signatures (print v) right = refl
-unfinished_fits signatures (return e) right = refl
-unfinished_fits signatures return_void right = refl
+unfinished_fits signatures _ right = refl
 
 -- each result, as far as the moves have come, is of the type of the move that it answers
 abbrev pub Follow : List Signature → (List ValueTree → Move) → List ValueTree → Type 0

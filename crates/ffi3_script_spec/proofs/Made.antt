@@ -210,11 +210,8 @@ module _ (t0 t1 t2 t3 : List Tree) (d0 : AreDrawn t0) (d1 : AreDrawn t1) (d2 : A
   call_is_typed r k (suc (suc (suc (suc s)))) v total below h = absurd (omega (arith, below))
 
   call_gives : (s v : ℕ) (total : Expression) → s < 4 → type_of_act signatures (made_call types s v total).act ≡ scalar u64
-  call_gives zero v total below = refl
-  call_gives (suc zero) v total below = refl
-  call_gives (suc (suc zero)) v total below = refl
-  call_gives (suc (suc (suc zero))) v total below = refl
   call_gives (suc (suc (suc (suc s)))) v total below = absurd (omega (arith, below))
+  call_gives _ v total below = refl
 
   -- a call, and what comes after it
   call_then : (r : Tree) (k : Kinds) (s v : ℕ) (total : Expression) (ms : List ScriptMove) → s < 4 → has_type k (scalar u64) total ≡ true → moves_are_typed (setting r) (gives_too k (scalar u64)) ms ≡ true → moves_are_typed (setting r) k (made_call types s v total ∷ ms) ≡ true
@@ -247,9 +244,8 @@ module _ (t0 t1 t2 t3 : List Tree) (d0 : AreDrawn t0) (d1 : AreDrawn t1) (d2 : A
       (calls_are n (suc j) (next_state (next_state x)) l (omega (arith, now)) (at_number (k.outcomes ++ scalar u64 ∷ []) (4 + j) (scalar u64) (omega (arith, now)) there))
 
   calls_end : (n j x : ℕ) → ends (made_calls types n j x) ≡ true
-  calls_end zero j x = refl
-  calls_end (suc zero) j x = refl
   calls_end (suc (suc n)) j x = calls_end (suc n) (suc j) (next_state (next_state x))
+  calls_end _ j x = refl
 
   main_ends : (n x : ℕ) → ends (made_main types n x) ≡ true
   main_ends zero x = refl

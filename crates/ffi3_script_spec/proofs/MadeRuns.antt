@@ -7,7 +7,7 @@ use Rattle.std.proofs.lemmas.Bool.{le-ltb}
 use Rattle.std.proofs.lemmas.Nat.{from_le_bytes-to_le_bytes_8, mod_below}
 use Rattle.std.proofs.lemmas.List.{length-append}
 use Rattle.ffi3_type_spec.proofs.Values.{get_or-append_at}
-use Rattle.ffi3_type_spec.specs.Tree.{Tree, void, scalar, left_out, structure, array, Trees, no_trees, tree, Scalar, u64, pointer}
+use Rattle.ffi3_type_spec.specs.Tree.{Tree, scalar, structure, Trees, no_trees, tree, Scalar, u64, pointer}
 use Rattle.ffi3_type_spec.specs.Integer.{bytes_of_number, number_of, modulo, is_integer}
 use Rattle.ffi3_type_spec.specs.Signature.{Signature, signature_at}
 use Rattle.ffi3_type_spec.specs.Same.{same_list, same_signature}
@@ -43,11 +43,9 @@ module _ (k : Known) where
 
   mutual
     leaves_are : (t : Tree) (so_far e : Expression) → IsWord (value_of k so_far) → IsWord (value_of k (with_leaves so_far t e))
-    leaves_are void so_far e is = is
     leaves_are (scalar s) so_far e is = leaf_is (is_integer s) s so_far e is
-    leaves_are (left_out kind) so_far e is = is
     leaves_are (structure ts) so_far e is = elements_are ts 0 so_far e is
-    leaves_are (array ts n) so_far e is = is
+    leaves_are _ so_far e is = is
 
     elements_are : (ts : Trees) (i : ℕ) (so_far e : Expression) → IsWord (value_of k so_far) → IsWord (value_of k (with_elements so_far i ts e))
     elements_are no_trees i so_far e is = is
@@ -157,18 +155,12 @@ made_closures =
     Some (record { func = 0; sig = 0; user = 0 }) ∷ Some (record { func = 1; sig = 1; user = 0 }) ∷ Some (record { func = 2; sig = 2; user = 0 }) ∷ Some (record { func = 3; sig = 3; user = 0 }) ∷ replicate 252 None
 
 address_at : (s : ℕ) → s < 4 → (k : Known) → address_of k (number pointer (slot_address s)) ≡ slot_address s
-address_at zero below k = refl
-address_at (suc zero) below k = refl
-address_at (suc (suc zero)) below k = refl
-address_at (suc (suc (suc zero))) below k = refl
 address_at (suc (suc (suc (suc s)))) below k = absurd (omega (arith, below))
+address_at _ below k = refl
 
 there_at : (s : ℕ) → s < 4 → closure_at made_closures (slot_address s) ≡ Some (record { func = s; sig = s; user = 0 })
-there_at zero below = refl
-there_at (suc zero) below = refl
-there_at (suc (suc zero)) below = refl
-there_at (suc (suc (suc zero))) below = refl
 there_at (suc (suc (suc (suc s)))) below = absurd (omega (arith, below))
+there_at _ below = refl
 
 -- no call of the four signatures needs more than a quarter of the stack
 abbrev pub NeedsLittle : Standard → List (List Tree) → Type 0

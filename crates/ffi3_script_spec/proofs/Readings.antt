@@ -30,24 +30,20 @@ module _ (natives : List (List ℕ)) (bytes : List ℕ) where
   pub one_reading : (r s : Reading) → IsReading natives bytes r → IsReading natives bytes s → r ≡ s
   one_reading too_long too_long x y = refl
   one_reading too_long not_json x y = absurd (omega arith)
-  one_reading too_long (bad_script p e) x y = let short = y.1.short in absurd (omega arith)
-  one_reading too_long (script s) x y = let short = y.1.short in absurd (omega arith)
   one_reading not_json too_long x y = absurd (omega arith)
   one_reading not_json not_json x y = refl
-  one_reading not_json (bad_script p e) x y = has_value bytes y.0 y.1 (x.1 y.1.text)
-  one_reading not_json (script s) x y = has_value bytes y.0 y.1 (x.1 y.1.text)
-  one_reading (bad_script p e) too_long x y = let short = x.1.short in absurd (omega arith)
-  one_reading (bad_script p e) not_json x y = has_value bytes x.0 x.1 (y.1 x.1.text)
   one_reading (bad_script p e) (bad_script q f) x y =
       one_of_values x.0 y.0 x.1 y.1 (fault p e) (fault q f) x.2 y.2
   one_reading (bad_script p e) (script s) x y =
       one_of_values x.0 y.0 x.1 y.1 (fault p e) (read s) x.2 y.2
-  one_reading (script r) too_long x y = let short = x.1.short in absurd (omega arith)
-  one_reading (script r) not_json x y = has_value bytes x.0 x.1 (y.1 x.1.text)
   one_reading (script r) (bad_script q f) x y =
       one_of_values x.0 y.0 x.1 y.1 (read r) (fault q f) x.2 y.2
   one_reading (script r) (script s) x y =
       one_of_values x.0 y.0 x.1 y.1 (read r) (read s) x.2 y.2
+  one_reading too_long _ x y = let short = y.1.short in absurd (omega arith)
+  one_reading not_json _ x y = has_value bytes y.0 y.1 (x.1 y.1.text)
+  one_reading _ too_long x y = let short = x.1.short in absurd (omega arith)
+  one_reading _ not_json x y = has_value bytes x.0 x.1 (y.1 x.1.text)
 
   pub the_reading : (r : Reading) → IsReading natives bytes r → IsTheReading natives bytes r
   the_reading r is = (is, λ other h. one_reading other r h is)

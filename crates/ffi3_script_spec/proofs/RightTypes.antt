@@ -92,9 +92,6 @@ part_is_laid_out t k h below =
 
 -- each element of what may stand anywhere may
 pub element_is_laid_out : (t : Tree) (k : ℕ) → is_laid_out t ≡ true → k < length (elements_of t) → is_laid_out (tree_at (elements_of t) k) ≡ true
-element_is_laid_out void k h below = absurd (omega arith)
-element_is_laid_out (scalar s) k h below = absurd (omega arith)
-element_is_laid_out (left_out kind) k h below = absurd (omega arith)
 element_is_laid_out (structure ts) k h below = part_is_laid_out (structure ts) k h below
 element_is_laid_out (array no_trees n) k h below =
     let shaped = is_shaped 0 Anywhere (array no_trees n) None (is_none-none (first_fault 0 Anywhere (array no_trees n)) h) in
@@ -102,6 +99,7 @@ element_is_laid_out (array no_trees n) k h below =
 element_is_laid_out (array (tree t ts) n) k h below =
     let same = one_of_equal n k t void (omega (arith, below, length_of_equal n t)) in
     subst (λ u. is_laid_out u ≡ true) (sym same) (part_is_laid_out (array (tree t ts) n) 0 h (omega arith))
+element_is_laid_out _ k h below = absurd (omega arith)
 
 -- ---- zero
 

@@ -5,7 +5,7 @@ use Rattle.serde_json.specs.Data.{Data}
 use Rattle.ffi3_type_spec.specs.Signature.{Signature, SignatureFault, SignatureHasNoFault, for_calls}
 use Rattle.ffi3_type_spec.specs.FirstFault.{first_signature_fault}
 use Rattle.ffi3_type_spec.proofs.FirstSignatureFaults.{SignatureAnswers, signature_answers, one_first_signature_fault}
-use Rattle.ffi3_cdecl_spec.specs.Reading.{Outcome, reads, bad_token, unexpected, bad_number, bad_signature, IsReading, has_bad_token, has_unexpected, has_bad_number, is_read, has_bad_signature}
+use Rattle.ffi3_cdecl_spec.specs.Reading.{Outcome, reads, IsReading, is_read}
 use Rattle.ffi3_cdecl_spec.specs.Machine as declaration
 use Rattle.ffi3_cdecl_spec.proofs.Readings.{reading, one_reading}
 use Rattle.ffi3_script_spec.specs.Language.{JsonPath, Reason, Read, read, fault, and_then, read_shapes, unless_faulty, place_of_fault, reason_of_fault, object_signature, declared_signature, declaration_in, signature_by, read_signature}
@@ -40,13 +40,7 @@ own_fault path s p r (Some f) first h =
 
 declared_reason : (path : JsonPath) (o : Outcome) (p : JsonPath) (r : Reason) → declared_signature path o ≡ fault p r → (p ≡ path) × IsReasonOf o r
 declared_reason path (reads d) p r h = absurd (cc)
-declared_reason path (bad_token at) p r h =
-    let same = same_fault h in (sym same.0, sym same.1)
-declared_reason path (unexpected at) p r h =
-    let same = same_fault h in (sym same.0, sym same.1)
-declared_reason path (bad_number at) p r h =
-    let same = same_fault h in (sym same.0, sym same.1)
-declared_reason path (bad_signature f) p r h =
+declared_reason path _ p r h =
     let same = same_fault h in (sym same.0, sym same.1)
 
 -- what is read has no fault
@@ -55,11 +49,8 @@ IsRight (reads d) = SignatureHasNoFault d.signature
 IsRight o = ⊤
 
 reading_is_right : {text : List ℕ} {o : Outcome} → IsReading text o → IsRight o
-reading_is_right (has_bad_token e) = tt
-reading_is_right (has_unexpected start rest e u) = tt
-reading_is_right (has_bad_number e d n) = tt
 reading_is_right (is_read e d none right) = right
-reading_is_right (has_bad_signature e d none first) = tt
+reading_is_right _ = tt
 
 -- ---- both
 
@@ -73,10 +64,7 @@ module _ (version : ℕ) (d : Data) (path : JsonPath) where
   declared_is_read : (s : Signature) (text : List ℕ) → declaration_in version d ≡ Some text → (o : Outcome) → IsReading text o → declared_signature path o ≡ read s → IsSignature version d path s
   declared_is_read s text is (reads e) reads_so h =
       from_declaration is reads_so (same_read e.signature s h)
-  declared_is_read s text is (bad_token at) reads_so h = absurd (cc)
-  declared_is_read s text is (unexpected at) reads_so h = absurd (cc)
-  declared_is_read s text is (bad_number at) reads_so h = absurd (cc)
-  declared_is_read s text is (bad_signature f) reads_so h = absurd (cc)
+  declared_is_read s text is _ reads_so h = absurd (cc)
 
   read_by : (s : Signature) (o : Option (List ℕ)) → declaration_in version d ≡ o → signature_by version d path o ≡ read s → IsSignature version d path s
   read_by s None none h = object_is_read s none h

@@ -7,10 +7,10 @@ use Rattle.hex.specs.Hex.{decode_sized, decode_pairs}
 use Rattle.hex.specs.declared.error.FromHexError.{FromHexError}
 use Rattle.hex.specs.declared.error.FromHexError.TheVariants.{OddLength, InvalidStringLength}
 use Rattle.hex.proofs.HexLemmas.{decode_pairs-ok}
-use Rattle.serde_json.specs.Data.{Data, null, boolean, number, string, array, object, Items, no_items, item, Members, no_members, member, Num}
+use Rattle.serde_json.specs.Data.{Data, boolean, number, string, array, object, Items, no_items, item, Members, no_members, member, Num}
 use Rattle.serde_json.specs.Find.{as_number, as_u64, as_str, as_integer}
 use Rattle.serde_json.specs.Events.{items_len}
-use Rattle.ffi3_type_spec.specs.Tree.{Tree, void, scalar, left_out, structure, no_trees, tree, tree_at, trees_of, elements_of, trees_of-list_of, Scalar, pointer}
+use Rattle.ffi3_type_spec.specs.Tree.{Tree, void, scalar, structure, no_trees, tree, tree_at, trees_of, elements_of, trees_of-list_of, Scalar, pointer}
 use Rattle.ffi3_type_spec.specs.Tree as types
 use Rattle.ffi3_type_spec.specs.declared.Role.TheVariants.{AsArgument}
 use Rattle.ffi3_type_spec.specs.Integer.{is_integer, is_number, is_number_type, scalar_of, bytes_of_number}
@@ -36,59 +36,32 @@ pub record IsOfItsType (kinds : Kinds) (v : Typed) : Type 0 where
 
 -- the types of a type's elements, as a list and back
 pub elements_in : (t : Tree) → trees_of (elements_of t) ≡ trees_in t
-elements_in void = refl
-elements_in (scalar s) = refl
-elements_in (left_out k) = refl
 elements_in (structure ts) = trees_of-list_of ts
-elements_in (types.array ts n) = refl
+elements_in _ = refl
 
 -- ---- plain values
 
 number_type : (t : Tree) → is_number_type t ≡ true → (t ≡ scalar (scalar_of t)) × (is_number (scalar_of t) ≡ true)
 number_type (scalar s) h = (refl, h)
-number_type void h = absurd (cc)
-number_type (left_out k) h = absurd (cc)
-number_type (structure ts) h = absurd (cc)
-number_type (types.array ts n) h = absurd (cc)
+number_type _ h = absurd (cc)
 
 integer_type : (t : Tree) → is_integer_type t ≡ true → (t ≡ scalar (scalar_of t)) × (is_integer (scalar_of t) ≡ true)
 integer_type (scalar s) h = (refl, h)
-integer_type void h = absurd (cc)
-integer_type (left_out k) h = absurd (cc)
-integer_type (structure ts) h = absurd (cc)
-integer_type (types.array ts n) h = absurd (cc)
+integer_type _ h = absurd (cc)
 
 floating_type : (t : Tree) → is_floating_type t ≡ true → t ≡ scalar (scalar_of t)
 floating_type (scalar s) h = refl
-floating_type void h = cc
-floating_type (left_out k) h = cc
-floating_type (structure ts) h = cc
-floating_type (types.array ts n) h = cc
+floating_type _ h = cc
 
 -- an integer of 128 bits is a number
 wide_number : (s : Scalar) → is_wide s ≡ true → is_number s ≡ true
-wide_number types.u8 h = cc
-wide_number types.s8 h = cc
-wide_number types.u16 h = cc
-wide_number types.s16 h = cc
-wide_number types.u32 h = cc
-wide_number types.s32 h = cc
-wide_number types.u64 h = cc
-wide_number types.s64 h = cc
 wide_number types.u128 h = refl
 wide_number types.s128 h = refl
-wide_number types.float h = cc
-wide_number types.double h = cc
-wide_number types.pointer h = cc
-wide_number types.x87 h = cc
-wide_number types.binary128 h = cc
+wide_number _ h = cc
 
 wide_type : (t : Tree) → is_wide_type t ≡ true → (t ≡ scalar (scalar_of t)) × (is_number (scalar_of t) ≡ true)
 wide_type (scalar s) h = (refl, wide_number s h)
-wide_type void h = cc
-wide_type (left_out k) h = cc
-wide_type (structure ts) h = cc
-wide_type (types.array ts n) h = cc
+wide_type _ h = cc
 
 -- the type of a number is that of its scalar
 number_of_scalar : (s : Scalar) (t : Tree) → (t ≡ scalar s) × (is_number s ≡ true) → is_number_of s t ≡ true
@@ -233,12 +206,7 @@ module _ (scope : Scope) (right : scope_is_right scope ≡ true) where
   pub user_has : (d : Data) (path : JsonPath) (v : Typed) → user_of d path ≡ read v → IsOfItsType kinds v
   user_has (boolean true) path v h =
       subst (IsOfItsType kinds) (same_read (typed (scalar pointer) user_data) v h) (record { has_it = refl; is_own = refl; is_fit = refl })
-  user_has (boolean false) path v h = absurd (cc)
-  user_has null path v h = absurd (cc)
-  user_has (number n) path v h = absurd (cc)
-  user_has (string s) path v h = absurd (cc)
-  user_has (array ds) path v h = absurd (cc)
-  user_has (object ms) path v h = absurd (cc)
+  user_has _ path v h = absurd (cc)
 
   element_typed : (s : Tree) (e : Expression) (i : ℕ) (path : JsonPath) (o : Option Tree) (v : Typed) → has_type kinds s e ≡ true → own_type kinds e ≡ s → is_laid_out s ≡ true → slice_get (elements_of s) i ≡ o → typed_element e i path o ≡ read v → IsOfItsType kinds v
   element_typed s e i path None v has own fit is h = absurd (cc)
@@ -291,11 +259,8 @@ module _ (scope : Scope) (right : scope_is_right scope ≡ true) where
   typed_by_has d path field of of_form of_field of_of v h = of_of v h
 
   own_by_has : (path : JsonPath) (own : TypedForm → Read Typed) (form : Form) → ((f : TypedForm) → IsGood (own f)) → IsGood (own_by path own form)
-  own_by_has path own no_form each v h = absurd (cc)
   own_by_has path own (typed_form f) each v h = each f v h
-  own_by_has path own add_form each v h = absurd (cc)
-  own_by_has path own sub_form each v h = absurd (cc)
-  own_by_has path own cast_form each v h = absurd (cc)
+  own_by_has path own _ each v h = absurd (cc)
 
   sum_has : (t : Tree) (path : JsonPath) (two : ⊤ → Read Pair) (e : Expression) → ((p : Pair) → two tt ≡ read p → AreOfType t p) → if_integer t path (λ _. read_map (sum_of (scalar_of t)) (two tt)) ≡ read e → has_type kinds t e ≡ true
   sum_has t path two e each h =
@@ -329,33 +294,30 @@ module _ (scope : Scope) (right : scope_is_right scope ≡ true) where
   mutual
     -- A VALUE THAT IS READ AGAINST A TYPE HAS IT
     pub value_is_typed : (t : Tree) (d : Data) (path : JsonPath) (e : Expression) → read_value scope t d path ≡ read e → has_type kinds t e ≡ true
-    value_is_typed t null path e h = cc
-    value_is_typed t (boolean b) path e h = cc
     value_is_typed t (number n) path e h = number_has kinds t n path e h
     value_is_typed t (string text) path e h = text_has kinds t text path e h
     value_is_typed t (array ds) path e h =
         composed_has kinds t (items_len ds) path (read_values scope (elements_of t) ds path 0) e (λ es count. values_are_typed (elements_of t) ds path 0 es count) h
     value_is_typed t (object ms) path e h = object_is_typed t ms path e h
+    value_is_typed t _ path e h = cc
 
     -- one for each type
     pub values_are_typed : (ts : List Tree) (ds : Items) (path : JsonPath) (i : ℕ) (es : Expressions) → items_len ds ≡ length ts → read_values scope ts ds path i ≡ read es → have_types kinds (trees_of ts) es ≡ true
     values_are_typed [] no_items path i es count h =
         subst (λ fs. have_types kinds no_trees fs ≡ true) (same_read no_expressions es h) refl
-    values_are_typed (t ∷ ts) no_items path i es count h = absurd (omega arith)
-    values_are_typed [] (item d ds) path i es count h = absurd (omega arith)
     values_are_typed (t ∷ ts) (item d ds) path i es count h =
         let more : Expression → Read Expressions = λ e. read_map (λ fs. expression e fs) (read_values scope ts ds path (i + 1)) in
         let was = first_was_read more (read_value scope t d (at_item path i)) es h in
         let rest = part_was_read (λ fs. expression was.0 fs) (read_values scope ts ds path (i + 1)) es was.2 in
         subst (λ fs. have_types kinds (tree t (trees_of ts)) fs ≡ true) rest.2 (both (has_type kinds t was.0) _ (value_is_typed t d (at_item path i) was.0 was.1) (values_are_typed ts ds path (i + 1) rest.0 (omega arith) rest.1))
+    values_are_typed _ _ path i es count h = absurd (omega arith)
 
     pub object_is_typed : (t : Tree) (ms : Members) (path : JsonPath) (e : Expression) → read_object scope t ms path ≡ read e → has_type kinds t e ≡ true
-    object_is_typed t no_members path e h = cc
     object_is_typed t (member name d no_members) path e h =
         let place = under path name in
         let own : TypedForm → Read Typed = typed_by scope d path (λ _. read_field scope d place path) (λ _. read_of scope d place) in
         value_by_has t path place own (λ _. read_two scope t d place) (λ _. read_typed scope d place) (form_named name) e (λ f. typed_by_has d path (λ _. read_field scope d place path) (λ _. read_of scope d place) f (λ v. field_is_typed d place path v) (λ v. of_is_typed d place v)) (λ p. two_are_typed t d place p) (λ v. typed_is_typed d place v) h
-    object_is_typed t (member name d (member other x ms)) path e h = cc
+    object_is_typed t _ path e h = cc
 
     two_are_typed : (t : Tree) (d : Data) (place : JsonPath) (p : Pair) → read_two scope t d place ≡ read p → AreOfType t p
     two_are_typed t (array (item d (item e no_items))) place p h =
@@ -367,20 +329,15 @@ module _ (scope : Scope) (right : scope_is_right scope ≡ true) where
 
     -- A VALUE THAT IS READ WITH A TYPE OF ITS OWN HAS IT
     pub typed_is_typed : (d : Data) (path : JsonPath) (v : Typed) → read_typed scope d path ≡ read v → IsOfItsType kinds v
-    typed_is_typed null path v h = absurd (cc)
-    typed_is_typed (boolean b) path v h = absurd (cc)
-    typed_is_typed (number n) path v h = absurd (cc)
-    typed_is_typed (string text) path v h = absurd (cc)
-    typed_is_typed (array ds) path v h = absurd (cc)
     typed_is_typed (object ms) path v h = typed_object_is_typed ms path v h
+    typed_is_typed _ path v h = absurd (cc)
 
     pub typed_object_is_typed : (ms : Members) (path : JsonPath) (v : Typed) → read_typed_object scope ms path ≡ read v → IsOfItsType kinds v
-    typed_object_is_typed no_members path v h = absurd (cc)
     typed_object_is_typed (member name d no_members) path v h =
         let place = under path name in
         let own : TypedForm → Read Typed = typed_by scope d path (λ _. read_field scope d place path) (λ _. read_of scope d place) in
         own_by_has path own (form_named name) (λ f. typed_by_has d path (λ _. read_field scope d place path) (λ _. read_of scope d place) f (λ w. field_is_typed d place path w) (λ w. of_is_typed d place w)) v h
-    typed_object_is_typed (member name d (member other x ms)) path v h = absurd (cc)
+    typed_object_is_typed _ path v h = absurd (cc)
 
     pub field_is_typed : (d : Data) (place path : JsonPath) (v : Typed) → read_field scope d place path ≡ read v → IsOfItsType kinds v
     field_is_typed (array (item d (item e no_items))) place path v h =

@@ -5,7 +5,7 @@ use Rattle.std.specs.List.{list_all}
 use Rattle.std.proofs.lemmas.Bool.{eqb-true, lt-ltb, ltb-true}
 use Rattle.std.proofs.lemmas.List.{map-append, length-map, length-append}
 use Rattle.std.proofs.lemmas.List.Quantifiers.{position-Some}
-use Rattle.serde_json.specs.Data.{Data, null, boolean, number, string, array, object, Items, no_items, item}
+use Rattle.serde_json.specs.Data.{Data, null, array, Items, no_items, item}
 use Rattle.serde_json.specs.Find.{get, as_number, as_u64, as_str}
 use Rattle.serde_json.specs.Events.{items_len}
 use Rattle.ffi3_type_spec.specs.Tree.{Tree, void, scalar, left_out, structure, trees_of, pointer}
@@ -16,7 +16,7 @@ use Rattle.ffi3_type_spec.specs.Signature.{Signature, signature_at}
 use Rattle.ffi3_semantics_spec.specs.Move.{no_signature}
 use Rattle.ffi3_type_spec.specs.FirstFault.{first_signature_fault}
 use Rattle.ffi3_script_spec.specs.Language.{read, read_map, JsonPath, under, at_item, check_object, value_under, read_signature, no_such_signature, wrong_type, wrong_count, no_return_at_the_end}
-use Rattle.ffi3_script_spec.specs.Script.{Expression, constant, Expressions, Typed, Act, call, make, free, print, return, return_void, ScriptMove, ScriptFunction, Script}
+use Rattle.ffi3_script_spec.specs.Script.{Expression, constant, Expressions, Typed, Act, call, return, return_void, ScriptMove, ScriptFunction, Script}
 use Rattle.ffi3_script_spec.specs.Values.{Given, Scope, read_value, read_values, read_typed}
 use Rattle.ffi3_script_spec.specs.Bodies.{signature_below, read_signature_number, Surroundings, Kind, call_kind, make_kind, free_kind, print_kind, return_kind, kind_of, keys_of, read_name, condition_of, read_condition, read_arguments, read_call, function_numbered, read_function, read_user, read_make, read_result, unnamed, read_act, scope_of, read_kind, read_move, type_of_act, given_by, read_moves, ends, if_ended, read_body, script_keys, function_keys, items_at, version_of, read_signatures, Heading, new_name, is_one_of, read_heading, read_headings, function_of, read_bodies, names_of, read_rest, read_script}
 use Rattle.ffi3_script_spec.specs.Typed.{Kinds, has_type, have_types, is_condition, is_right, is_right_argument, is_laid_out, Setting, act_is_typed, gives_too, moves_are_typed, body_is_typed, types_of, kinds_of, scope_is_right, setting_of, signature_is_right, function_is_typed, script_is_typed}
@@ -67,11 +67,7 @@ module _ (scope : Scope) (right : scope_is_right scope ≡ true) where
   arguments_are_typed ts (array ds) path es h =
       let held = test_held (items_len ds == length ts) (read_values scope ts ds path 0) path wrong_count es h in
       values_are_typed scope right ts ds path 0 es (eqb-true (items_len ds) (length ts) held.0) held.1
-  arguments_are_typed ts null path es h = cc
-  arguments_are_typed ts (boolean b) path es h = cc
-  arguments_are_typed ts (number n) path es h = cc
-  arguments_are_typed ts (string s) path es h = cc
-  arguments_are_typed ts (object ms) path es h = cc
+  arguments_are_typed ts _ path es h = cc
 
   user_is_typed : (d : Option Data) (path : JsonPath) (e : Expression) → read_user scope d path ≡ read e → has_type kinds (scalar pointer) e ≡ true
   user_is_typed None path e h =
@@ -87,16 +83,12 @@ module _ (scope : Scope) (right : scope_is_right scope ≡ true) where
     pub result_is_typed : (t : Tree) (d : Data) (path : JsonPath) (a : Act) → s.result_type ≡ t → read_result scope t d path ≡ read a → act_is_typed s kinds a ≡ true
     result_is_typed void null path a is h =
         subst (λ b. act_is_typed s kinds b ≡ true) (same_read return_void a h) (ap (same_tree void) is)
-    result_is_typed void (boolean b) path a is h = cc
-    result_is_typed void (number n) path a is h = cc
-    result_is_typed void (string text) path a is h = cc
-    result_is_typed void (array ds) path a is h = cc
-    result_is_typed void (object ms) path a is h = cc
     result_is_typed (scalar r) d path a is h = return_is_typed (scalar r) d path a is h
     result_is_typed (left_out k) d path a is h = return_is_typed (left_out k) d path a is h
     result_is_typed (structure ts) d path a is h = return_is_typed (structure ts) d path a is h
     result_is_typed (types.array ts n) d path a is h =
         return_is_typed (types.array ts n) d path a is h
+    result_is_typed void _ path a is h = cc
 
 -- a move has its types, in these surroundings and after moves that give these results
 pub record IsTypedMove (s : Surroundings) (given : List Given) (m : ScriptMove) : Type 0 where
@@ -167,11 +159,7 @@ module _ (s : Surroundings) (given : List Given) (right : scope_is_right (scope_
 -- the scope after one more move
 type_is_right : (signatures : List Signature) (a : Act) → list_all signature_is_right signatures ≡ true → is_right (type_of_act signatures a) ≡ true
 type_is_right signatures (call to sig arguments) right = any_result_type_is_right signatures sig right
-type_is_right signatures (make function user) right = refl
-type_is_right signatures (free to) right = refl
-type_is_right signatures (print v) right = refl
-type_is_right signatures (return e) right = refl
-type_is_right signatures return_void right = refl
+type_is_right signatures _ right = refl
 
 types_given : (given : List Given) (g : Given) → types_of (given ++ g ∷ []) ≡ types_of given ++ g.type ∷ []
 types_given given g = map-append (λ f. f.type) given (g ∷ [])
@@ -203,11 +191,7 @@ module _ (s : Surroundings) (right : list_all signature_is_right s.signatures �
       let was = first_was_read (if_ended path) (read_moves s [] ds path 0) ms h in
       let held = test_held (ends was.0) (read was.0) path no_return_at_the_end ms was.2 in
       subst (λ ns. body_is_typed s.signatures (length s.functions) s.own ns ≡ true) (same_read was.0 ms held.1) (both (ends was.0) _ held.0 (moves_are_well_typed [] ds path 0 was.0 refl was.1))
-  body_is_well_typed null path ms h = cc
-  body_is_well_typed (boolean b) path ms h = cc
-  body_is_well_typed (number n) path ms h = cc
-  body_is_well_typed (string text) path ms h = cc
-  body_is_well_typed (object os) path ms h = cc
+  body_is_well_typed _ path ms h = cc
 
 -- ---- the whole
 
@@ -253,8 +237,6 @@ module _ (version : ℕ) (signatures : List Signature) (names : List (List ℕ))
   pub bodies_are_well_typed : (hs : List Heading) (ds : Items) (path : JsonPath) (i : ℕ) (fs : List ScriptFunction) → AreNumbered (length signatures) hs → length hs ≡ items_len ds → read_bodies version signatures names hs ds path i ≡ read fs → AreTyped fs × (length fs ≡ length hs)
   bodies_are_well_typed [] no_items path i fs numbered count e =
       subst (λ gs. AreTyped gs × (length gs ≡ 0)) (same_read [] fs e) (refl, refl)
-  bodies_are_well_typed (h ∷ hs) no_items path i fs numbered count e = absurd (omega arith)
-  bodies_are_well_typed [] (item d ds) path i fs numbered count e = absurd (omega arith)
   bodies_are_well_typed (h ∷ hs) (item d ds) path i fs numbered count e =
       let own = signature_at signatures h.signature in
       let surroundings : Surroundings = record { version = version; signatures = signatures; functions = names; own = own } in
@@ -266,6 +248,7 @@ module _ (version : ℕ) (signatures : List Signature) (names : List (List ℕ))
       let body = body_is_well_typed surroundings right right_own (value_under (codes "body") d) place moves.0 moves.1 in
       let others = bodies_are_well_typed hs ds path (i + 1) rest.0 (and_right (nat_lt h.signature (length signatures)) _ numbered) (omega arith) rest.1 in
       subst (λ gs. AreTyped gs × (length gs ≡ length (h ∷ hs))) rest.2 (both (function_is_typed signatures (length names) (function_of h moves.0)) _ (both (nat_lt h.signature (length signatures)) _ below body) others.0, ap suc others.1)
+  bodies_are_well_typed _ _ path i fs numbered count e = absurd (omega arith)
 
 -- as many names as functions and natives
 names_count : (hs : List Heading) (natives : List (List ℕ)) → length (names_of hs ++ natives) ≡ length hs + length natives
