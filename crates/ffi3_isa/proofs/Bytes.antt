@@ -6,43 +6,23 @@ use Rattle.ffi3_isa.specs.declared.Instr.TheVariants.{Endbr, Nop, Lea, JmpMem, A
 use Rattle.ffi3_isa.specs.Amd64.{IsAmd64, IsTrampolineCode, IsFixed, IsMovAtR11, IsMovAtSp, IsMovsd, IsAtR11, IsAtSp, IsLeaOf, disp32, mov, movsd, endbr64, lea, jmp, nop, lea_sp, call, ret, trampoline, fixed, mov_at_r11, mov_at_sp, movsd_at_r11}
 
 pub is_endbr64 : (bs : List ℕ) → 4 ≤ length bs → get_or bs 0 0 ≡ 0xF3 → get_or bs 1 0 ≡ 0x0F → get_or bs 2 0 ≡ 0x1E → get_or bs 3 0 ≡ 0xFA → IsTrampolineCode bs Endbr 4
-is_endbr64 [] h p q r s = absurd (omega arith)
-is_endbr64 (x ∷ []) h p q r s = absurd (omega arith)
-is_endbr64 (x ∷ y ∷ []) h p q r s = absurd (omega arith)
-is_endbr64 (x ∷ y ∷ z ∷ []) h p q r s = absurd (omega arith)
 is_endbr64 (x ∷ y ∷ z ∷ u ∷ rest) h p q r s = endbr64 {rest = rest} cc
+is_endbr64 _ h p q r s = absurd (omega arith)
 
 pub is_jmp : (bs : List ℕ) (d : ℤ) → 6 ≤ length bs → get_or bs 0 0 ≡ 0xFF → get_or bs 1 0 ≡ 0x25 → d ≡ disp32 (get_or bs 2 0) (get_or bs 3 0) (get_or bs 4 0) (get_or bs 5 0) → IsTrampolineCode bs (JmpMem d) 6
-is_jmp [] d h p q e = absurd (omega arith)
-is_jmp (x ∷ []) d h p q e = absurd (omega arith)
-is_jmp (x ∷ y ∷ []) d h p q e = absurd (omega arith)
-is_jmp (x ∷ y ∷ i ∷ []) d h p q e = absurd (omega arith)
-is_jmp (x ∷ y ∷ i ∷ j ∷ []) d h p q e = absurd (omega arith)
-is_jmp (x ∷ y ∷ i ∷ j ∷ k ∷ []) d h p q e = absurd (omega arith)
 is_jmp (x ∷ y ∷ i ∷ j ∷ k ∷ l ∷ rest) d h p q e =
     rw e (jmp {a = i} {b = j} {c = k} {d = l} {rest = rest} cc)
+is_jmp _ d h p q e = absurd (omega arith)
 
 pub is_nop : (bs : List ℕ) → 7 ≤ length bs → get_or bs 0 0 ≡ 0x0F → get_or bs 1 0 ≡ 0x1F → get_or bs 2 0 ≡ 0x80 → IsTrampolineCode bs Nop 7
-is_nop [] h p q r = absurd (omega arith)
-is_nop (x ∷ []) h p q r = absurd (omega arith)
-is_nop (x ∷ y ∷ []) h p q r = absurd (omega arith)
-is_nop (x ∷ y ∷ z ∷ []) h p q r = absurd (omega arith)
-is_nop (x ∷ y ∷ z ∷ i ∷ []) h p q r = absurd (omega arith)
-is_nop (x ∷ y ∷ z ∷ i ∷ j ∷ []) h p q r = absurd (omega arith)
-is_nop (x ∷ y ∷ z ∷ i ∷ j ∷ k ∷ []) h p q r = absurd (omega arith)
 is_nop (x ∷ y ∷ z ∷ i ∷ j ∷ k ∷ l ∷ rest) h p q r =
     nop {a = i} {b = j} {c = k} {d = l} {rest = rest} cc
+is_nop _ h p q r = absurd (omega arith)
 
 pub is_lea : (bs : List ℕ) (register : ℕ) (d : ℤ) → 7 ≤ length bs → get_or bs 1 0 ≡ 0x8D → IsLeaOf (get_or bs 0 0) (get_or bs 2 0) register → d ≡ disp32 (get_or bs 3 0) (get_or bs 4 0) (get_or bs 5 0) (get_or bs 6 0) → IsTrampolineCode bs (Lea register d) 7
-is_lea [] register d h p m e = absurd (omega arith)
-is_lea (x ∷ []) register d h p m e = absurd (omega arith)
-is_lea (x ∷ y ∷ []) register d h p m e = absurd (omega arith)
-is_lea (x ∷ y ∷ z ∷ []) register d h p m e = absurd (omega arith)
-is_lea (x ∷ y ∷ z ∷ i ∷ []) register d h p m e = absurd (omega arith)
-is_lea (x ∷ y ∷ z ∷ i ∷ j ∷ []) register d h p m e = absurd (omega arith)
-is_lea (x ∷ y ∷ z ∷ i ∷ j ∷ k ∷ []) register d h p m e = absurd (omega arith)
 is_lea (x ∷ y ∷ z ∷ i ∷ j ∷ k ∷ l ∷ rest) register d h p m e =
     rw e (lea {prefix = x} {mod_reg_rm = z} {register = register} {a = i} {b = j} {c = k} {d = l} {rest = rest} (cc) m)
+is_lea _ register d h p m e = absurd (omega arith)
 
 -- where the second byte is that of LEA and no register is named, there is no instruction
 pub none_named : (bs : List ℕ) (i : Instr) (n : ℕ) → get_or bs 1 0 ≡ 0x8D → ((register : ℕ) → ¬ IsLeaOf (get_or bs 0 0) (get_or bs 2 0) register) → ¬ IsTrampolineCode bs i n
@@ -53,27 +33,14 @@ none_named bs i n p none (lea {prefix = x} {mod_reg_rm = z} {register = register
     none register (rw (ap (λ (l : List ℕ). get_or l 0 0) is, ap (λ (l : List ℕ). get_or l 2 0) is) names)
 
 pub is_lea_sp : (bs : List ℕ) (d : ℤ) → 8 ≤ length bs → get_or bs 0 0 ≡ 0x48 → get_or bs 1 0 ≡ 0x8D → get_or bs 2 0 ≡ 0xA4 → get_or bs 3 0 ≡ 0x24 → d ≡ disp32 (get_or bs 4 0) (get_or bs 5 0) (get_or bs 6 0) (get_or bs 7 0) → IsFixed bs (Addi 4 4 d) 8
-is_lea_sp [] d h p q r s e = absurd (omega arith)
-is_lea_sp (b0 ∷ []) d h p q r s e = absurd (omega arith)
-is_lea_sp (b0 ∷ b1 ∷ []) d h p q r s e = absurd (omega arith)
-is_lea_sp (b0 ∷ b1 ∷ b2 ∷ []) d h p q r s e = absurd (omega arith)
-is_lea_sp (b0 ∷ b1 ∷ b2 ∷ b3 ∷ []) d h p q r s e = absurd (omega arith)
-is_lea_sp (b0 ∷ b1 ∷ b2 ∷ b3 ∷ b4 ∷ []) d h p q r s e = absurd (omega arith)
-is_lea_sp (b0 ∷ b1 ∷ b2 ∷ b3 ∷ b4 ∷ b5 ∷ []) d h p q r s e = absurd (omega arith)
-is_lea_sp (b0 ∷ b1 ∷ b2 ∷ b3 ∷ b4 ∷ b5 ∷ b6 ∷ []) d h p q r s e = absurd (omega arith)
 is_lea_sp (b0 ∷ b1 ∷ b2 ∷ b3 ∷ b4 ∷ b5 ∷ b6 ∷ b7 ∷ rest) d h p q r s e =
     rw e (lea_sp {a = b4} {b = b5} {c = b6} {d = b7} {rest = rest} cc)
+is_lea_sp _ d h p q r s e = absurd (omega arith)
 
 pub is_call : (bs : List ℕ) (d : ℤ) → 7 ≤ length bs → get_or bs 0 0 ≡ 0x41 → get_or bs 1 0 ≡ 0xFF → get_or bs 2 0 ≡ 0x93 → d ≡ disp32 (get_or bs 3 0) (get_or bs 4 0) (get_or bs 5 0) (get_or bs 6 0) → IsFixed bs (CallMem 11 d) 7
-is_call [] d h p q r e = absurd (omega arith)
-is_call (b0 ∷ []) d h p q r e = absurd (omega arith)
-is_call (b0 ∷ b1 ∷ []) d h p q r e = absurd (omega arith)
-is_call (b0 ∷ b1 ∷ b2 ∷ []) d h p q r e = absurd (omega arith)
-is_call (b0 ∷ b1 ∷ b2 ∷ b3 ∷ []) d h p q r e = absurd (omega arith)
-is_call (b0 ∷ b1 ∷ b2 ∷ b3 ∷ b4 ∷ []) d h p q r e = absurd (omega arith)
-is_call (b0 ∷ b1 ∷ b2 ∷ b3 ∷ b4 ∷ b5 ∷ []) d h p q r e = absurd (omega arith)
 is_call (b0 ∷ b1 ∷ b2 ∷ b3 ∷ b4 ∷ b5 ∷ b6 ∷ rest) d h p q r e =
     rw e (call {a = b3} {b = b4} {c = b5} {d = b6} {rest = rest} cc)
+is_call _ d h p q r e = absurd (omega arith)
 
 pub is_ret : (bs : List ℕ) → 1 ≤ length bs → get_or bs 0 0 ≡ 0xC3 → IsFixed bs Ret 1
 is_ret [] h p = absurd (omega arith)
@@ -81,40 +48,19 @@ is_ret (b0 ∷ rest) h p =
     ret {rest = rest} cc
 
 pub is_mov_at_r11 : (bs : List ℕ) (i : Instr) (register : ℕ) → 7 ≤ length bs → IsAtR11 (get_or bs 0 0) (get_or bs 2 0) register → mov (get_or bs 1 0) register 11 (disp32 (get_or bs 3 0) (get_or bs 4 0) (get_or bs 5 0) (get_or bs 6 0)) ≡ Some i → IsMovAtR11 bs i 7
-is_mov_at_r11 [] i register h m e = absurd (omega arith)
-is_mov_at_r11 (b0 ∷ []) i register h m e = absurd (omega arith)
-is_mov_at_r11 (b0 ∷ b1 ∷ []) i register h m e = absurd (omega arith)
-is_mov_at_r11 (b0 ∷ b1 ∷ b2 ∷ []) i register h m e = absurd (omega arith)
-is_mov_at_r11 (b0 ∷ b1 ∷ b2 ∷ b3 ∷ []) i register h m e = absurd (omega arith)
-is_mov_at_r11 (b0 ∷ b1 ∷ b2 ∷ b3 ∷ b4 ∷ []) i register h m e = absurd (omega arith)
-is_mov_at_r11 (b0 ∷ b1 ∷ b2 ∷ b3 ∷ b4 ∷ b5 ∷ []) i register h m e = absurd (omega arith)
 is_mov_at_r11 (b0 ∷ b1 ∷ b2 ∷ b3 ∷ b4 ∷ b5 ∷ b6 ∷ rest) i register h m e =
     record { prefix = b0; op = b1; mod_reg_rm = b2; register = register; a = b3; b = b4; c = b5; d = b6; rest = rest; is_bytes = refl; names = m; means = e; is_size = refl }
+is_mov_at_r11 _ i register h m e = absurd (omega arith)
 
 pub is_mov_at_sp : (bs : List ℕ) (i : Instr) (register : ℕ) → 8 ≤ length bs → get_or bs 3 0 ≡ 0x24 → IsAtSp (get_or bs 0 0) (get_or bs 2 0) register → mov (get_or bs 1 0) register 4 (disp32 (get_or bs 4 0) (get_or bs 5 0) (get_or bs 6 0) (get_or bs 7 0)) ≡ Some i → IsMovAtSp bs i 8
-is_mov_at_sp [] i register h s m e = absurd (omega arith)
-is_mov_at_sp (b0 ∷ []) i register h s m e = absurd (omega arith)
-is_mov_at_sp (b0 ∷ b1 ∷ []) i register h s m e = absurd (omega arith)
-is_mov_at_sp (b0 ∷ b1 ∷ b2 ∷ []) i register h s m e = absurd (omega arith)
-is_mov_at_sp (b0 ∷ b1 ∷ b2 ∷ b3 ∷ []) i register h s m e = absurd (omega arith)
-is_mov_at_sp (b0 ∷ b1 ∷ b2 ∷ b3 ∷ b4 ∷ []) i register h s m e = absurd (omega arith)
-is_mov_at_sp (b0 ∷ b1 ∷ b2 ∷ b3 ∷ b4 ∷ b5 ∷ []) i register h s m e = absurd (omega arith)
-is_mov_at_sp (b0 ∷ b1 ∷ b2 ∷ b3 ∷ b4 ∷ b5 ∷ b6 ∷ []) i register h s m e = absurd (omega arith)
 is_mov_at_sp (b0 ∷ b1 ∷ b2 ∷ b3 ∷ b4 ∷ b5 ∷ b6 ∷ b7 ∷ rest) i register h s m e =
     record { prefix = b0; op = b1; mod_reg_rm = b2; register = register; a = b4; b = b5; c = b6; d = b7; rest = rest; is_bytes = cc; names = m; means = e; is_size = refl }
+is_mov_at_sp _ i register h s m e = absurd (omega arith)
 
 pub is_movsd : (bs : List ℕ) (i : Instr) (register : ℕ) → 9 ≤ length bs → get_or bs 0 0 ≡ 0xF2 → get_or bs 1 0 ≡ 0x41 → get_or bs 2 0 ≡ 0x0F → register < 8 → get_or bs 4 0 ≡ 128 + 8 * register + 3 → movsd (get_or bs 3 0) register 11 (disp32 (get_or bs 5 0) (get_or bs 6 0) (get_or bs 7 0) (get_or bs 8 0)) ≡ Some i → IsMovsd bs i 9
-is_movsd [] i register h p q r small m e = absurd (omega arith)
-is_movsd (b0 ∷ []) i register h p q r small m e = absurd (omega arith)
-is_movsd (b0 ∷ b1 ∷ []) i register h p q r small m e = absurd (omega arith)
-is_movsd (b0 ∷ b1 ∷ b2 ∷ []) i register h p q r small m e = absurd (omega arith)
-is_movsd (b0 ∷ b1 ∷ b2 ∷ b3 ∷ []) i register h p q r small m e = absurd (omega arith)
-is_movsd (b0 ∷ b1 ∷ b2 ∷ b3 ∷ b4 ∷ []) i register h p q r small m e = absurd (omega arith)
-is_movsd (b0 ∷ b1 ∷ b2 ∷ b3 ∷ b4 ∷ b5 ∷ []) i register h p q r small m e = absurd (omega arith)
-is_movsd (b0 ∷ b1 ∷ b2 ∷ b3 ∷ b4 ∷ b5 ∷ b6 ∷ []) i register h p q r small m e = absurd (omega arith)
-is_movsd (b0 ∷ b1 ∷ b2 ∷ b3 ∷ b4 ∷ b5 ∷ b6 ∷ b7 ∷ []) i register h p q r small m e = absurd (omega arith)
 is_movsd (b0 ∷ b1 ∷ b2 ∷ b3 ∷ b4 ∷ b5 ∷ b6 ∷ b7 ∷ b8 ∷ rest) i register h p q r small m e =
     record { op = b3; register = register; a = b5; b = b6; c = b7; d = b8; rest = rest; is_bytes = cc; in_range = small; means = e; is_size = refl }
+is_movsd _ i register h p q r small m e = absurd (omega arith)
 
 -- ---- what the bytes of an instruction say
 
