@@ -36,7 +36,7 @@ use Rattle.ffi3_callee.specs.Received.{IsIncoming}
 use Rattle.ffi3_callee.specs.Saved.{HoldRegisters, saved_word}
 use Rattle.ffi3_callee.proofs.Beside.{passed_beside}
 use Rattle.ffi3_callee.proofs.Keeping.{reserved_then}
-use Rattle.ffi3_callee.proofs.Results.{buffer_within}
+use Rattle.ffi3_machine_transfer.proofs.Outcomes.{buffer_within}
 use Rattle.ffi3_callee.proofs.Return.{same_stack}
 use Rattle.ffi3_callee.proofs.WayBack.{same_reserved}
 use Rattle.ffi3_invoke.specs.Calls.{HasReturned, IsInCallee, return_at}
