@@ -1,6 +1,6 @@
 -- A whole activation of a callee, and what else is true at its return.
 use Rattle.std.specs.Prelude.{Option, Some, None}
-use Rattle.std.proofs.Common.{◌≡◌, ◌⊎◌, inl, inr, ℕ, ◌+◌, ◌-◌, ◌≤◌, List, get_or, length, refl, ap, sym, ◌∙◌, subst, arith}
+use Rattle.std.proofs.Common.{◌≡◌, ◌⊎◌, inl, inr, ℕ, ◌+◌, ◌-◌, ◌≤◌, List, take, drop, get_or, length, refl, ap, sym, ◌∙◌, subst, arith}
 use Rattle.std.proofs.lemmas.Bool.{cases_lt}
 use Rattle.ffi3_type_spec.specs.declared.Isa.{Isa}
 use Rattle.ffi3_type_spec.specs.declared.Isa.TheVariants.{Amd64, Aarch64, Riscv}
@@ -36,10 +36,10 @@ result_end base t (Direct pieces) = base
 result_end base t (Hidden at buffer) = base + buffer + size_of t
 
 result_within : (base : ℕ) (t : Tree) (res : Res) (a b : State) → ResultWrites base t res a b → WroteWithin base (result_end base t res) a b
-result_within base t Nothing a b w = w
-result_within base t (Direct pieces) a b w = w
 result_within base t (Hidden at buffer) a b w =
     wrote_wider (base + buffer) (base + buffer + size_of t) base (base + buffer + size_of t) a b (omega arith) (omega arith) w
+result_within base t Nothing a b w = w
+result_within base t (Direct pieces) a b w = w
 
 result_beside : (base : ℕ) (t : Tree) (res : Res) (a b : State) (i : ℕ) → ResultWrites base t res a b → IsBesideResult base t res (STACK + i) → get_or b.stack i 0 ≡ get_or a.stack i 0
 result_beside base t Nothing a b i w far = w.outside i (cases_lt (STACK + i) base)
@@ -48,15 +48,14 @@ result_beside base t (Hidden at buffer) a b i w far = w.outside i far
 
 -- ---- the return address
 
-pushes : (isa : Isa) → link_register isa ≡ None → pushed_bytes isa ≡ 8
+pub pushes : (isa : Isa) → link_register isa ≡ None → pushed_bytes isa ≡ 8
 pushes Amd64 none = refl
-pushes Aarch64 none = cc
-pushes Riscv none = cc
+pushes _ none = cc
 
 -- its bytes are asked for where a call pushes it
-return_there : (link : Option ℕ) (general : List ℕ) (sp : ℕ) (a b : State) → (link ≡ None → stack_at sp 8 b ≡ stack_at sp 8 a) → HasReturnAt link general sp a.stack → HasReturnAt link general sp b.stack
-return_there None general sp a b same h = (h.0, same refl ∙ h.1)
-return_there (Some l) general sp a b same h = h
+pub return_same : (link : Option ℕ) (general : List ℕ) (sp : ℕ) (xs ys : List ℕ) → (link ≡ None → take 8 (drop (sp - STACK) ys) ≡ take 8 (drop (sp - STACK) xs)) → HasReturnAt link general sp xs → HasReturnAt link general sp ys
+return_same None general sp xs ys same h = (h.0, same refl ∙ h.1)
+return_same (Some l) general sp xs ys same h = h
 
 -- ---- from the entry `m` by what was received and given to the return
 
@@ -83,7 +82,7 @@ module _ (std : Standard) (s : Signature) (agrees : AgreesWithMachine std) (m a 
   at_return : HasReturnAddress m → IsAtReturn (by_exchange c.target) c
   at_return h =
       let there : HasReturnAt (link_register (isa_of std.target)) m.general m.sp m.stack = subst (λ t. HasReturnAt (link_register (isa_of t)) m.general m.sp m.stack) target h in
-      back.at_return (image_of 0 m) hold (subst (λ n. HasReturnAt (link_register (isa_of std.target)) m.general n b.stack) (sym entry_is) (return_there (link_register (isa_of std.target)) m.general m.sp m b pushed_there there))
+      back.at_return (image_of 0 m) hold (subst (λ n. HasReturnAt (link_register (isa_of std.target)) m.general n b.stack) (sym entry_is) (return_same (link_register (isa_of std.target)) m.general m.sp m.stack b.stack pushed_there there))
 
   pub answered : HasAnswered std s m c
   answered = record {

@@ -29,13 +29,13 @@ use Rattle.ffi3_stubs.specs.Calls.{CameFromWords, HasEntered, WentToWords, steps
 use Rattle.ffi3_machine_transfer.specs.Passing.{by_exchange, passing, passing_if}
 use Rattle.ffi3_machine_transfer.specs.Stored.{IsPlace, SameAt, WroteOnly, stack_byte, word_in}
 use Rattle.ffi3_machine_transfer.proofs.Held.{held_small, left_by, stored_as_passed, word_held}
-use Rattle.ffi3_marshal.proofs.Lawful.{machine_places}
+use Rattle.ffi3_marshal.proofs.Lawful.{each_map, machine_places}
+use Rattle.ffi3_machine_transfer.proofs.Composing.{beside, by_register, word_same}
 use Rattle.ffi3_machine_transfer.proofs.Passing.{steps_more, steps_same, told_there, word_read, word_stored}
 use Rattle.ffi3_machine_transfer.proofs.Tables.{each_with, one_of_each, reserved_not_entered}
 use Rattle.ffi3_callee.specs.Entered.{IsEntered}
 use Rattle.ffi3_callee.specs.Saved.{AreGivenBack, AreSaved, HoldRegisters, IsHiddenWord, IsToSave, saved_word}
 use Rattle.ffi3_callee.proofs.Keeping.{reserved_there}
-use Rattle.ffi3_callee.proofs.OwnKept.{word_same}
 use Rattle.ffi3_callee.proofs.Return.{any_sp}
 
 -- ---- words that follow one another
@@ -62,14 +62,12 @@ spare_only Riscv = tt
 
 saved_are_registers : (isa : Isa) → AllByRecursion (IsPlace 0) (callee_saved_words isa)
 saved_are_registers Amd64 = machine_places Amd64 0 (callee_saved_words Amd64) (each_exists Amd64 (callee_saved_words Amd64) refl)
-saved_are_registers Aarch64 = machine_places Aarch64 0 (callee_saved_words Aarch64) (each_exists Aarch64 (callee_saved_words Aarch64) refl)
-saved_are_registers Riscv = machine_places Riscv 0 (callee_saved_words Riscv) (each_exists Riscv (callee_saved_words Riscv) refl)
+saved_are_registers isa = machine_places isa 0 (callee_saved_words isa) (each_exists isa (callee_saved_words isa) refl)
 
 module _ (base : ℕ) (hidden : Option Loc) (entry m : State) (is : IsMachine entry) (h : Loc) (hidden_is : IsHiddenWord base entry hidden (held h entry)) where
   spare_holds : (w : SaveWord) (n : ℕ) → IsSpare w → IsToSave base entry hidden w n
   spare_holds Spare n spare = tt
-  spare_holds (Register at) n spare = absurd spare
-  spare_holds Hidden n spare = absurd spare
+  spare_holds _ n spare = absurd spare
 
   word_is : (from : ℕ) (l : Loc) → STACK ≤ from → take 8 (drop (from - STACK) m.stack) ≡ low_bytes 8 (held l entry) → saved_word from 0 m ≡ held l entry
   word_is from l low e =
@@ -125,12 +123,7 @@ hidden_held base h None entry lies some = tt
 
 hidden_lies : (isa : Isa) → IsPlace 0 (G (hidden_register isa))
 hidden_lies Amd64 = omega arith
-hidden_lies Aarch64 = omega arith
-hidden_lies Riscv = omega arith
-
-both_ways : (b : Bool) → b ≡ true → b ≡ false → ⊥
-both_ways true e h = cc
-both_ways false e h = cc
+hidden_lies _ = omega arith
 
 falls : (old new low : ℕ) → new ≡ min old low → (old ≤ new) ⊎ (low ≤ new)
 falls old new low is = elim (cases_lt old low) [
@@ -146,26 +139,15 @@ entered_by_stub std agrees laws base block hidden entry m is same base_is low hi
     let s : HasEntered (isa_of std.target) (with_x ENTRY_SP_AT block entry) m = subst (λ k. HasEntered (isa_of k) (with_x ENTRY_SP_AT block entry) m) (sym same) says in
     let target : m.target ≡ entry.target = ap (λ q. q.target) s.rest in
     let went : WentToWords (entry.sp - std.save) (callee_saved_words (isa_of std.target) ++ G (hidden_register (isa_of std.target)) ∷ []) entry.general entry.floating m.stack = subst (λ n. WentToWords (entry.sp - n) (callee_saved_words (isa_of std.target) ++ G (hidden_register (isa_of std.target)) ∷ []) entry.general entry.floating m.stack) (sym bytes) s.saved in
+    let outside = subst (λ n. (i : ℕ) → (STACK + i < entry.sp - n) ⊎ (entry.sp ≤ STACK + i) → get_or m.stack i 0 ≡ get_or entry.stack i 0) (sym bytes) s.outside in
     let mark : m.mark ≡ min entry.mark (entry.sp - std.save) = s.mark ∙ ap (λ n. min entry.mark (entry.sp - n)) (sym bytes) in
     record {
       saved = subst (λ ws. AreSaved (entry.sp - std.save) (entry.sp + std.link) hidden ws entry m) (sym laws.area) (words_saved (entry.sp + std.link) hidden entry m is (G (hidden_register (isa_of std.target))) (hidden_held (entry.sp + std.link) (hidden_register (isa_of std.target)) hidden entry (hidden_lies (isa_of std.target)) hidden_saved) (entry.sp - std.save) (callee_saved_words (isa_of std.target)) (spare_words (isa_of std.target)) (omega (arith, low)) (saved_are_registers (isa_of std.target)) (spare_only (isa_of std.target)) went);
       arguments = subst (λ (b : Bool). AllByRecursion (λ l. SameAt 0 l entry (passing_if b m)) std.argument_registers) (ap by_exchange (sym target)) (each_with (IsPlace 0) (IsOneOf (entry_stores (isa_of std.target))) (λ l. SameAt 0 l entry (passing_if (by_exchange entry.target) m)) (λ l lies some. stored_as_passed (by_exchange entry.target) e (entry_stores (isa_of std.target)) entry (with_x ENTRY_SP_AT block entry) m is refl refl s.stored l lies some) std.argument_registers (machine_places (isa_of std.target) 0 std.argument_registers agrees.arguments_exist) laws.arguments_stored);
       reserved = each_with (IsPlace 0) (IsNoneOf (entry_scratch (isa_of std.target))) (λ at. word_in STACK_TOP m at ≡ word_in STACK_TOP entry at) (λ l lies none. word_same STACK_TOP STACK_TOP l entry m lies (left_by (entry_scratch (isa_of std.target)) entry m s.others l lies none)) std.reserved (reserved_there std agrees) (subst (AllByRecursion (IsNoneOf (entry_scratch (isa_of std.target)))) (sym agrees.reserved) (reserved_not_entered (isa_of std.target)));
       sp = s.sp ∙ told_there ENTRY_SP_AT block entry (omega (arith, sized)) (omega (arith, block_low, high));
-      within = record {
-        size = s.size;
-        outside = subst (λ n. (i : ℕ) → (STACK + i < entry.sp - n) ⊎ (entry.sp ≤ STACK + i) → get_or m.stack i 0 ≡ get_or entry.stack i 0) (sym bytes) s.outside;
-        mark = falls entry.mark m.mark (entry.sp - std.save) mark;
-        target = target;
-        pc = refl;
-        code = ap (λ q. q.code) s.rest;
-        events = refl;
-        spare_events = refl;
-        spare_bytes = refl;
-        exchange = refl;
-        steps = refl;
-      };
-      pc = λ own. absurd (both_ways (by_exchange entry.target) e own);
+      within = beside (entry.sp - std.save) entry.sp entry m s.size outside (falls entry.mark m.mark (entry.sp - std.save) mark) target (ap (λ q. q.code) s.rest);
+      pc = λ own. absurd cc;
       events = ap (λ q. q.events) s.rest;
       spare_events = ap (λ q. q.spare_events) s.rest;
       spare_bytes = ap (λ q. q.spare_bytes) s.rest;
@@ -174,16 +156,9 @@ entered_by_stub std agrees laws base block hidden entry m is same base_is low hi
 
 -- ---- the entry without stubs
 
-own_same : (b : Bool) → b ≡ false → (entry m : State) → m.general ≡ entry.general → m.floating ≡ entry.floating → (l : Loc) → IsPlace 0 l → SameAt 0 l entry (passing_if b m)
-own_same true e entry m general floating l lies = absurd cc
-own_same false e entry m general floating (G r) lies = ap (λ xs. get_or xs r 0) general
-own_same false e entry m general floating (F r) lies = ap (λ xs. get_or xs r 0) floating
-own_same false e entry m general floating (S k w) lies = absurd (omega (arith, lies.0, lies.1))
-
 lists_same : (entry m : State) → m.general ≡ entry.general → m.floating ≡ entry.floating → (l : Loc) → IsPlace 0 l → SameAt 0 l entry m
-lists_same entry m general floating (G r) lies = ap (λ xs. get_or xs r 0) general
-lists_same entry m general floating (F r) lies = ap (λ xs. get_or xs r 0) floating
-lists_same entry m general floating (S k w) lies = absurd (omega (arith, lies.0, lies.1))
+lists_same entry m general floating l lies =
+    by_register (λ l. SameAt 0 l entry m) (λ r below. ap (λ xs. get_or xs r 0) general) (λ r below. ap (λ xs. get_or xs r 0) floating) l lies
 
 pub entered_itself : (std : Standard) → AgreesWithMachine std → (from base block : ℕ) (hidden : Option Loc) (entry a m : State) → std.target ≡ entry.target → from ≡ entry.sp - std.save → base ≡ entry.sp + std.link → STACK + std.save ≤ entry.sp → by_exchange entry.target ≡ false → AreSaved from base hidden std.save_area entry a → WroteOnly from (from + 8 * length std.save_area) entry a → m ≡ with_sp block a → IsEntered std hidden block entry m
 entered_itself std agrees from base block hidden entry a m same from_is base_is low e saved only m_is =
@@ -194,24 +169,13 @@ entered_itself std agrees from base block hidden entry a m same from_is base_is 
     let floating : m.floating ≡ entry.floating = ap (λ q. q.floating) m_is ∙ only.floating in
     let there : AreSaved (entry.sp - std.save) (entry.sp + std.link) hidden std.save_area entry a = subst (λ n. AreSaved (entry.sp - std.save) n hidden std.save_area entry a) base_is (subst (λ n. AreSaved n base hidden std.save_area entry a) from_is saved) in
     let own : by_exchange m.target ≡ false = ap by_exchange target ∙ e in
+    let mark = subst (λ q. (entry.mark ≤ q.mark) ⊎ (entry.sp - std.save ≤ q.mark)) (sym m_is) (subst (λ n. (entry.mark ≤ a.mark) ⊎ (n ≤ a.mark)) from_is w.mark) in
     record {
       saved = λ i word below is. subst (IsToSave (entry.sp + std.link) entry hidden word) (sym (ap (λ q. saved_word (entry.sp - std.save) i q) m_is ∙ any_sp (entry.sp - std.save) block a (S (8 * i) 8))) (there i word below is);
-      arguments = each_with (IsPlace 0) (IsPlace 0) (λ l. SameAt 0 l entry (passing m)) (λ l lies more. own_same (by_exchange m.target) own entry m general floating l lies) std.argument_registers (machine_places (isa_of std.target) 0 std.argument_registers agrees.arguments_exist) (machine_places (isa_of std.target) 0 std.argument_registers agrees.arguments_exist);
-      reserved = each_with (IsPlace 0) (IsPlace 0) (λ at. word_in STACK_TOP m at ≡ word_in STACK_TOP entry at) (λ l lies more. word_same STACK_TOP STACK_TOP l entry m lies (lists_same entry m general floating l lies)) std.reserved (reserved_there std agrees) (reserved_there std agrees);
+      arguments = each_map (IsPlace 0) (λ l. SameAt 0 l entry (passing m)) (λ l lies. subst (λ (b : Bool). SameAt 0 l entry (passing_if b m)) (sym own) (lists_same entry m general floating l lies)) std.argument_registers (machine_places (isa_of std.target) 0 std.argument_registers agrees.arguments_exist);
+      reserved = each_map (IsPlace 0) (λ at. word_in STACK_TOP m at ≡ word_in STACK_TOP entry at) (λ l lies. word_same STACK_TOP STACK_TOP l entry m lies (lists_same entry m general floating l lies)) std.reserved (reserved_there std agrees);
       sp = ap (λ q. q.sp) m_is;
-      within = record {
-        size = ap (λ q. length q.stack) m_is ∙ w.size;
-        outside = λ i far. ap (λ q. get_or q.stack i 0) m_is ∙ w.outside i (around from i from_is area far);
-        mark = subst (λ q. (entry.mark ≤ q.mark) ⊎ (entry.sp - std.save ≤ q.mark)) (sym m_is) (subst (λ n. (entry.mark ≤ a.mark) ⊎ (n ≤ a.mark)) from_is w.mark);
-        target = target;
-        pc = refl;
-        code = ap (λ q. q.code) m_is ∙ w.code;
-        events = refl;
-        spare_events = refl;
-        spare_bytes = refl;
-        exchange = refl;
-        steps = refl;
-      };
+      within = beside (entry.sp - std.save) entry.sp entry m (ap (λ q. length q.stack) m_is ∙ w.size) (λ i far. ap (λ q. get_or q.stack i 0) m_is ∙ w.outside i (around from i from_is area far)) mark target (ap (λ q. q.code) m_is ∙ w.code);
       pc = λ own. ap (λ q. q.pc) m_is ∙ w.pc;
       events = ap (λ q. q.events) m_is ∙ w.events;
       spare_events = ap (λ q. q.spare_events) m_is ∙ w.spare_events;

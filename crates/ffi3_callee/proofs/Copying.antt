@@ -78,15 +78,13 @@ found_stays low high base (ByRef at copy) a b inside above w h = same_word_in ba
 pub each_writable : (ls : List Loc) → AllByRecursion (IsWritable Amd64) ls
 each_writable [] = tt
 each_writable (G r ∷ ls) = (refl, each_writable ls)
-each_writable (F r ∷ ls) = (tt, each_writable ls)
-each_writable (S n w ∷ ls) = (tt, each_writable ls)
+each_writable (_ ∷ ls) = (tt, each_writable ls)
 
 ready_drop : (target : Target) (room j : ℕ) (ts : List Tree) (ps : List Place) → AreReady target room ts ps → AreReady target room (drop j ts) (drop j ps)
 ready_drop target room zero ts ps h = h
 ready_drop target room (suc j) [] [] h = tt
-ready_drop target room (suc j) [] (p ∷ ps) h = absurd h
-ready_drop target room (suc j) (t ∷ ts) [] h = absurd h
 ready_drop target room (suc j) (t ∷ ts) (p ∷ ps) h = ready_drop target room j ts ps h.1
+ready_drop target room _ _ _ h = absurd h
 
 -- an argument's place, whatever the target writes to
 pub ready_at : (std : Standard) (s : Signature) → IsSound std s → SignatureHasNoFault s → (i : ℕ) (t : Tree) (p : Place) → i < length s.arguments → t ≡ tree_at s.arguments i → slice_get (plan_of std s).places i ≡ Some p → IsReady Amd64 (frame_of std s) t p
@@ -105,20 +103,14 @@ found_at base m ps i p is h = (subst (AreFound base m) (place_read ps i p is) (f
 
 owns_length : (m : Image) (base : ℕ) (ts : List Tree) (ps : List Place) (vs : List ValueTree) → OwnsArguments m base ts ps vs → length vs ≡ length ts
 owns_length m base [] [] [] h = refl
-owns_length m base [] [] (v ∷ vs) h = absurd h
-owns_length m base [] (p ∷ ps) vs h = absurd h
-owns_length m base (t ∷ ts) [] vs h = absurd h
-owns_length m base (t ∷ ts) (p ∷ ps) [] h = absurd h
 owns_length m base (t ∷ ts) (p ∷ ps) (v ∷ vs) h = ap suc (owns_length m base ts ps vs h.1)
+owns_length m base _ _ _ h = absurd h
 
 owns_drop : (m : Image) (base j : ℕ) (ts : List Tree) (ps : List Place) (vs : List ValueTree) → OwnsArguments m base ts ps vs → OwnsArguments m base (drop j ts) (drop j ps) (drop j vs)
 owns_drop m base zero ts ps vs h = h
 owns_drop m base (suc j) [] [] [] h = tt
-owns_drop m base (suc j) [] [] (v ∷ vs) h = absurd h
-owns_drop m base (suc j) [] (p ∷ ps) vs h = absurd h
-owns_drop m base (suc j) (t ∷ ts) [] vs h = absurd h
-owns_drop m base (suc j) (t ∷ ts) (p ∷ ps) [] h = absurd h
 owns_drop m base (suc j) (t ∷ ts) (p ∷ ps) (v ∷ vs) h = owns_drop m base j ts ps vs h.1
+owns_drop m base _ _ _ _ h = absurd h
 
 owns_at : (m : Image) (base : ℕ) (ts : List Tree) (ps : List Place) (vs : List ValueTree) → OwnsArguments m base ts ps vs → (i : ℕ) (t : Tree) (p : Place) → i < length ts → t ≡ tree_at ts i → slice_get ps i ≡ Some p → OwnsArgument m base t p (get_or vs i void_value)
 owns_at m base ts ps vs own i t p below type_is place_is =

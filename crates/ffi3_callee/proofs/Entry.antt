@@ -1,6 +1,6 @@
 -- From the image at an entry to places that count from the end of the return address, and the steps of taking arguments put together.
 use Rattle.std.proofs.Common.{◌≡◌, inr, ℕ, ◌+◌, ◌-◌, ◌*◌, ◌≤◌, List, [], ◌∷◌, ◌++◌, take, drop, get_or, length, refl, ap, sym, ◌∙◌, subst, arith}
-use Rattle.std.specs.Prelude.{Option}
+use Rattle.std.specs.Prelude.{Option, ⊤}
 use Rattle.std.specs.List.{AllByRecursion, flat_map}
 use Rattle.std.specs.Int.{w64, from_le_bytes}
 use Rattle.std.proofs.lemmas.List.{drop-drop, drop-take, get_or-drop}
@@ -31,9 +31,9 @@ use Rattle.ffi3_machine_transfer.specs.Stored.{IsPlace, SameAt, WroteOnly, Wrote
 use Rattle.ffi3_machine_transfer.specs.Standing.{AreReady}
 use Rattle.ffi3_machine_transfer.proofs.Alike as alikes
 use Rattle.ffi3_machine_transfer.proofs.Alike.{AreAlike, arguments_owned}
-use Rattle.ffi3_machine_transfer.proofs.Composing.{wrote_wider}
-use Rattle.ffi3_machine_transfer.proofs.Tables.{one_of_each}
-use Rattle.ffi3_marshal.proofs.Lawful.{all_ready, call_places, each_first, each_rest}
+use Rattle.ffi3_machine_transfer.proofs.Composing.{lie_more, wrote_wider}
+use Rattle.ffi3_machine_transfer.proofs.Tables.{all_true, one_of_each}
+use Rattle.ffi3_marshal.proofs.Lawful.{all_ready, call_places, each_first, each_map, each_rest}
 use Rattle.ffi3_machine_transfer.proofs.Owning.{image_word}
 use Rattle.ffi3_machine_transfer.proofs.Stepping.{same_word_in}
 use Rattle.ffi3_semantics_spec.specs.SeenActivation.{arguments_in}
@@ -55,44 +55,15 @@ abbrev behind : ℕ → Image → Image
 behind link m = record { general = m.general; floating = m.floating; sp = m.sp + link; stack = drop link m.stack }
 
 module _ (link : ℕ) (m : Image) where
-  behind_byte : (l : Loc) (k : ℕ) → byte_at (behind link m) 0 l k ≡ byte_at m link l k
-  behind_byte (G r) k = refl
-  behind_byte (F r) k = refl
-  behind_byte (S n w) k =
-      let there : link + (0 + n + k) ≡ link + n + k = omega arith in
-      get_or-drop link m.stack (0 + n + k) 0 ∙ ap (λ i. get_or m.stack i 0) there
+  same_behind : AreAlike link 0 (λ l. ⊤) m (behind link m)
+  same_behind = record { sp = omega arith; stack = refl; general = λ r kept. refl; floating = λ r kept. refl }
 
   behind_word : (l : Loc) → word_at (behind link m) 0 l ≡ word_at m link l
-  behind_word (G r) = refl
-  behind_word (F r) = refl
-  behind_word (S n w) =
-      ap (from_le_bytes w64) (same_bytes (byte_at (behind link m) 0 (S n w)) (byte_at m link (S n w)) w (λ k h. behind_byte (S n w) k))
-
-  behind_pieces : (o k x : ℕ) (pieces : List Piece) → AllByRecursion (λ p. Carries o p → byte_at m link p.loc (o - p.off) ≡ x) pieces → AllByRecursion (λ p. Carries o p → byte_at (behind link m) 0 p.loc (o - p.off) ≡ x) pieces
-  behind_pieces o k x [] h = tt
-  behind_pieces o k x (p ∷ ps) h = (λ c. behind_byte p.loc (o - p.off) ∙ h.0 c, behind_pieces o k x ps h.1)
-
-  behind_leaves : (pieces : List Piece) (ls : List Leaf) (bs : List (List ℕ)) → LeavesStand m link pieces ls bs → LeavesStand (behind link m) 0 pieces ls bs
-  behind_leaves pieces [] [] h = tt
-  behind_leaves pieces [] (b ∷ bs) h = absurd h
-  behind_leaves pieces (l ∷ ls) [] h = absurd h
-  behind_leaves pieces (l ∷ ls) (b ∷ bs) h =
-      (λ k below. behind_pieces (l.at + k) k (get_or b k 0) pieces (h.0 k below), behind_leaves pieces ls bs h.1)
-
-  behind_argument : (t : Tree) (p : Place) (v : ValueTree) → OwnsArgument m link t p v → OwnsArgument (behind link m) 0 t p v
-  behind_argument t (Direct pieces) v own = (own.0, behind_leaves pieces _ _ own.1)
-  behind_argument t (ByRef at copy) v own =
-      let address : m.sp + link + copy ≡ m.sp + link + 0 + copy = omega arith in
-      let there : link + (0 + copy) ≡ link + copy = omega arith in
-      (own.0, behind_word at ∙ own.1 ∙ address, ap (λ xs. value_in t (take (size_of t) xs)) (drop-drop (0 + copy) link m.stack ∙ ap (λ n. drop n m.stack) there) ∙ own.2)
+  behind_word l = alikes.word_same link 0 (λ l. ⊤) m (behind link m) same_behind l tt
 
   behind_arguments : (ts : List Tree) (ps : List Place) (vs : List ValueTree) → OwnsArguments m link ts ps vs → OwnsArguments (behind link m) 0 ts ps vs
-  behind_arguments [] [] [] h = tt
-  behind_arguments [] [] (v ∷ vs) h = absurd h
-  behind_arguments [] (p ∷ ps) vs h = absurd h
-  behind_arguments (t ∷ ts) [] vs h = absurd h
-  behind_arguments (t ∷ ts) (p ∷ ps) [] h = absurd h
-  behind_arguments (t ∷ ts) (p ∷ ps) (v ∷ vs) h = (behind_argument t p v h.0, behind_arguments ts ps vs h.1)
+  behind_arguments ts ps vs own =
+      arguments_owned link 0 (λ l. ⊤) m (behind link m) same_behind ts ps vs (all_true (flat_map place_locs ps)) own
 
 -- the image behind the return address
 pub image_behind : (link room : ℕ) (m : State) → STACK ≤ m.sp → behind link (image_of (link + room) m) ≡ image_from (m.sp + link) room m
@@ -112,14 +83,12 @@ owned_behind std s m vs low own =
 -- ---- addresses that are found
 
 find_all : (base room : ℕ) (m : State) (ts : List Tree) (ps : List Place) (vs : List ValueTree) → STACK ≤ base → AreReady Amd64 room ts ps → OwnsArguments (image_from base room m) 0 ts ps vs → AreFound base m ps
-find_all base room m [] [] vs low ready own = tt
-find_all base room m [] (p ∷ ps) vs low ready own = absurd ready
-find_all base room m (t ∷ ts) [] vs low ready own = tt
-find_all base room m (t ∷ ts) (p ∷ ps) [] low ready own = absurd own
+find_all base room m ts [] vs low ready own = tt
 find_all base room m (t ∷ ts) (Direct pieces ∷ ps) (v ∷ vs) low ready own = (tt, find_all base room m ts ps vs low ready.1 own.1)
 find_all base room m (t ∷ ts) (ByRef at copy ∷ ps) (v ∷ vs) low ready own =
     let none : base + 0 + copy ≡ base + copy = omega arith in
     (sym (image_word (with_sp base m) room low at ready.0.lies.0) ∙ own.0.1 ∙ none, find_all base room m ts ps vs low ready.1 own.1)
+find_all base room m _ _ _ low ready own = absurd own
 
 pub found_where_owned : (std : Standard) (s : Signature) (base : ℕ) (m : State) (vs : List ValueTree) → IsSound std s → SignatureHasNoFault s → STACK ≤ base → OwnsArguments (image_from base (frame_of std s) m) 0 s.arguments (plan_of std s).places vs → AreFound base m (plan_of std s).places
 found_where_owned std s base m vs sound right low own =
@@ -127,24 +96,16 @@ found_where_owned std s base m vs sound right low own =
 
 -- ---- places that lie in the stack
 
-lie_more : (n k : ℕ) → n ≤ k → (l : Loc) → IsPlace n l → IsPlace k l
-lie_more n k h (G r) lies = lies
-lie_more n k h (F r) lies = lies
-lie_more n k h (S q w) lies = (omega (arith, h, lies.0), lies.1, lies.2)
-
 one_saveable : (room : ℕ) (w : SaveWord) → IsSaveable 0 w → IsSaveable room w
 one_saveable room (Register at) h = lie_more 0 room (omega arith) at h
-one_saveable room HiddenWord h = tt
-one_saveable room Spare h = tt
+one_saveable room _ h = tt
 
 pub all_saveable : (room : ℕ) (ws : List SaveWord) → AllByRecursion (IsSaveable 0) ws → AllByRecursion (IsSaveable room) ws
-all_saveable room [] h = tt
-all_saveable room (w ∷ ws) h = (one_saveable room w h.0, all_saveable room ws h.1)
+all_saveable room = each_map (IsSaveable 0) (IsSaveable room) (one_saveable room)
 
 hidden_in : (n k : ℕ) → n ≤ k → (r : Res) → AllByRecursion (IsPlace n) (hidden_locs r) → HiddenLies k (hidden_of r)
-hidden_in n k h Nothing all = tt
-hidden_in n k h (DirectRes pieces) all = tt
 hidden_in n k h (Hidden at buffer) all = lie_more n k h at all.0
+hidden_in n k h _ all = tt
 
 pub hidden_in_frame : (std : Standard) (s : Signature) → IsSound std s → SignatureHasNoFault s → AllByRecursion (IsPlace (frame_of std s)) (hidden_locs (plan_of std s).res)
 hidden_in_frame std s sound right =
@@ -173,9 +134,8 @@ hidden_lies std s m base hidden sound right base_is hidden_is high =
     subst (HiddenLies (STACK_TOP - base)) (sym hidden_is) (hidden_in (frame_of std s) (STACK_TOP - base) (omega (arith, base_is, high)) (plan_of std s).res (hidden_in_frame std s sound right))
 
 listed_of : (P : Loc → Type 0) (r : Res) → AllByRecursion P (hidden_locs r) → AllByRecursion P (to_list (hidden_of r))
-listed_of P Nothing all = tt
-listed_of P (DirectRes pieces) all = tt
 listed_of P (Hidden at buffer) all = all
+listed_of P _ all = tt
 
 -- it is the register that the stub Entry saves
 pub hidden_to_list : (std : Standard) (s : Signature) (hidden : Option Loc) → hidden ≡ hidden_of (plan_of std s).res → AllByRecursion (IsOneOf (G (hidden_register (isa_of std.target)) ∷ [])) (hidden_locs (plan_of std s).res) → AllByRecursion (IsOneOf (G (hidden_register (isa_of std.target)) ∷ [])) (to_list hidden)
@@ -185,39 +145,34 @@ hidden_to_list std s hidden is all =
 -- ---- the address of a hidden result's buffer
 
 address_at : (link room : ℕ) (m : State) (r : Res) → STACK ≤ m.sp → AllByRecursion (IsPlace room) (hidden_locs r) → OwnsHidden (image_of (link + room) m) link r → IsAddressOf (m.sp + link) (hidden_word (m.sp + link) m (hidden_of r)) r
-address_at link room m Nothing low lie own = tt
-address_at link room m (DirectRes pieces) low lie own = tt
 address_at link room m (Hidden at buffer) low lie own =
     let inside : STACK ≤ m.sp + link = omega (arith, low) in
     sym (any_sp (m.sp + link) (m.sp + link) m at) ∙ sym (image_word (with_sp (m.sp + link) m) room inside at lie.0) ∙ ap (λ n. word_at n 0 at) (sym (image_behind link room m low)) ∙ behind_word link (image_of (link + room) m) at ∙ own
+address_at link room m _ low lie own = tt
 
 pub address_owned : (std : Standard) (s : Signature) (m : State) (vs : List ValueTree) → IsSound std s → SignatureHasNoFault s → STACK ≤ m.sp → OwnsAtEntry std s m vs → IsAddressOf (m.sp + std.link) (hidden_word (m.sp + std.link) m (hidden_of (plan_of std s).res)) (plan_of std s).res
 address_owned std s m vs sound right low own =
     address_at std.link (frame_of std s) m (plan_of std s).res low (hidden_in_frame std s sound right) own.hidden
 
 behind_hidden : (link room : ℕ) (m : State) (r : Res) → STACK ≤ m.sp → OwnsHidden (image_of (link + room) m) link r → OwnsHidden (image_from (m.sp + link) room m) 0 r
-behind_hidden link room m Nothing low own = tt
-behind_hidden link room m (DirectRes pieces) low own = tt
 behind_hidden link room m (Hidden at buffer) low own =
     let sum : m.sp + link + buffer ≡ m.sp + link + 0 + buffer = omega arith in
     ap (λ n. word_at n 0 at) (sym (image_behind link room m low)) ∙ behind_word link (image_of (link + room) m) at ∙ own ∙ sum
+behind_hidden link room m _ low own = tt
 
 address_there : (base room : ℕ) (m : State) (r : Res) → STACK ≤ base → AllByRecursion (IsPlace room) (hidden_locs r) → OwnsHidden (image_from base room m) 0 r → IsAddressOf base (hidden_word base m (hidden_of r)) r
-address_there base room m Nothing inside lie own = tt
-address_there base room m (DirectRes pieces) inside lie own = tt
 address_there base room m (Hidden at buffer) inside lie own =
     let sum : base + 0 + buffer ≡ base + buffer = omega arith in
     sym (any_sp base base m at) ∙ sym (image_word (with_sp base m) room inside at lie.0) ∙ own ∙ sum
+address_there base room m _ inside lie own = tt
 
 address_or_zero : (base from address : ℕ) (m : State) (r : Res) → address ≡ hidden_word base m (hidden_of r) → IsAddressOf from address r → IsAddressOrZero from address r
-address_or_zero base from address m Nothing is known = is
-address_or_zero base from address m (DirectRes pieces) is known = is
 address_or_zero base from address m (Hidden at buffer) is known = known
+address_or_zero base from address m _ is known = is
 
 pub remembered_is : (base address : ℕ) (r : Res) → IsAddressOrZero base address r → IsAddressOf base address r
-remembered_is base address Nothing known = tt
-remembered_is base address (DirectRes pieces) known = tt
 remembered_is base address (Hidden at buffer) known = known
+remembered_is base address _ known = tt
 
 pub address_known : (std : Standard) (s : Signature) (m x : State) (entry base address : ℕ) (hidden : Option Loc) → IsAddressOf (m.sp + std.link) (hidden_word (m.sp + std.link) x (hidden_of (plan_of std s).res)) (plan_of std s).res → entry ≡ m.sp → base ≡ m.sp + std.link → hidden ≡ hidden_of (plan_of std s).res → address ≡ hidden_word base x hidden → IsAddressOrZero (entry + std.link) address (plan_of std s).res
 address_known std s m x entry base address hidden passed entry_is base_is hidden_is address_is =

@@ -1,6 +1,6 @@
 -- The registers that a return keeps.
 use Rattle.std.specs.Prelude.{Bool, true, false, if◌then◌else◌}
-use Rattle.std.proofs.Common.{◌≡◌, ◌⊎◌, inl, inr, ℕ, suc, ◌+◌, ◌<◌, List, [], ◌∷◌, ◌++◌, get_or, refl, ap, sym, ◌∙◌, subst, arith}
+use Rattle.std.proofs.Common.{◌≡◌, ◌⊎◌, inl, inr, ℕ, suc, ◌+◌, ◌<◌, List, [], ◌∷◌, ◌++◌, get_or, length, refl, ap, sym, ◌∙◌, subst, arith}
 use Rattle.std.specs.List.{AllByRecursion}
 use Rattle.std.proofs.lemmas.Bool.Decides.{nat_tests}
 use Rattle.std.proofs.lemmas.List.{ext_get_or}
@@ -25,27 +25,17 @@ use Rattle.ffi3_machine_spec.specs.State.{State, image_of, returned, scribble_ge
 use Rattle.ffi3_machine.specs.Scribbled.{get_or-scribbled_general, length-scribbled_general}
 use Rattle.ffi3_machine_transfer.specs.Stored.{IsPlace, word_in}
 use Rattle.ffi3_marshal.proofs.Lawful.{across_none, each_first, each_join, each_rest, machine_places}
+use Rattle.ffi3_machine_transfer.proofs.Composing.{by_register}
+use Rattle.ffi3_machine_transfer.proofs.Tables.{reserved_are_places, reserved_not_link}
 use Rattle.ffi3_callee.specs.Given.{RegistersStay, ReservedStay, result_uses}
 use Rattle.ffi3_callee.specs.Saved.{HaveRegisters}
 use Rattle.ffi3_callee.proofs.Laws.{each_among, each_both, none_saved}
 
 -- ---- reserved registers
 
-reserved_are_places : (isa : Isa) → AllByRecursion (IsPlace 0) (reserved_places isa)
-reserved_are_places Amd64 = tt
-reserved_are_places Aarch64 = (omega arith, tt)
-reserved_are_places Riscv = (omega arith, (omega arith, (omega arith, tt)))
-
 pub reserved_there : (std : Standard) → AgreesWithMachine std → AllByRecursion (IsPlace 0) std.reserved
 reserved_there std agrees =
     subst (AllByRecursion (IsPlace 0)) (sym agrees.reserved) (reserved_are_places (isa_of std.target))
-
--- none of them holds a return address
-reserved_not_link : (isa : Isa) → AllByRecursion (IsNoneOf (to_list (link_place isa))) (reserved_places isa)
-reserved_not_link Amd64 = tt
-reserved_not_link Aarch64 = ((λ e. absurd (omega (arith, e)), tt), tt)
-reserved_not_link Riscv =
-    ((λ e. absurd (omega (arith, e)), tt), ((λ e. absurd (omega (arith, e)), tt), ((λ e. absurd (omega (arith, e)), tt), tt)))
 
 -- none of them is saved
 pub reserved_not_saved : (std : Standard) → AgreesWithMachine std → AllByRecursion (IsNoneOf (saved_registers std.save_area)) std.reserved
@@ -77,13 +67,9 @@ reserved_then std a b c s t =
 
 -- ---- a scribble leaves them
 
-kept_old : (b : Bool) (old new : ℕ) → b ≡ true → (if b then old else new) ≡ old
-kept_old true old new h = refl
-kept_old false old new h = cc
-
 scribble_leaves : (isa : Isa) (n k : ℕ) (m : State) → isa_of m.target ≡ isa → k < 32 → is_reserved isa k ≡ true → word_in STACK_TOP (scribbled n m) (G k) ≡ word_in STACK_TOP m (G k)
 scribble_leaves isa n k m is below reserved =
-    get_or-scribbled_general (isa_of m.target) n m.general k below ∙ ap (λ q. scribbled_register q n k (get_or m.general k 0)) is ∙ kept_old (is_reserved isa k) (get_or m.general k 0) (scribble_general n k) reserved
+    get_or-scribbled_general (isa_of m.target) n m.general k below ∙ ap (λ q. scribbled_register q n k (get_or m.general k 0)) is ∙ ap (λ (b : Bool). if b then get_or m.general k 0 else scribble_general n k) reserved
 
 pub scribble_keeps : (isa : Isa) (n : ℕ) (m : State) → isa_of m.target ≡ isa → AllByRecursion (λ at. word_in STACK_TOP (scribbled n m) at ≡ word_in STACK_TOP m at) (reserved_places isa)
 scribble_keeps Amd64 n m is = tt
@@ -130,25 +116,22 @@ reserved_scribbled std agrees n c d target_is d_is =
 -- ---- the image at a return
 
 same_register : (base len room : ℕ) (entry m : State) (at : Loc) → IsPlace 0 at → word_in STACK_TOP m at ≡ word_in base entry at → register (image_of len entry) at ≡ register (image_of room (returned m)) at
-same_register base len room entry m (G r) lies h = sym h
-same_register base len room entry m (F r) lies h = sym h
-same_register base len room entry m (S n w) lies h = absurd (omega (arith, lies.0, lies.1))
+same_register base len room entry m at lies =
+    by_register (λ at. word_in STACK_TOP m at ≡ word_in base entry at → register (image_of len entry) at ≡ register (image_of room (returned m)) at) (λ r below h. sym h) (λ r below h. sym h) at lies
 
-all_have : (base : ℕ) (entry m : State) (ws : List SaveWord) → HaveRegisters ws base entry m → AllByRecursion (λ at. word_in STACK_TOP m at ≡ word_in base entry at) (saved_registers ws)
-all_have base entry m [] have = tt
-all_have base entry m (Register at ∷ ws) have =
-    (have 0 at (omega arith) refl, all_have base entry m ws (λ i l below is. have (suc i) l (omega (arith, below)) is))
-all_have base entry m (Hidden ∷ ws) have =
-    all_have base entry m ws (λ i l below is. have (suc i) l (omega (arith, below)) is)
-all_have base entry m (Spare ∷ ws) have =
-    all_have base entry m ws (λ i l below is. have (suc i) l (omega (arith, below)) is)
+-- each register that is saved has its value again
+pub all_back : (value : Loc → ℕ) (m : State) (ws : List SaveWord) → ((i : ℕ) (at : Loc) → i < length ws → Register at ≡ get_or ws i (Register at) → word_in STACK_TOP m at ≡ value at) → AllByRecursion (λ at. word_in STACK_TOP m at ≡ value at) (saved_registers ws)
+all_back value m [] back = tt
+all_back value m (Register at ∷ ws) back =
+    (back 0 at (omega arith) refl, all_back value m ws (λ i l below is. back (suc i) l (omega (arith, below)) is))
+all_back value m (_ ∷ ws) back = all_back value m ws (λ i l below is. back (suc i) l (omega (arith, below)) is)
 
 pub kept_return : (std : Standard) → AgreesWithMachine std → (base len room : ℕ) (entry m : State) → m.target ≡ std.target → m.sp ≡ entry.sp → HaveRegisters std.save_area base entry m → ReservedStay std entry m → Kept std (image_of len entry) (image_of room (returned m))
 kept_return std agrees base len room entry m target_is sp_is have stay =
     record { preserved = preserved; reserved = reserved; sp = sp }
   where
     given : AllByRecursion (λ at. word_in STACK_TOP m at ≡ word_in base entry at) (given_back std)
-    given = each_among (λ at. word_in STACK_TOP m at ≡ word_in base entry at) (saved_registers std.save_area) (given_back std) agrees.saves_each (all_have base entry m std.save_area have)
+    given = each_among (λ at. word_in STACK_TOP m at ≡ word_in base entry at) (saved_registers std.save_area) (given_back std) agrees.saves_each (all_back (λ at. word_in base entry at) m std.save_area have)
 
     preserved : SameIn std.callee_saved (image_of len entry) (image_of room (returned m))
     preserved = each_both (IsPlace 0) (λ at. word_in STACK_TOP m at ≡ word_in base entry at) (λ at. register (image_of len entry) at ≡ register (image_of room (returned m)) at) (λ l lies h. same_register base len room entry m l lies h) std.callee_saved (machine_places (isa_of std.target) 0 std.callee_saved agrees.callee_saved_exist) (each_first (λ at. word_in STACK_TOP m at ≡ word_in base entry at) std.callee_saved (to_list std.link_register) given)

@@ -16,27 +16,18 @@ use Rattle.ffi3_place_spec.specs.Agrees.{AgreesWithMachine, given_back, saved_re
 use Rattle.ffi3_place_spec.specs.Sound.{Apart, IsNoneOf, IsOneOf, IsSound, LiesIn, closed_to_results, result_locs}
 use Rattle.ffi3_place_spec.proofs.Tests.{each_weaker}
 use Rattle.ffi3_machine_transfer.specs.Stored.{IsPlace, IsWritable}
+use Rattle.ffi3_machine_transfer.proofs.Tables.{one_of_each}
+pub use Rattle.ffi3_machine_transfer.proofs.Tables.{each_with as each_both}
 use Rattle.ffi3_marshal.proofs.Lawful.{each_first, each_join, each_rest, machine_place}
 use Rattle.ffi3_callee.specs.Given.{IsSettable}
 use Rattle.ffi3_callee.specs.Saved.{IsRestorable, IsSaveable}
 
 -- ---- lists
 
--- what holds of each of a list holds of one of them
-any_holds : {X : Type 0} (P : X → Type 0) (x : X) (ys : List X) → AllByRecursion P ys → Any (λ y. y ≡ x) ys → P x
-any_holds P x [] all some = absurd (omega (arith, some.2))
-any_holds P x (y ∷ ys) all (zero, q, below, is, same) = subst P (is ∙ same) all.0
-any_holds P x (y ∷ ys) all (suc k, q, below, is, same) =
-    any_holds P x ys all.1 (k, q, omega arith, is, same)
-
 pub each_among : {X : Type 0} (P : X → Type 0) (ys xs : List X) → AllByRecursion (λ x. Any (λ y. y ≡ x) ys) xs → AllByRecursion P ys → AllByRecursion P xs
 each_among P ys [] some all = tt
 each_among P ys (x ∷ xs) some all =
-    (any_holds P x ys all some.0, each_among P ys xs some.1 all)
-
-pub each_both : {X : Type 0} (P Q R : X → Type 0) → ((x : X) → P x → Q x → R x) → (xs : List X) → AllByRecursion P xs → AllByRecursion Q xs → AllByRecursion R xs
-each_both P Q R f [] h k = tt
-each_both P Q R f (x ∷ xs) h k = (f x h.0 k.0, each_both P Q R f xs h.1 k.1)
+    (one_of_each P x ys all some.0, each_among P ys xs some.1 all)
 
 -- ---- the registers that are given back
 
@@ -46,8 +37,7 @@ IsWritableRegister isa l = IsPlace 0 l × TakesWrites isa l
 
 link_is_register : (isa : Isa) → AllByRecursion (IsWritableRegister isa) (to_list (link_place isa))
 link_is_register Amd64 = tt
-link_is_register Aarch64 = ((omega arith, refl), tt)
-link_is_register Riscv = ((omega arith, refl), tt)
+link_is_register _ = ((omega arith, refl), tt)
 
 given_back_are_registers : (std : Standard) → AgreesWithMachine std → AllByRecursion (IsWritableRegister (isa_of std.target)) (given_back std)
 given_back_are_registers std agrees =
@@ -63,7 +53,7 @@ given_back_are_registers std agrees =
 words_from : (std : Standard) → AgreesWithMachine std → (ws : List SaveWord) → AllByRecursion (IsOneOf (given_back std)) (saved_registers ws) → AllByRecursion (IsRestorable std.target) ws
 words_from std agrees [] h = tt
 words_from std agrees (Register at ∷ ws) h = (
-  any_holds (IsWritableRegister (isa_of std.target)) at (given_back std) (given_back_are_registers std agrees) h.0,
+  one_of_each (IsWritableRegister (isa_of std.target)) at (given_back std) (given_back_are_registers std agrees) h.0,
   words_from std agrees ws h.1,
 )
 words_from std agrees (Hidden ∷ ws) h = (tt, words_from std agrees ws h)
@@ -74,8 +64,7 @@ words_restorable std agrees = words_from std agrees std.save_area agrees.saves_n
 
 word_saveable : (target : Target) (w : SaveWord) → IsRestorable target w → IsSaveable 0 w
 word_saveable target (Register at) h = h.0
-word_saveable target Hidden h = tt
-word_saveable target Spare h = tt
+word_saveable target _ h = tt
 
 pub words_saveable : (std : Standard) → AgreesWithMachine std → AllByRecursion (IsSaveable 0) std.save_area
 words_saveable std agrees =

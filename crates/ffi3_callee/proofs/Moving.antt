@@ -1,6 +1,6 @@
 -- An argument that is moved to its copy, run by run and register by register.
 use Rattle.std.specs.Prelude.{Bool, true, false}
-use Rattle.std.proofs.Common.{◌≡◌, ◌⊎◌, inl, inr, ℕ, zero, suc, ◌+◌, ◌-◌, ◌<◌, ◌≤◌, List, [], ◌∷◌, take, drop, get_or, length, refl, ap, sym, ◌∙◌, subst, arith}
+use Rattle.std.proofs.Common.{◌≡◌, ◌⊎◌, inl, inr, ⊎_elim, ℕ, zero, suc, ◌+◌, ◌-◌, ◌<◌, ◌≤◌, List, [], ◌∷◌, take, drop, get_or, length, refl, ap, sym, ◌∙◌, subst, arith}
 use Rattle.std.specs.List.{AllByRecursion, Any}
 use Rattle.std.specs.Int.{w64, to_le_bytes}
 use Rattle.std.proofs.lemmas.Bool.{cases_lt}
@@ -25,6 +25,7 @@ use Rattle.ffi3_machine_transfer.specs.Runs.{RunLies}
 use Rattle.ffi3_machine_transfer.proofs.Composing.{only_nothing, only_then, only_wider, same_byte}
 use Rattle.ffi3_machine_transfer.proofs.Putting.{only_stored, stored_inside}
 use Rattle.ffi3_machine_transfer.proofs.Runs.{by_piece, behind_piece, rises_to, rising_drop}
+use Rattle.ffi3_marshal.proofs.Lawful.{each_map}
 use Rattle.ffi3_callee.specs.Loaded.{AreLoaded, HaveByte, IsRead}
 use Rattle.ffi3_callee.specs.Moved.{ArePiecesMoved, AreRunsMoved, CarriesInRegister, IsPieceMoved, OneCarriesInRegister, is_on_stack}
 use Rattle.ffi3_callee.proofs.Copying.{place_above, stored_there}
@@ -94,9 +95,6 @@ module _ (base to : ℕ) (low : STACK ≤ to) (below : to ≤ base) where
         only = λ room size all. only_nothing to (to + size) m;
       })
 
-  pub all_runs_moved : (runs : List Run) (i : ℕ) (first m : State) → i ≡ 0 → AreRunsMoved base to (drop i runs) first m → AreRunsMoved base to runs first m
-  all_runs_moved runs i first m none moved = subst (λ j. AreRunsMoved base to (drop j runs) first m) none moved
-
   -- ---- one register
 
   register_size : (l : Loc) → is_on_stack l ≡ false → place_size l ≡ 8
@@ -130,11 +128,7 @@ module _ (base to : ℕ) (low : STACK ≤ to) (below : to ≤ base) where
       }
 
   pub piece_left : (p : Piece) (m : State) → is_on_stack p.loc ≡ true → IsPieceMoved base to p m m
-  piece_left p m on_stack = record { here = λ o c. absurd (not_both (is_on_stack p.loc) on_stack c.0); others = λ o. inr refl; only = λ size within. only_nothing to (to + size) m }
-    where
-      not_both : (b : Bool) → b ≡ true → b ≡ false → ⊥
-      not_both true h k = cc
-      not_both false h k = cc
+  piece_left p m on_stack = record { here = λ o c. let register = c.0 in absurd cc; others = λ o. inr refl; only = λ size within. only_nothing to (to + size) m }
 
   -- ---- all registers
 
@@ -207,18 +201,12 @@ somewhere_here o (F r) p rest is c = inl (ap is_on_stack is, c)
 somewhere_here o (S n w) p rest is c =
     inr (n + (o - p.off), inl (record { from = omega arith; to = omega (arith, c.0, c.1); same = omega (arith, c.0) }))
 
-somewhere_first : (o : ℕ) (p : Piece) (ps : List Piece) → CarriesInRegister o p ⊎ ((at : ℕ) × OneCopies at o (stack_runs (p ∷ ps))) → CarriedSomewhere o (p ∷ ps)
-somewhere_first o p ps (inl c) = inl (inl c)
-somewhere_first o p ps (inr c) = inr c
-
-somewhere_later : (o : ℕ) (p : Piece) (ps : List Piece) → CarriedSomewhere o ps → CarriedSomewhere o (p ∷ ps)
-somewhere_later o p ps (inl c) = inl (inr c)
-somewhere_later o p ps (inr c) = inr (c.0, behind_piece c.0 o p.loc p (stack_runs ps) c.1)
-
 somewhere : (o : ℕ) (pieces : List Piece) → Any (Carries o) pieces → CarriedSomewhere o pieces
 somewhere o [] (k, q, below, is, c) = absurd (omega (arith, below))
-somewhere o (p ∷ ps) (zero, q, below, is, c) = somewhere_first o p ps (somewhere_here o p.loc p (stack_runs ps) refl (subst (Carries o) (sym is) c))
-somewhere o (p ∷ ps) (suc k, q, below, is, c) = somewhere_later o p ps (somewhere o ps (k, q, omega (arith, below), is, c))
+somewhere o (p ∷ ps) (zero, q, below, is, c) =
+    ⊎_elim (λ d. inl (inl d)) inr (somewhere_here o p.loc p (stack_runs ps) refl (subst (Carries o) (sym is) c))
+somewhere o (p ∷ ps) (suc k, q, below, is, c) =
+    ⊎_elim (λ d. inl (inr d)) (λ d. inr (d.0, behind_piece d.0 o p.loc p (stack_runs ps) d.1)) (somewhere o ps (k, q, omega (arith, below), is, c))
 
 carried_within : (t : Tree) (o : ℕ) (pieces : List Piece) → AllByRecursion (IsPieceOf t) pieces → Any (Carries o) pieces → o < size_of t
 carried_within t o [] parts (k, q, below, is, c) = absurd (omega (arith, below))
@@ -250,8 +238,7 @@ module _ (base to : ℕ) (t : Tree) (pieces : List Piece) (runs : List Run) (low
   direct_read all = pieces_read base first t pieces (stack_at to (size_of t) m) (omega (arith, low, below)) all (length_part m.stack (to - STACK) (size_of t) sized) loaded
 
 pub within_wider : (n m : ℕ) (pieces : List Piece) → n ≤ m → AllByRecursion (IsWithin n) pieces → AllByRecursion (IsWithin m) pieces
-within_wider n m [] h all = tt
-within_wider n m (p ∷ ps) h all = ((all.0.0, omega (arith, h, all.0.1), all.0.2), within_wider n m ps h all.1)
+within_wider n m pieces h = each_map (IsWithin n) (IsWithin m) (λ p within. (within.0, omega (arith, h, within.1), within.2)) pieces
 
 -- ---- a copy by reference
 

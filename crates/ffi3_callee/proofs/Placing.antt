@@ -15,7 +15,7 @@ use Rattle.ffi3_place_spec.proofs.Tests.{each_weaker}
 use Rattle.ffi3_type_spec.specs.declared.limits.TheConstants.{STACK}
 use Rattle.ffi3_machine_spec.specs.State.{State, stack_at, with_sp}
 use Rattle.ffi3_machine_transfer.specs.Stored.{IsPlace, word_in}
-use Rattle.ffi3_machine_transfer.proofs.Owning.{image_byte}
+use Rattle.ffi3_machine_transfer.proofs.Owning.{image_byte, part_of_frame}
 use Rattle.ffi3_place_spec.proofs.Reading.{LeavesRead, ReadsLeaf, reads}
 use Rattle.ffi3_callee.specs.Loaded.{AreLoaded, HaveByte, IsRead, image_from}
 
@@ -35,22 +35,13 @@ module _ (base room : ℕ) (m : State) (low : STACK ≤ base) where
 
   leaves_loaded : (t : Tree) (pieces : List Piece) (out : List ℕ) (ls : List Leaf) (bs : List (List ℕ)) → AllByRecursion (IsPieceOf t) pieces → AllByRecursion (IsPlace room) (piece_locs pieces) → AreLoaded base m pieces out → AllByRecursion (CoversLeaf pieces) ls → LeavesStand (image_from base room m) 0 pieces ls bs → LeavesRead out ls bs
   leaves_loaded t pieces out [] [] parts lie loaded covers stand = tt
-  leaves_loaded t pieces out [] (b ∷ bs) parts lie loaded covers stand = absurd stand
-  leaves_loaded t pieces out (l ∷ ls) [] parts lie loaded covers stand = absurd stand
   leaves_loaded t pieces out (l ∷ ls) (b ∷ bs) parts lie loaded covers stand =
       (leaf_loaded t pieces out l b parts lie loaded covers.0 stand.0, leaves_loaded t pieces out ls bs parts lie loaded covers.1 stand.1)
+  leaves_loaded t pieces out _ _ parts lie loaded covers stand = absurd stand
 
 pub pieces_read : (base : ℕ) (m : State) (t : Tree) (pieces : List Piece) (out : List ℕ) → STACK ≤ base → HaveAll t pieces → length out ≡ size_of t → AreLoaded base m pieces out → IsRead base m t (Direct pieces) out
 pieces_read base m t pieces out low all sized loaded = λ room lies top v own.
     reads t v out own.0 sized (leaves_loaded base room m low t pieces out (leaves_of t) (leaf_bytes v) all.each lies loaded all.covered own.1)
-
-part_of_frame : (xs : List ℕ) (n at size : ℕ) → at + size ≤ n → take size (drop at (take n xs)) ≡ take size (drop at xs)
-part_of_frame xs n at size room =
-    let whole : n ≡ at + (n - at) = omega (arith, room) in
-    ap (λ k. take size (drop at (take k xs))) whole ∙ ap (take size) (drop-take at (n - at) xs) ∙ take_less (drop at xs) size (n - at) (omega (arith, room))
-  where
-    take_less : (ys : List ℕ) (i j : ℕ) → i ≤ j → take i (take j ys) ≡ take i ys
-    take_less ys i j h = take-take i j ys h
 
 -- a stretch inside a stretch of the stack
 pub stack_inside : (base room at size : ℕ) (m : State) → STACK ≤ base → at + size ≤ room → take size (drop at (stack_at base room m)) ≡ stack_at (base + at) size m

@@ -26,8 +26,9 @@ use Rattle.ffi3_machine_spec.specs.State.{State, stack_at, with_sp}
 use Rattle.ffi3_machine_transfer.specs.Stored.{IsByteOf, IsPlace, byte_of, word_in, KeepsPadding, KeepsUnused, Stays, WroteWithin}
 use Rattle.ffi3_machine_transfer.specs.Standing.{PiecesStand, IsReady}
 use Rattle.ffi3_marshal.proofs.Arguments.{lies_more}
-use Rattle.ffi3_machine_transfer.proofs.Composing.{wrote_then}
+use Rattle.ffi3_machine_transfer.proofs.Composing.{by_register, rewritten, wrote_then}
 use Rattle.ffi3_marshal.proofs.Lawful.{machine_places}
+use Rattle.ffi3_machine_transfer.proofs.Outcomes.{buffer_within}
 use Rattle.ffi3_machine_transfer.proofs.Owning.{owned, filled}
 use Rattle.ffi3_machine_transfer.proofs.Stepping.{same_word_in}
 use Rattle.ffi3_callee.specs.Loaded.{image_from}
@@ -40,25 +41,11 @@ use Rattle.ffi3_callee.proofs.Placing.{stack_inside}
 
 -- a stack that stays, as a stretch in which nothing is written
 pub quiet : (low high : ℕ) (a b : State) → low ≤ STACK_TOP → WroteWithin STACK_TOP STACK_TOP a b → WroteWithin low high a b
-quiet low high a b h w = record {
-  size = w.size;
-  outside = λ i far. w.outside i (cases_lt (STACK + i) STACK_TOP);
-  mark = ⊎_elim (λ x. inl x) (λ x. inr (omega (arith, h, x))) w.mark;
-  target = w.target;
-  pc = w.pc;
-  code = w.code;
-  events = w.events;
-  spare_events = w.spare_events;
-  spare_bytes = w.spare_bytes;
-  exchange = w.exchange;
-  steps = w.steps;
-}
+quiet low high a b h w = rewritten STACK_TOP STACK_TOP low high a b (λ i far. cases_lt (STACK + i) STACK_TOP) h w
 
 -- a register's word, wherever stack places count from
 pub register_word : (base from : ℕ) (l : Loc) (m : State) → IsPlace 0 l → word_in base m l ≡ word_in from m l
-register_word base from (G r) m h = refl
-register_word base from (F r) m h = refl
-register_word base from (S n w) m h = absurd (omega (arith, h.0, h.1))
+register_word base from l m lies = by_register (λ l. word_in base m l ≡ word_in from m l) (λ r below. refl) (λ r below. refl) l lies
 
 pub registers_stay : (base : ℕ) (ls : List Loc) (a b : State) → Stays base ls a b → RegistersStay ls a b
 registers_stay base ls a b s = λ l lies none.
@@ -84,13 +71,11 @@ nothing_held std s base m v low high sized is fit =
 module _ (base : ℕ) (m : State) (t : Tree) (v : ValueTree) where
   same_bytes : (l : Loc) (k : ℕ) → byte_of base (with_sp base m) l k ≡ byte_of base m l k
   same_bytes (G r) k = refl
-  same_bytes (F r) k = refl
-  same_bytes (S n w) k = refl
+  same_bytes _ k = refl
 
   same_words : (l : Loc) → word_in base m l ≡ word_in base (with_sp base m) l
   same_words (G r) = refl
-  same_words (F r) = refl
-  same_words (S n w) = refl
+  same_words _ = refl
 
   pieces_there : (pieces : List Piece) → PiecesStand base m t v pieces → PiecesStand base (with_sp base m) t v pieces
   pieces_there [] stand = tt
@@ -137,21 +122,6 @@ direct_registers std base res pieces a b is s =
     subst (λ r. RegistersStay (result_uses std r) a b) (sym is) (registers_stay base (piece_locs pieces) a b s)
 
 -- ---- in the caller's buffer
-
-buffer_is : (start : ℕ → Tree → ℕ) (end : ℕ) (t : Tree) (spot : ResultSpot) (at : Loc) (buffer : ℕ) → result_at start end t spot ≡ Hidden at buffer → buffer_end start end t spot ≡ buffer + round8 (size_of t)
-buffer_is start end t no_result at buffer is = cc
-buffer_is start end t (in_result_pieces pieces) at buffer is = cc
-buffer_is start end t (in_buffer here) at buffer is =
-    let same : start end t ≡ buffer = cc in
-    ap (λ n. n + round8 (size_of t)) same
-
--- it lies in the frame
-pub buffer_within : (std : Standard) (s : Signature) (at : Loc) (buffer : ℕ) → (plan_of std s).res ≡ Hidden at buffer → buffer + size_of s.result_type ≤ frame_of std s
-buffer_within std s at buffer is =
-    let p = std.placing s in
-    let t = s.result_type in
-    let ends = buffer_is std.copy_start (frame_copies_end std s) t p.result_spot at buffer is in
-    omega (arith, ends, least_multiple-above 8 (size_of t), least_multiple-above 16 (buffer_end std.copy_start (frame_copies_end std s) t p.result_spot))
 
 told_by : (base frame n k : ℕ) (target : Target) (m : State) (returned : Option Loc) → n ≡ k → IsSettable target returned → RegisterHoldsWord m returned n → RegisterHolds (image_from base frame m) returned k
 told_by base frame n k target m (Some (G r)) same set told = told ∙ same

@@ -19,6 +19,7 @@ use Rattle.ffi3_machine_spec.specs.State.{State, with_sp}
 use Rattle.ffi3_machine_transfer.specs.Stored.{IsPlace, word_in, WroteWithin}
 use Rattle.ffi3_place_spec.specs.declared.SaveWord.{SaveWord}
 use Rattle.ffi3_place_spec.proofs.OnMachine.{IsSoundOnMachine}
+use Rattle.ffi3_machine_transfer.proofs.Composing.{by_register, sp_moved, wrote_then}
 use Rattle.ffi3_machine_transfer.proofs.Outcomes as outcome
 use Rattle.ffi3_callee.specs.Loaded.{image_from}
 use Rattle.ffi3_callee.specs.Given.{IsSettable, RegistersStay}
@@ -26,8 +27,7 @@ use Rattle.ffi3_callee.specs.Saved.{AreGivenBack}
 
 pub any_sp : (base sp : ℕ) (m : State) (l : Loc) → word_in base (with_sp sp m) l ≡ word_in base m l
 any_sp base sp m (G r) = refl
-any_sp base sp m (F r) = refl
-any_sp base sp m (S n w) = refl
+any_sp base sp m _ = refl
 
 pub back_any_sp : (from sp : ℕ) (words : List SaveWord) (value : Loc → ℕ) (a b c : State) → c ≡ with_sp sp b → AreGivenBack from words value a b → AreGivenBack from words value a c
 back_any_sp from sp words value a b c is back =
@@ -39,19 +39,7 @@ registers_any_sp sp ls a b c is stay =
 
 pub within_any_sp : (low high sp : ℕ) (a b c : State) → c ≡ with_sp sp b → WroteWithin low high a b → WroteWithin low high a c
 within_any_sp low high sp a b c is w =
-    subst (WroteWithin low high a) (sym is) (record {
-      size = w.size;
-      outside = w.outside;
-      mark = w.mark;
-      target = w.target;
-      pc = w.pc;
-      code = w.code;
-      events = w.events;
-      spare_events = w.spare_events;
-      spare_bytes = w.spare_bytes;
-      exchange = w.exchange;
-      steps = w.steps;
-    })
+    subst (WroteWithin low high a) (sym is) (wrote_then low high a b (with_sp sp b) w (sp_moved sp low high b))
 
 pub same_stack : (a b : State) → WroteWithin STACK_TOP STACK_TOP a b → b.stack ≡ a.stack
 same_stack a b w = ext_get_or 0 b.stack a.stack w.size (λ i h. w.outside i (cases_lt (STACK + i) STACK_TOP))
@@ -61,10 +49,9 @@ told_lies : (target : Target) (o : Option Loc) → IsSettable target o → AllBy
 told_lies target (Some at) set = (set.0, tt)
 told_lies target None set = tt
 
-register_stays : (base frame : ℕ) (a b : State) (l : Loc) → IsPlace 0 l → word_in STACK_TOP b l ≡ word_in STACK_TOP a l → register (image_from base frame b) l ≡ register (image_from base frame a) l
-register_stays base frame a b (G r) lies h = h
-register_stays base frame a b (F r) lies h = h
-register_stays base frame a b (S n w) lies h = absurd (omega (arith, lies.0, lies.1))
+pub register_stays : (base frame : ℕ) (a b : State) (l : Loc) → IsPlace 0 l → word_in STACK_TOP b l ≡ word_in STACK_TOP a l → register (image_from base frame b) l ≡ register (image_from base frame a) l
+register_stays base frame a b l lies =
+    by_register (λ l. word_in STACK_TOP b l ≡ word_in STACK_TOP a l → register (image_from base frame b) l ≡ register (image_from base frame a) l) (λ r below h. h) (λ r below h. h) l lies
 
 pub result_kept : (base : ℕ) (ls : List Loc) (a b : State) → RegistersStay ls a b → WroteWithin STACK_TOP STACK_TOP a b → (std : Standard) (s : Signature) (target : Target) (v : ValueTree) → IsSoundOnMachine std s → AllByRecursion (IsNoneOf ls) (result_locs (plan_of std s).res) → IsSettable target std.returned_address → AllByRecursion (IsNoneOf ls) (to_list std.returned_address) → HoldsResult std s v (image_from base (frame_of std s) a) → HoldsResult std s v (image_from base (frame_of std s) b)
 result_kept base ls a b stay quiet std s target v sound none set clear h =

@@ -7,7 +7,9 @@ use Rattle.std.proofs.lemmas.Bool.{cases_lt}
 use Rattle.ffi3_place_spec.specs.declared.Loc.{Loc}
 use Rattle.ffi3_place_spec.specs.declared.Loc.TheVariants.{G, F, S}
 use Rattle.ffi3_place_spec.specs.Sound.{Apart, IsNoneOf}
+use Rattle.ffi3_place_spec.proofs.Elements.{drop_read}
 use Rattle.ffi3_place_spec.proofs.Tests.{each_at}
+use Rattle.std.proofs.lemmas.List.{drop_all}
 use Rattle.ffi3_type_spec.specs.declared.limits.TheConstants.{STACK, STACK_BYTES, STACK_TOP}
 use Rattle.ffi3_place_spec.specs.Agrees.{saved_registers}
 use Rattle.ffi3_machine_spec.specs.State.{State, stored}
@@ -23,15 +25,15 @@ use Rattle.ffi3_callee.proofs.Copying.{place_above}
 -- ---- the words from one on
 
 first_of : (ws : List SaveWord) (i : ℕ) (w : SaveWord) → i < length ws → w ≡ get_or ws i w → drop i ws ≡ w ∷ drop (suc i) ws
-first_of [] i w h is = absurd (omega (arith, h))
-first_of (x ∷ ws) zero w h is = λ k. sym is k ∷ ws
-first_of (x ∷ ws) (suc i) w h is = first_of ws i w (omega (arith, h)) is
+first_of ws i w h is =
+    let next : i + 1 ≡ suc i = omega arith in
+    drop_read ws i w h is ∙ ap (λ k. w ∷ drop k ws) next
 
-none_from : (ws : List SaveWord) (i : ℕ) → length ws ≤ i → drop i ws ≡ []
-none_from [] zero h = refl
-none_from [] (suc i) h = refl
-none_from (x ∷ ws) zero h = absurd (omega (arith, h))
-none_from (x ∷ ws) (suc i) h = none_from ws i (omega (arith, h))
+-- what stands at a place of a list, whatever is asked for beyond its end
+same_element : (ws : List SaveWord) (i : ℕ) (v w : SaveWord) → i < length ws → v ≡ get_or ws i v → w ≡ get_or ws i w → v ≡ w
+same_element [] i v w h v_is w_is = absurd (omega (arith, h))
+same_element (x ∷ ws) zero v w h v_is w_is = v_is ∙ sym w_is
+same_element (x ∷ ws) (suc i) v w h v_is w_is = same_element ws i v w (omega (arith, h)) v_is w_is
 
 -- ---- saving
 
@@ -85,17 +87,10 @@ module _ (from base : ℕ) (hidden : Option Loc) (words : List SaveWord) (first 
 
       here : (j : ℕ) (w : SaveWord) → j ≡ i → j < length words → w ≡ get_or words j w → saved_word from j b ≡ word_to_save base first hidden w
       here j w at below_j w_is =
-          let same_place : w ≡ word = same_element words j i w word below_j at w_is is in
+          let same_place : w ≡ word = same_element words i w word inside (subst (λ k. w ≡ get_or words k w) at w_is) is in
           let written : (k : ℕ) → k < 8 → get_or b.stack (from + 8 * j + k - STACK) 0 ≡ get_or (to_le_bytes w64 n) k 0 = λ k h. let there : from + 8 * j + k - STACK ≡ addr + k - STACK = omega (arith, at, addr_is) in
           ap (λ m. get_or m.stack (from + 8 * j + k - STACK) 0) b_is ∙ ap (λ q. get_or (stored addr bytes a).stack q 0) there ∙ stored_inside addr bytes a start fits k (omega (arith, h, eight)) ∙ ap (λ xs. get_or xs k 0) bytes_is in
           word_there from (8 * j) n b small written ∙ n_is ∙ to_save_above from (from + 8 * length words) base hidden word first a (omega (arith, low, below)) below before.only ∙ ap (word_to_save base first hidden) (sym same_place)
-        where
-          same_element : (xs : List SaveWord) (j i : ℕ) (w word : SaveWord) → j < length xs → j ≡ i → w ≡ get_or xs j w → word ≡ get_or xs i word → w ≡ word
-          same_element [] j i w word h e w_is is = absurd (omega (arith, h))
-          same_element (x ∷ xs) zero zero w word h e w_is is = w_is ∙ sym is
-          same_element (x ∷ xs) zero (suc i) w word h e w_is is = absurd (omega (arith, e))
-          same_element (x ∷ xs) (suc j) zero w word h e w_is is = absurd (omega (arith, e))
-          same_element (x ∷ xs) (suc j) (suc i) w word h e w_is is = same_element xs j i w word (omega (arith, h)) (omega (arith, e)) w_is is
 
       kept : (j : ℕ) → j < i → SameAt from (S (8 * j) 8) a b
       kept j h = λ k less. ap (λ m. get_or m.stack (from + 8 * j + k - STACK) 0) b_is ∙ stored_outside addr bytes a start fits (from + 8 * j + k - STACK) (inl (omega (arith, low, addr_is, h, less)))
@@ -112,18 +107,16 @@ module _ (from base : ℕ) (hidden : Option Loc) (words : List SaveWord) (first 
 
   pub all_stored : (i : ℕ) (m : State) → length words ≤ i → AreSavedTo i m → m ≡ with_saved from base hidden 0 words first
   all_stored i m end saved =
-      ap (λ ws. with_saved from base hidden i ws m) (sym (none_from words i end)) ∙ saved.whole
+      ap (λ ws. with_saved from base hidden i ws m) (sym (drop_all i words end)) ∙ saved.whole
 
 -- ---- giving back
 
 registers_none : (ws : List SaveWord) (i : ℕ) (w : SaveWord) (l : Loc) → i < length ws → w ≡ get_or ws i w → IsNoneOf (saved_registers ws) l → IsNoneOf (saved_registers (w ∷ [])) l
 registers_none [] i w l h is none = absurd (omega (arith, h))
 registers_none (Register at ∷ ws) zero w l h is none = subst (λ u. IsNoneOf (saved_registers (u ∷ [])) l) (sym is) (none.0, tt)
-registers_none (Hidden ∷ ws) zero w l h is none = subst (λ u. IsNoneOf (saved_registers (u ∷ [])) l) (sym is) tt
-registers_none (Spare ∷ ws) zero w l h is none = subst (λ u. IsNoneOf (saved_registers (u ∷ [])) l) (sym is) tt
+registers_none (_ ∷ ws) zero w l h is none = subst (λ u. IsNoneOf (saved_registers (u ∷ [])) l) (sym is) tt
 registers_none (Register at ∷ ws) (suc i) w l h is none = registers_none ws i w l (omega (arith, h)) is none.1
-registers_none (Hidden ∷ ws) (suc i) w l h is none = registers_none ws i w l (omega (arith, h)) is none
-registers_none (Spare ∷ ws) (suc i) w l h is none = registers_none ws i w l (omega (arith, h)) is none
+registers_none (_ ∷ ws) (suc i) w l h is none = registers_none ws i w l (omega (arith, h)) is none
 
 -- the bytes of words stay where no register's write reaches
 stack_same : (from i : ℕ) (a b : State) → STACK ≤ from → WroteWithin STACK_TOP STACK_TOP a b → saved_word from i b ≡ saved_word from i a
@@ -135,21 +128,10 @@ different m n (inr most) (inl more) = inr (λ e. absurd (omega (arith, more, e))
 different m n (inr most) (inr least) = inl (omega (arith, most, least))
 
 same_or_apart : (k l : Loc) → IsPlace 0 k → (k ≡ l) ⊎ Apart l k
-same_or_apart (G a) (G b) h =
-    elim (different b a (cases_lt b a) (cases_lt a b)) [
-      | inl e ↦ inl (ap G (sym e))
-      | inr apart ↦ inr apart
-    ]
-same_or_apart (F a) (F b) h =
-    elim (different b a (cases_lt b a) (cases_lt a b)) [
-      | inl e ↦ inl (ap F (sym e))
-      | inr apart ↦ inr apart
-    ]
-same_or_apart (G a) (F b) h = inr tt
-same_or_apart (G a) (S b w) h = inr tt
-same_or_apart (F a) (G b) h = inr tt
-same_or_apart (F a) (S b w) h = inr tt
+same_or_apart (G a) (G b) h = ⊎_elim (λ e. inl (ap G (sym e))) inr (different b a (cases_lt b a) (cases_lt a b))
+same_or_apart (F a) (F b) h = ⊎_elim (λ e. inl (ap F (sym e))) inr (different b a (cases_lt b a) (cases_lt a b))
 same_or_apart (S a w) l h = absurd (omega (arith, h.0, h.1))
+same_or_apart _ _ h = inr tt
 
 module _ (from : ℕ) (words : List SaveWord) (first : State) where
   pub record AreBackTo (i : ℕ) (m : State) : Type 0 where
@@ -197,22 +179,11 @@ module _ (from : ℕ) (words : List SaveWord) (first : State) where
           clear_of (G x) (G y) h = λ e. h (sym e)
           clear_of (F x) (F y) h = λ e. h (sym e)
           clear_of (S x v) (S y w) h = ⊎_elim (λ x. inr x) (λ x. inl x) h
-          clear_of (G x) (F y) h = tt
-          clear_of (G x) (S y w) h = tt
-          clear_of (F x) (G y) h = tt
-          clear_of (F x) (S y w) h = tt
-          clear_of (S x w) (G y) h = tt
-          clear_of (S x w) (F y) h = tt
-      kept value hold Hidden e at lies before_at = same_word_in STACK_TOP at a b (stays.others at (subst (λ u. IsNoneOf (saved_registers (u ∷ [])) at) (sym e) tt)) ∙ before_at
-      kept value hold Spare e at lies before_at = same_word_in STACK_TOP at a b (stays.others at (subst (λ u. IsNoneOf (saved_registers (u ∷ [])) at) (sym e) tt)) ∙ before_at
+          clear_of _ _ h = tt
+      kept value hold _ e at lies before_at = same_word_in STACK_TOP at a b (stays.others at (subst (λ u. IsNoneOf (saved_registers (u ∷ [])) at) (sym e) tt)) ∙ before_at
 
       last : (j : ℕ) (at : Loc) → j ≡ i → Register at ≡ get_or words j (Register at) → word ≡ Register at
-      last j at e at_is = word_same words i word (Register at) inside is (subst (λ k. Register at ≡ get_or words k (Register at)) e at_is)
-        where
-          word_same : (xs : List SaveWord) (i : ℕ) (w v : SaveWord) → i < length xs → w ≡ get_or xs i w → v ≡ get_or xs i v → w ≡ v
-          word_same [] i w v h p q = absurd (omega (arith, h))
-          word_same (x ∷ xs) zero w v h p q = p ∙ sym q
-          word_same (x ∷ xs) (suc i) w v h p q = word_same xs i w v (omega (arith, h)) p q
+      last j at e at_is = same_element words i word (Register at) inside is (subst (λ k. Register at ≡ get_or words k (Register at)) e at_is)
 
       each : (value : Loc → ℕ) → HoldRegisters from words value first → (j : ℕ) (at : Loc) → j < i + 1 → j < length words → Register at ≡ get_or words j (Register at) → word_in STACK_TOP b at ≡ value at
       each value hold j at h below at_is = elim (cases_lt j i) [
@@ -225,4 +196,4 @@ module _ (from : ℕ) (words : List SaveWord) (first : State) where
 
   pub all_given : (i : ℕ) (m : State) → length words ≤ i → AreBackTo i m → m ≡ with_given_back from 0 words first
   all_given i m end back =
-      ap (λ ws. with_given_back from i ws m) (sym (none_from words i end)) ∙ back.whole
+      ap (λ ws. with_given_back from i ws m) (sym (drop_all i words end)) ∙ back.whole

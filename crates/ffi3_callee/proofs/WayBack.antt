@@ -26,45 +26,28 @@ use Rattle.ffi3_place_spec.proofs.Tests.{each_at}
 use Rattle.ffi3_place_spec.proofs.OnMachine.{as_before}
 use Rattle.ffi3_machine_spec.specs.declared.stub.TheConstants.{AREA_AT}
 use Rattle.ffi3_machine_spec.specs.Memory.{number_of}
-use Rattle.ffi3_machine_spec.specs.State.{State, HasReturnAddress, HasReturnAt, IsMachine, image_of, stack_at, with_x, x_of}
+use Rattle.ffi3_machine_spec.specs.State.{State, HasReturnAddress, HasReturnAt, IsMachine, image_of, returned, stack_at, with_x, x_of}
 use Rattle.ffi3_machine.specs.MachineStep.{even}
 use Rattle.ffi3_machine_spec.specs.Stubs.{Exit, exchanged_at}
 use Rattle.ffi3_stubs.specs.Calls.{HasLeft, left_to, steps_of, CameFromWords}
 use Rattle.ffi3_machine_transfer.specs.Passing.{by_exchange, passing, passing_if}
 use Rattle.ffi3_machine_transfer.specs.Stored.{IsPlace, SameAt, WroteWithin, with_journal_of, word_in}
+use Rattle.ffi3_machine_transfer.proofs.Composing.{beside, by_register, register_is, same_word_at, word_same}
 use Rattle.ffi3_machine_transfer.proofs.Held.{left_by, loaded_as_passed}
 use Rattle.ffi3_marshal.proofs.Lawful.{each_first, each_rest, machine_places}
 use Rattle.ffi3_machine_transfer.proofs.Outcomes as outcome
-use Rattle.ffi3_machine_transfer.proofs.Passing.{place_low, steps_more, steps_same, stubs_there, told_below, told_there}
+use Rattle.ffi3_machine_transfer.proofs.Passing.{place_low, steps_more, steps_same, told_below, told_there}
 use Rattle.ffi3_machine_transfer.proofs.Tables.{each_with, reserved_not_left}
 use Rattle.ffi3_callee.specs.Loaded.{image_from}
 use Rattle.ffi3_callee.specs.Given.{RegistersStay, ReservedStay}
 use Rattle.ffi3_callee.specs.GoneBack.{HasGoneBack, IsAtReturn, IsGiven, IsLeftAlone, returned_by, returned_if}
 use Rattle.ffi3_callee.specs.Saved.{AreGivenBack, AreSaved, HoldRegisters, IsSaveable}
 use Rattle.ffi3_callee.proofs.ByStub.{area_back}
-use Rattle.ffi3_callee.proofs.Keeping.{reserved_not_saved, reserved_there}
+use Rattle.ffi3_callee.proofs.Keeping.{all_back, reserved_not_saved, reserved_there}
 use Rattle.ffi3_callee.proofs.Laws.{each_among, result_apart, returned_apart, words_saveable}
-use Rattle.ffi3_callee.proofs.OwnKept.{same_word_at, word_same}
-use Rattle.ffi3_callee.proofs.Return.{same_stack}
+use Rattle.ffi3_callee.proofs.Return.{register_stays, same_stack}
 
--- ---- the laws of stubs, where calls go by them
-
-pub laws_of : (std : Standard) (target : Target) → (has_stubs std.target ≡ true → AgreesWithStubs std) → std.target ≡ target → by_exchange target ≡ true → AgreesWithStubs std
-laws_of std target law same e = law (ap has_stubs same ∙ stubs_there target e)
-
-pub result_law_of : (std : Standard) (s : Signature) (target : Target) → (has_stubs std.target ≡ true → ResultGoesByStubs std s) → std.target ≡ target → by_exchange target ≡ true → ResultGoesByStubs std s
-result_law_of std s target law same e = law (ap has_stubs same ∙ stubs_there target e)
-
--- ---- each register that is saved has its value again
-
-all_back : (value : Loc → ℕ) (m : State) (ws : List SaveWord) → ((i : ℕ) (at : Loc) → i < length ws → Register at ≡ get_or ws i (Register at) → word_in STACK_TOP m at ≡ value at) → AllByRecursion (λ at. word_in STACK_TOP m at ≡ value at) (saved_registers ws)
-all_back value m [] back = tt
-all_back value m (Register at ∷ ws) back =
-    (back 0 at (omega arith) refl, all_back value m ws (λ i l below is. back (suc i) l (omega (arith, below)) is))
-all_back value m (Hidden ∷ ws) back =
-    all_back value m ws (λ i l below is. back (suc i) l (omega (arith, below)) is)
-all_back value m (Spare ∷ ws) back =
-    all_back value m ws (λ i l below is. back (suc i) l (omega (arith, below)) is)
+-- ---- what is given back
 
 module _ (std : Standard) (agrees : AgreesWithMachine std) (entry : ℕ) (before after : State) (given : (value : Loc → ℕ) → AreGivenBack (entry - std.save) std.save_area value before after) (e : Image) (hold : HoldRegisters (entry - std.save) std.save_area (register e) before) where
   all_given : AllByRecursion (λ at. word_in STACK_TOP after at ≡ register e at) (given_back std)
@@ -86,26 +69,6 @@ leads_back Amd64 area entry t after e area_is whole given back =
 leads_back Aarch64 area entry t after e area_is whole given back = given.0 ∙ back
 leads_back Riscv area entry t after e area_is whole given back = ap even (given.0 ∙ back)
 
-returned_there : (b : Bool) → b ≡ true → (m : State) → (returned_if b m).sp ≡ m.sp
-returned_there true e m = refl
-returned_there false e m = absurd cc
-
-at_return_by : (b : Bool) → b ≡ true → (m : State) → m.pc ≡ RETURN → IsAtReturn b m
-at_return_by true e m h = h
-at_return_by false e m h = absurd cc
-
-given_by_stub : (b : Bool) → b ≡ true → (std : Standard) (l : Loc) → IsGiven b std l → IsOneOf (result_loads (isa_of std.target)) l
-given_by_stub true e std l h = h
-given_by_stub false e std l h = absurd cc
-
-alone_by_stub : (b : Bool) → b ≡ true → (std : Standard) (l : Loc) → IsLeftAlone b std l → IsNoneOf (exit_scratch (isa_of std.target) ++ (callee_saved_words (isa_of std.target) ++ result_loads (isa_of std.target))) l
-alone_by_stub true e std l h = h
-alone_by_stub false e std l h = absurd cc
-
-both_ways : (b : Bool) → b ≡ true → b ≡ false → ⊥
-both_ways true e h = cc
-both_ways false e h = cc
-
 pub gone_by_stub : (std : Standard) → AgreesWithMachine std → AgreesWithStubs std → (area entry : ℕ) (m n : State) → IsMachine m → std.target ≡ m.target → area ≡ entry - std.save → STACK + std.save ≤ entry → entry ≤ STACK_TOP → by_exchange m.target ≡ true → HasLeft (isa_of m.target) (with_x AREA_AT area m) n → n.steps ≡ (m.steps + steps_of (isa_of m.target) Exit) % 2 ^ 64 → HasGoneBack std entry m n
 gone_by_stub std agrees laws area entry m n is same area_is low high e says counted =
     let isa = isa_of std.target in
@@ -126,24 +89,12 @@ gone_by_stub std agrees laws area entry m n is same area_is low high e says coun
     let sp : n.sp ≡ entry + std.link = s.sp ∙ ap (λ a. a + area_bytes (isa_of std.target) + pushed_bytes (isa_of std.target)) there ∙ ap (λ a. a + pushed_bytes (isa_of std.target)) whole ∙ ap (λ k. entry + k) (sym pushed) in
     record {
       given_back = given;
-      results = λ l lies some. loaded_as_passed (by_exchange m.target) e (result_loads (isa_of std.target)) m (with_x AREA_AT area m) n (λ k there. told_below (exchanged_at k) AREA_AT area m (omega (arith, place_low k there)) fits) s.loaded l lies (given_by_stub (by_exchange m.target) e std l some);
-      others = λ l lies alone. left_by (exit_scratch (isa_of std.target) ++ (callee_saved_words (isa_of std.target) ++ result_loads (isa_of std.target))) m n s.others l lies (alone_by_stub (by_exchange m.target) e std l alone);
-      sp = returned_there (by_exchange n.target) own n ∙ sp;
-      at_return = λ i hold back. at_return_by (by_exchange n.target) own n (s.pc ∙ leads_back (isa_of std.target) area entry (with_x AREA_AT area m) n i there whole (link_given std agrees entry m n given i hold) back);
-      within = record {
-        size = ap length stack;
-        outside = λ i far. ap (λ xs. get_or xs i 0) stack;
-        mark = inl (omega (arith, mark));
-        target = target;
-        pc = refl;
-        code = ap (λ q. q.code) s.rest;
-        events = refl;
-        spare_events = refl;
-        spare_bytes = refl;
-        exchange = refl;
-        steps = refl;
-      };
-      pc = λ other. absurd (both_ways (by_exchange m.target) e other);
+      results = λ l lies some. loaded_as_passed (by_exchange m.target) e (result_loads (isa_of std.target)) m (with_x AREA_AT area m) n (λ k there. told_below (exchanged_at k) AREA_AT area m (omega (arith, place_low k there)) fits) s.loaded l lies (subst (λ (b : Bool). IsGiven b std l) e some);
+      others = λ l lies alone. left_by (exit_scratch (isa_of std.target) ++ (callee_saved_words (isa_of std.target) ++ result_loads (isa_of std.target))) m n s.others l lies (subst (λ (b : Bool). IsLeftAlone b std l) e alone);
+      sp = ap (λ (b : Bool). (returned_if b n).sp) own ∙ sp;
+      at_return = λ i hold back. subst (λ (b : Bool). IsAtReturn b n) (sym own) (s.pc ∙ leads_back (isa_of std.target) area entry (with_x AREA_AT area m) n i there whole (link_given std agrees entry m n given i hold) back);
+      within = beside STACK_TOP STACK_TOP m n (ap length stack) (λ i far. ap (λ xs. get_or xs i 0) stack) (inl (omega (arith, mark))) target (ap (λ q. q.code) s.rest);
+      pc = λ other. absurd cc;
       events = ap (λ q. q.events) s.rest;
       spare_events = ap (λ q. q.spare_events) s.rest;
       spare_bytes = ap (λ q. q.spare_bytes) s.rest;
@@ -151,22 +102,6 @@ gone_by_stub std agrees laws area entry m n is same area_is low high e says coun
     }
 
 -- ---- without stubs
-
-own_given : (b : Bool) → b ≡ false → (std : Standard) (m n : State) → RegistersStay (saved_registers std.save_area) m n → (l : Loc) → IsPlace 0 l → IsGiven b std l → SameAt 0 l (passing_if b m) n
-own_given true e std m n stay l lies some = absurd cc
-own_given false e std m n stay l lies none = same_word_at STACK_TOP l m n lies (stay l lies none)
-
-own_alone : (b : Bool) → b ≡ false → (std : Standard) (m n : State) → RegistersStay (saved_registers std.save_area) m n → (l : Loc) → IsPlace 0 l → IsLeftAlone b std l → SameAt 0 l m n
-own_alone true e std m n stay l lies alone = absurd cc
-own_alone false e std m n stay l lies none = same_word_at STACK_TOP l m n lies (stay l lies none)
-
-own_sp : (b : Bool) → b ≡ false → (m : State) → (returned_if b m).sp ≡ m.sp + pushed_bytes (isa_of m.target)
-own_sp true e m = absurd cc
-own_sp false e m = refl
-
-own_return : (b : Bool) → b ≡ false → (m : State) → HasReturnAddress m → IsAtReturn b m
-own_return true e m h = absurd cc
-own_return false e m h = h
 
 -- the return address stands where a register holds it
 return_given : (link : Option ℕ) (e : Image) (m : State) (sp : ℕ) (stack : List ℕ) → AllByRecursion (λ at. word_in STACK_TOP m at ≡ register e at) (to_list (option_map G link)) → HasReturnAt link e.general sp stack → HasReturnAt link m.general sp stack
@@ -180,23 +115,11 @@ gone_itself std agrees entry m n same e given stay w sp =
     let link : pushed_bytes (isa_of n.target) ≡ std.link = ap (λ k. pushed_bytes (isa_of k)) (target ∙ sym same) ∙ sym agrees.link in
     record {
       given_back = given;
-      results = λ l lies some. own_given (by_exchange m.target) e std m n stay l lies some;
-      others = λ l lies alone. own_alone (by_exchange m.target) e std m n stay l lies alone;
-      sp = own_sp (by_exchange n.target) own n ∙ ap (λ a. a + pushed_bytes (isa_of n.target)) sp ∙ ap (λ k. entry + k) link;
-      at_return = λ i hold back. own_return (by_exchange n.target) own n (subst (λ k. HasReturnAt (link_register (isa_of k)) n.general n.sp n.stack) (same ∙ sym target) (return_given (link_register (isa_of std.target)) i n n.sp n.stack (link_given std agrees entry m n given i hold) (subst (λ xs. HasReturnAt (link_register (isa_of std.target)) i.general n.sp xs) (sym (same_stack m n w)) (subst (λ a. HasReturnAt (link_register (isa_of std.target)) i.general a m.stack) (sym sp) back))));
-      within = record {
-        size = w.size;
-        outside = w.outside;
-        mark = w.mark;
-        target = w.target;
-        pc = refl;
-        code = w.code;
-        events = refl;
-        spare_events = refl;
-        spare_bytes = refl;
-        exchange = refl;
-        steps = refl;
-      };
+      results = λ l lies some. subst (λ (b : Bool). SameAt 0 l (passing_if b m) n) (sym e) (same_word_at STACK_TOP l m n lies (stay l lies (subst (λ (b : Bool). IsGiven b std l) e some)));
+      others = λ l lies alone. same_word_at STACK_TOP l m n lies (stay l lies (subst (λ (b : Bool). IsLeftAlone b std l) e alone));
+      sp = ap (λ (b : Bool). (returned_if b n).sp) own ∙ ap (λ a. a + pushed_bytes (isa_of n.target)) sp ∙ ap (λ k. entry + k) link;
+      at_return = λ i hold back. subst (λ (b : Bool). IsAtReturn b n) (sym own) (subst (λ k. HasReturnAt (link_register (isa_of k)) n.general n.sp n.stack) (same ∙ sym target) (return_given (link_register (isa_of std.target)) i n n.sp n.stack (link_given std agrees entry m n given i hold) (subst (λ xs. HasReturnAt (link_register (isa_of std.target)) i.general n.sp xs) (sym (same_stack m n w)) (subst (λ a. HasReturnAt (link_register (isa_of std.target)) i.general a m.stack) (sym sp) back))));
+      within = beside STACK_TOP STACK_TOP m n w.size w.outside w.mark target w.code;
       pc = λ other. w.pc;
       events = w.events;
       spare_events = w.spare_events;
@@ -211,18 +134,10 @@ alone_reserved std agrees true =
     subst (AllByRecursion (IsNoneOf (exit_scratch (isa_of std.target) ++ (callee_saved_words (isa_of std.target) ++ result_loads (isa_of std.target))))) (sym agrees.reserved) (reserved_not_left (isa_of std.target))
 alone_reserved std agrees false = reserved_not_saved std agrees
 
-register_returned : (b : Bool) (room : ℕ) (m : State) (l : Loc) → IsPlace 0 l → register (image_of room (returned_if b m)) l ≡ word_in STACK_TOP m l
-register_returned true room m (G r) lies = refl
-register_returned true room m (F r) lies = refl
-register_returned true room m (S k w) lies = absurd (omega (arith, lies.0, lies.1))
-register_returned false room m (G r) lies = refl
-register_returned false room m (F r) lies = refl
-register_returned false room m (S k w) lies = absurd (omega (arith, lies.0, lies.1))
-
-pub register_own : (room : ℕ) (m : State) (l : Loc) → IsPlace 0 l → register (image_of room m) l ≡ word_in STACK_TOP m l
-register_own room m (G r) lies = refl
-register_own room m (F r) lies = refl
-register_own room m (S k w) lies = absurd (omega (arith, lies.0, lies.1))
+pub register_returned : (b : Bool) (room : ℕ) (m : State) (l : Loc) → IsPlace 0 l → register (image_of room (returned_if b m)) l ≡ word_in STACK_TOP m l
+register_returned true room m l lies = register_is room STACK_TOP m l lies
+register_returned false room m l lies =
+    by_register (λ l. register (image_of room (returned m)) l ≡ word_in STACK_TOP m l) (λ r below. refl) (λ r below. refl) l lies
 
 module _ (std : Standard) (agrees : AgreesWithMachine std) (entry : ℕ) (m n : State) (back : HasGoneBack std entry m n) where
   pub gone_reserved : ReservedStay std m n
@@ -233,7 +148,7 @@ module _ (std : Standard) (agrees : AgreesWithMachine std) (entry : ℕ) (m n : 
   pub gone_kept : (e : Image) (room : ℕ) → e.sp ≡ entry → HoldRegisters (entry - std.save) std.save_area (register e) m → SameIn std.reserved e (image_of 0 m) → Kept std e (image_of room (returned_by n))
   gone_kept e room sp hold same = record {
     preserved = each_with (IsPlace 0) (λ at. word_in STACK_TOP n at ≡ register e at) (λ at. register e at ≡ register (image_of room (returned_by n)) at) (λ l lies h. sym (register_returned (by_exchange n.target) room n l lies ∙ h)) std.callee_saved (machine_places (isa_of std.target) 0 std.callee_saved agrees.callee_saved_exist) (preserved_given std agrees entry m n back.given_back e hold);
-    reserved = each_with (λ at. IsPlace 0 at × (word_in STACK_TOP n at ≡ word_in STACK_TOP m at)) (λ at. register e at ≡ register (image_of 0 m) at) (λ at. register e at ≡ register (image_of room (returned_by n)) at) (λ l both h. h ∙ register_own 0 m l both.0 ∙ sym both.1 ∙ sym (register_returned (by_exchange n.target) room n l both.0)) std.reserved (each_with (IsPlace 0) (λ at. word_in STACK_TOP n at ≡ word_in STACK_TOP m at) (λ at. IsPlace 0 at × (word_in STACK_TOP n at ≡ word_in STACK_TOP m at)) (λ l p q. (p, q)) std.reserved (reserved_there std agrees) gone_reserved) same;
+    reserved = each_with (λ at. IsPlace 0 at × (word_in STACK_TOP n at ≡ word_in STACK_TOP m at)) (λ at. register e at ≡ register (image_of 0 m) at) (λ at. register e at ≡ register (image_of room (returned_by n)) at) (λ l both h. h ∙ register_is 0 STACK_TOP m l both.0 ∙ sym both.1 ∙ sym (register_returned (by_exchange n.target) room n l both.0)) std.reserved (each_with (IsPlace 0) (λ at. word_in STACK_TOP n at ≡ word_in STACK_TOP m at) (λ at. IsPlace 0 at × (word_in STACK_TOP n at ≡ word_in STACK_TOP m at)) (λ l p q. (p, q)) std.reserved (reserved_there std agrees) gone_reserved) same;
     sp = back.sp ∙ ap (λ a. a + std.link) (sym sp);
   }
 
@@ -248,14 +163,9 @@ module _ (std : Standard) (agrees : AgreesWithMachine std) (entry : ℕ) (m n : 
   given_address true law = let laws = law refl in laws.returned_loaded
   given_address false law = returned_apart std agrees
 
-  image_register : (base frame : ℕ) (a b : State) (l : Loc) → IsPlace 0 l → SameAt 0 l a b → register (image_from base frame b) l ≡ register (image_from base frame a) l
-  image_register base frame a b (G r) lies h = h
-  image_register base frame a b (F r) lies h = h
-  image_register base frame a b (S k w) lies h = absurd (omega (arith, lies.0, lies.1))
-
   pub gone_keeps : (s : Signature) → IsSound std s → SignatureHasNoFault s → (by_exchange m.target ≡ true → AgreesWithStubs std) → (by_exchange m.target ≡ true → ResultGoesByStubs std s) → (base : ℕ) (v : ValueTree) → HoldsResult std s v (image_from base (frame_of std s) (passing m)) → HoldsResult std s v (image_from base (frame_of std s) n)
   gone_keeps s sound right law result_law base v held =
-      outcome.result_kept (image_from base (frame_of std s) (passing m)) (image_from base (frame_of std s) n) (IsGiven (by_exchange m.target) std) refl (ap (λ xs. take (frame_of std s) (drop (base - STACK) xs)) gone_stack) (λ l lies given. image_register base (frame_of std s) (passing m) n l lies (back.results l lies given)) std s v (as_before std s sound (faultless_is_plain s right)) (given_results s (by_exchange m.target) sound result_law) (machine_places (isa_of std.target) 0 (to_list std.returned_address) agrees.returned_exists) (given_address (by_exchange m.target) law) held
+      outcome.result_kept (image_from base (frame_of std s) (passing m)) (image_from base (frame_of std s) n) (IsGiven (by_exchange m.target) std) refl (ap (λ xs. take (frame_of std s) (drop (base - STACK) xs)) gone_stack) (λ l lies given. register_stays base (frame_of std s) (passing m) n l lies (word_same STACK_TOP STACK_TOP l (passing m) n lies (back.results l lies given))) std s v (as_before std s sound (faultless_is_plain s right)) (given_results s (by_exchange m.target) sound result_law) (machine_places (isa_of std.target) 0 (to_list std.returned_address) agrees.returned_exists) (given_address (by_exchange m.target) law) held
 
 -- ---- from the machine at the entry to its image
 
@@ -263,13 +173,8 @@ module _ (std : Standard) (agrees : AgreesWithMachine std) (entry : ℕ) (m n : 
 pub held_registers : (std : Standard) → AgreesWithMachine std → (from base len : ℕ) (hidden : Option Loc) (entry m : State) → AreSaved from base hidden std.save_area entry m → HoldRegisters from std.save_area (register (image_of len entry)) m
 held_registers std agrees from base len hidden entry m saved = λ i at below is.
     let lies : IsSaveable 0 (Register at) = each_at (IsSaveable 0) std.save_area i (Register at) below (sym is) (words_saveable std agrees) in
-    saved i (Register at) below is ∙ image_word at lies
-  where
-    image_word : (at : Loc) → IsPlace 0 at → word_in base entry at ≡ register (image_of len entry) at
-    image_word (G r) lies = refl
-    image_word (F r) lies = refl
-    image_word (S k w) lies = absurd (omega (arith, lies.0, lies.1))
+    saved i (Register at) below is ∙ sym (register_is len base entry at lies)
 
 pub same_reserved : (std : Standard) → AgreesWithMachine std → (len : ℕ) (entry m : State) → ReservedStay std entry m → SameIn std.reserved (image_of len entry) (image_of 0 m)
 same_reserved std agrees len entry m stay =
-    each_with (IsPlace 0) (λ at. word_in STACK_TOP m at ≡ word_in STACK_TOP entry at) (λ at. register (image_of len entry) at ≡ register (image_of 0 m) at) (λ l lies h. register_own len entry l lies ∙ sym h ∙ sym (register_own 0 m l lies)) std.reserved (reserved_there std agrees) stay
+    each_with (IsPlace 0) (λ at. word_in STACK_TOP m at ≡ word_in STACK_TOP entry at) (λ at. register (image_of len entry) at ≡ register (image_of 0 m) at) (λ l lies h. register_is len STACK_TOP entry l lies ∙ sym h ∙ sym (register_is 0 STACK_TOP m l lies)) std.reserved (reserved_there std agrees) stay

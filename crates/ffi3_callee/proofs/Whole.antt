@@ -11,7 +11,7 @@ use Rattle.ffi3_machine_spec.specs.State.{State, AreBytes, IsMachine, scribbled}
 use Rattle.ffi3_machine.proofs.Words.{bytes-drop, bytes-take}
 use Rattle.ffi3_machine_transfer.specs.Passing.{by_exchange, passing, passing_if, words_at}
 use Rattle.ffi3_machine_transfer.specs.Stored.{WroteOnly}
-use Rattle.ffi3_machine_transfer.proofs.Passing.{get_or-words_at}
+use Rattle.ffi3_machine_transfer.proofs.Passing.{behind_parts, get_or-words_at}
 use Rattle.ffi3_callee.proofs.OwnKept.{own_list}
 
 -- ---- bytes are those of their words
@@ -49,30 +49,17 @@ module _ (xs ys : List ℕ) (xs_bytes : AreBytes xs) (ys_bytes : AreBytes ys) (x
 
 -- ---- what stands behind a call's registers
 
-same_rest : (us vs xs ys : List ℕ) → length us ≡ length vs → us ++ xs ≡ vs ++ ys → xs ≡ ys
-same_rest us vs xs ys n e =
-    sym (drop_at us xs (length us) refl) ∙ ap (drop (length us)) e ∙ drop_at vs ys (length us) (sym n)
-
-same_first : (us vs xs ys : List ℕ) → length us ≡ length vs → us ++ xs ≡ vs ++ ys → us ≡ vs
-same_first us vs xs ys n e =
-    sym (take_at us xs (length us) refl) ∙ ap (take (length us)) e ∙ take_at vs ys (length us) (sym n)
-
 module _ (a b : State) (before : IsMachine a) (after : IsMachine b) where
-  general_long : length b.general ≡ length a.general
-  general_long = after.general ∙ sym before.general
-
-  floating_long : length b.floating ≡ length a.floating
-  floating_long = after.floating ∙ sym before.floating
+  parts : (passing_if true b).exchange ≡ (passing_if true a).exchange → (b.general ≡ a.general) × (b.floating ≡ a.floating) × (drop REGISTERS_END b.exchange ≡ drop REGISTERS_END a.exchange)
+  parts = behind_parts a b (before.general ∙ sym after.general) (before.floating ∙ sym after.floating)
 
   own_floating : (k : Bool) → (passing_if k b).floating ≡ (passing_if k a).floating → (passing_if k b).exchange ≡ (passing_if k a).exchange → b.floating ≡ a.floating
-  own_floating true same behind =
-      same_first b.floating a.floating (drop REGISTERS_END b.exchange) (drop REGISTERS_END a.exchange) floating_long (same_rest b.general a.general (b.floating ++ drop REGISTERS_END b.exchange) (a.floating ++ drop REGISTERS_END a.exchange) general_long behind)
+  own_floating true same behind = (parts behind).1
   own_floating false same behind = same
 
   own_exchange : (k : Bool) → (passing_if k b).general ≡ (passing_if k a).general → (passing_if k b).floating ≡ (passing_if k a).floating → (passing_if k b).exchange ≡ (passing_if k a).exchange → b.exchange ≡ a.exchange
   own_exchange true low high behind =
-      let rest = same_rest b.general a.general (b.floating ++ drop REGISTERS_END b.exchange) (a.floating ++ drop REGISTERS_END a.exchange) general_long behind in
-      by_words a.exchange b.exchange before.exchange_bytes after.exchange_bytes before.exchange after.exchange low high (same_rest b.floating a.floating (drop REGISTERS_END b.exchange) (drop REGISTERS_END a.exchange) floating_long rest)
+      by_words a.exchange b.exchange before.exchange_bytes after.exchange_bytes before.exchange after.exchange low high (parts behind).2
   own_exchange false low high behind = behind
 
   pub only_written : (low high : ℕ) → WroteOnly low high (passing a) (passing b) → b ≡ record a { stack = b.stack; mark = b.mark }

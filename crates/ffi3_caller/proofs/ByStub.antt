@@ -11,14 +11,14 @@ use Rattle.ffi3_place_spec.specs.declared.Loc.{Loc}
 use Rattle.ffi3_place_spec.specs.declared.Loc.TheVariants.{G, F, S}
 use Rattle.ffi3_place_spec.specs.MachineRegisters.{link_place, link_register, to_list, pushed_bytes}
 use Rattle.ffi3_place_spec.specs.StubRegisters.{call_loads, call_scratch, exit_scratch, result_loads}
-use Rattle.ffi3_place_spec.specs.Sound.{IsNoneOf, IsOneOf}
+use Rattle.ffi3_place_spec.specs.Sound.{IsNoneOf, IsOneOf, IsOnStackOrIn}
 use Rattle.ffi3_machine_spec.specs.declared.stub.TheConstants.{CALLEE_AT, CALL_SP_AT, RETURN_SP_AT}
 use Rattle.ffi3_machine_spec.specs.State.{State, HasReturnAddress, HasReturnAt, IsMachine, IsSlot, called, linked_general, linked_stack, lowered, with_x, x_of}
 use Rattle.ffi3_machine_spec.specs.Stubs.{Call, Return, exchanged_at}
 use Rattle.ffi3_stubs.specs.Calls.{CameFromExchange, HasCalled, HasReturned, IsLinked, called_stack, steps_of, target_of}
 use Rattle.ffi3_machine_transfer.specs.Passing.{by_exchange, passing_if}
 use Rattle.ffi3_machine_transfer.specs.Stored.{IsPlace, SameAt}
-use Rattle.ffi3_machine_transfer.proofs.Composing.{same_itself}
+use Rattle.ffi3_machine_transfer.proofs.Composing.{by_register, same_itself}
 use Rattle.ffi3_machine_transfer.proofs.Exchanged.{word_written}
 use Rattle.ffi3_machine_transfer.proofs.Held.{left_by, loaded_as_passed, stored_as_passed}
 use Rattle.ffi3_machine_transfer.proofs.Passing.{place_low, steps_more, steps_same, told_below, told_length, told_there}
@@ -58,36 +58,27 @@ module _ (addr : ℕ) (m : State) (is : IsMachine m) (slot : IsSlot addr) where
 
 -- pc is a slot's address, which is even
 slot_even : (isa : Isa) (addr : ℕ) → IsSlot addr → target_of isa addr ≡ addr
-slot_even Amd64 addr slot = refl
-slot_even Aarch64 addr slot = refl
 slot_even Riscv addr slot = omega (arith, slot.2)
+slot_even _ addr slot = refl
 
 stack_linked : (isa : Isa) (sp : ℕ) (stack : List ℕ) → STACK + pushed_bytes isa ≤ sp → called_stack isa sp stack ≡ linked_stack (link_register isa) sp stack
 stack_linked Amd64 sp stack low =
     let end : sp - 8 - STACK + 8 ≡ sp - STACK = omega (arith, low) in
     ap (λ e. replace_range stack (sp - 8 - STACK) e (to_le_bytes w64 RETURN)) end
-stack_linked Aarch64 sp stack low = refl
-stack_linked Riscv sp stack low = refl
+stack_linked _ sp stack low = refl
 
 return_linked : (isa : Isa) (m n : State) → STACK + pushed_bytes isa ≤ m.sp → m.sp - STACK ≤ length m.stack → IsLinked isa n → n.sp ≡ m.sp - pushed_bytes isa → n.stack ≡ called_stack isa m.sp m.stack → HasReturnAt (link_register isa) n.general n.sp n.stack
 return_linked Amd64 m n low fits linked sp stack = (
   omega (arith, low, sp),
   ap (λ a. take 8 (drop (a - STACK) n.stack)) sp ∙ ap (λ xs. take 8 (drop (m.sp - 8 - STACK) xs)) stack ∙ word_written m.stack (m.sp - 8 - STACK) RETURN (omega (arith, low, fits)),
 )
-return_linked Aarch64 m n low fits linked sp stack = linked
-return_linked Riscv m n low fits linked sp stack = linked
+return_linked _ m n low fits linked sp stack = linked
 
 stub_passed : (b : Bool) → b ≡ true → (addr : ℕ) (m n : State) → ((l : Loc) → IsPlace 0 l → x_of (exchanged_at l) (told addr m) ≡ x_of (exchanged_at l) m) → CameFromExchange (call_loads (isa_of m.target)) (told addr m) n → (l : Loc) → IsPlace 0 l → IsCarried b (isa_of m.target) l → SameAt 0 l (passing_if b m) n
-stub_passed false e addr m n same came l lies some = absurd cc
-stub_passed true e addr m n same came (G r) lies some =
-    loaded_as_passed true refl (call_loads (isa_of m.target)) m (told addr m) n same came (G r) lies some
-stub_passed true e addr m n same came (F r) lies some =
-    loaded_as_passed true refl (call_loads (isa_of m.target)) m (told addr m) n same came (F r) lies some
-stub_passed true e addr m n same came (S k w) lies some = absurd (omega (arith, lies.0, lies.1))
-
-left_by_stub : (b : Bool) → b ≡ true → (isa : Isa) (l : Loc) → IsLeft b isa l → IsNoneOf (call_scratch isa ++ call_loads isa) l
-left_by_stub true e isa l h = h
-left_by_stub false e isa l h = absurd cc
+stub_passed b e addr m n same came l lies some =
+    let loads = call_loads (isa_of m.target) in
+    let passed = λ (k : Loc) (lies : IsPlace 0 k). loaded_as_passed b e (call_loads (isa_of m.target)) m (told addr m) n same came k lies in
+    by_register (λ l. IsOnStackOrIn loads l → SameAt 0 l (passing_if b m) n) (λ r below. passed (G r) below) (λ r below. passed (F r) below) l lies (subst (λ (k : Bool). IsCarried k (isa_of m.target) l) e some)
 
 pub called_by_stub : (addr : ℕ) (m t n : State) → IsMachine m → IsSlot addr → t ≡ told addr m → STACK + pushed_bytes (isa_of m.target) ≤ m.sp → m.sp ≤ STACK_TOP → by_exchange m.target ≡ true → HasCalled (isa_of t.target) t n → n.steps ≡ (t.steps + steps_of (isa_of t.target) Call) % 2 ^ 64 → SlotIsCalled addr m n
 called_by_stub addr m t n is slot t_is low high e says counted =
@@ -101,7 +92,7 @@ called_by_stub addr m t n is slot t_is low high e says counted =
     let target : n.target ≡ m.target = ap (λ q. q.target) s.rest in
     record {
       passed = λ l lies some. stub_passed (by_exchange m.target) e addr m n (told_register addr m is slot) s.loaded l lies some;
-      others = λ l lies left. left_by (call_scratch isa ++ call_loads isa) m n s.others l lies (left_by_stub (by_exchange m.target) e (isa_of m.target) l left);
+      others = λ l lies left. left_by (call_scratch isa ++ call_loads isa) m n s.others l lies (subst (λ (b : Bool). IsLeft b (isa_of m.target) l) e left);
       sp = sp;
       pc = s.pc ∙ ap (target_of (isa_of m.target)) (told_slot addr m is slot) ∙ slot_even (isa_of m.target) addr slot;
       return_address = subst (λ k. HasReturnAt (link_register (isa_of k)) n.general n.sp n.stack) (sym target) (return_linked (isa_of m.target) m n low (omega (arith, high, sized)) s.link sp stack);
@@ -123,22 +114,13 @@ linked_same Aarch64 general r none = get_or-set_other general 30 r RETURN 0 none
 linked_same Riscv general r none = get_or-set_other general 1 r RETURN 0 none.0
 
 left_alone : (addr : ℕ) (m n : State) → n ≡ called addr m → (l : Loc) → IsPlace 0 l → IsNoneOf (to_list (link_place (isa_of m.target))) l → SameAt 0 l m n
-left_alone addr m n n_is (G r) lies none = ap (λ q. get_or q.general r 0) n_is ∙ linked_same (isa_of m.target) m.general r none
-left_alone addr m n n_is (F r) lies none = ap (λ q. get_or q.floating r 0) n_is
-left_alone addr m n n_is (S k w) lies none = absurd (omega (arith, lies.0, lies.1))
-
-own_passed : (b : Bool) → b ≡ false → (addr : ℕ) (m n : State) → n ≡ called addr m → (l : Loc) → IsPlace 0 l → IsCarried b (isa_of m.target) l → SameAt 0 l (passing_if b m) n
-own_passed true e addr m n n_is l lies some = absurd cc
-own_passed false e addr m n n_is l lies some = left_alone addr m n n_is l lies some
-
-own_left : (b : Bool) → b ≡ false → (addr : ℕ) (m n : State) → n ≡ called addr m → (l : Loc) → IsPlace 0 l → IsLeft b (isa_of m.target) l → SameAt 0 l m n
-own_left true e addr m n n_is l lies left = absurd cc
-own_left false e addr m n n_is l lies left = left_alone addr m n n_is l lies left
+left_alone addr m n n_is l lies =
+    by_register (λ l. IsNoneOf (to_list (link_place (isa_of m.target))) l → SameAt 0 l m n) (λ r below none. ap (λ q. get_or q.general r 0) n_is ∙ linked_same (isa_of m.target) m.general r none) (λ r below none. ap (λ q. get_or q.floating r 0) n_is) l lies
 
 pub called_itself : (addr : ℕ) (m n : State) → by_exchange m.target ≡ false → n ≡ called addr m → HasReturnAddress n → SlotIsCalled addr m n
 called_itself addr m n e n_is back = record {
-  passed = λ l lies some. own_passed (by_exchange m.target) e addr m n n_is l lies some;
-  others = λ l lies left. own_left (by_exchange m.target) e addr m n n_is l lies left;
+  passed = λ l lies some. subst (λ (b : Bool). SameAt 0 l (passing_if b m) n) (sym e) (left_alone addr m n n_is l lies (subst (λ (b : Bool). IsCarried b (isa_of m.target) l) e some));
+  others = λ l lies left. left_alone addr m n n_is l lies (subst (λ (b : Bool). IsLeft b (isa_of m.target) l) e left);
   sp = ap (λ q. q.sp) n_is;
   pc = ap (λ q. q.pc) n_is;
   return_address = back;
@@ -154,18 +136,6 @@ called_itself addr m n e n_is back = record {
 
 -- ---- the way back
 
-back_given : (b : Bool) → b ≡ true → (isa : Isa) (l : Loc) → IsPassedBack b isa l → IsOneOf (result_loads isa) l
-back_given true e isa l h = h
-back_given false e isa l h = absurd cc
-
-untouched_by_stub : (b : Bool) → b ≡ true → (isa : Isa) (l : Loc) → IsUntouched b isa l → IsNoneOf (exit_scratch isa) l
-untouched_by_stub true e isa l h = h
-untouched_by_stub false e isa l h = absurd cc
-
-start_raised : (b : Bool) → b ≡ true → (frame : ℕ) (m n : State) → n.sp ≡ m.sp + frame → frame_start_if b frame n ≡ m.sp
-start_raised true e frame m n sp = omega (arith, sp)
-start_raised false e frame m n sp = absurd cc
-
 pub back_by_stub : (frame v : ℕ) (m t n : State) → IsMachine m → v ≡ m.sp + frame → t ≡ with_x RETURN_SP_AT v m → m.sp + frame ≤ STACK_TOP → by_exchange m.target ≡ true → HasReturned (isa_of t.target) t n → n.steps ≡ (t.steps + steps_of (isa_of t.target) Return) % 2 ^ 64 → HasComeBack frame m n
 back_by_stub frame v m t n is v_is t_is top e says counted =
     let isa = isa_of m.target in
@@ -176,9 +146,9 @@ back_by_stub frame v m t n is v_is t_is top e says counted =
     let target : n.target ≡ m.target = ap (λ q. q.target) s.rest in
     let same : by_exchange m.target ≡ by_exchange n.target = ap by_exchange (sym target) in
     record {
-      passed = λ l lies some. subst (λ (b : Bool). SameAt 0 l m (passing_if b n)) same (stored_as_passed (by_exchange m.target) e (result_loads isa) m (with_x RETURN_SP_AT v m) n is refl refl s.stored l lies (back_given (by_exchange m.target) e (isa_of m.target) l some));
-      others = λ l lies free. left_by (exit_scratch isa) m n s.others l lies (untouched_by_stub (by_exchange m.target) e (isa_of m.target) l free);
-      start = subst (λ (b : Bool). frame_start_if b frame n ≡ m.sp) same (start_raised (by_exchange m.target) e frame m n sp);
+      passed = λ l lies some. subst (λ (b : Bool). SameAt 0 l m (passing_if b n)) same (stored_as_passed (by_exchange m.target) e (result_loads isa) m (with_x RETURN_SP_AT v m) n is refl refl s.stored l lies (subst (λ (b : Bool). IsPassedBack b (isa_of m.target) l) e some));
+      others = λ l lies free. left_by (exit_scratch isa) m n s.others l lies (subst (λ (b : Bool). IsUntouched b (isa_of m.target) l) e free);
+      start = subst (λ (b : Bool). frame_start_if b frame n ≡ m.sp) (sym e ∙ same) (omega (arith, sp));
       stack = ap (λ q. q.stack) s.rest;
       mark = ap (λ q. q.mark) s.rest;
       target = target;
@@ -191,19 +161,11 @@ back_by_stub frame v m t n is v_is t_is top e says counted =
 
 -- where nothing is done
 
-own_back : (b : Bool) → b ≡ false → (m : State) (l : Loc) → SameAt 0 l m (passing_if b m)
-own_back true e m l = absurd cc
-own_back false e m l = same_itself 0 l m
-
-start_kept : (b : Bool) → b ≡ false → (frame : ℕ) (m : State) → frame_start_if b frame m ≡ m.sp
-start_kept true e frame m = absurd cc
-start_kept false e frame m = refl
-
 pub back_itself : (frame : ℕ) (m : State) → by_exchange m.target ≡ false → HasComeBack frame m m
 back_itself frame m e = record {
-  passed = λ l lies some. own_back (by_exchange m.target) e m l;
+  passed = λ l lies some. subst (λ (b : Bool). SameAt 0 l m (passing_if b m)) (sym e) (same_itself 0 l m);
   others = λ l lies free. same_itself 0 l m;
-  start = start_kept (by_exchange m.target) e frame m;
+  start = ap (λ (b : Bool). frame_start_if b frame m) e;
   stack = refl;
   mark = refl;
   target = refl;

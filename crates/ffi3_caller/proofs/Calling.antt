@@ -27,7 +27,8 @@ use Rattle.ffi3_machine.specs.Scribbled.{get_or-scribbled_general}
 use Rattle.ffi3_machine_transfer.specs.Stored.{stack_byte, IsPlace, IsWritable, SameAt, Stays, WroteWithin}
 use Rattle.ffi3_machine_transfer.specs.Standing.{AllKeepUnused, AllStand, all_uses, HiddenStands}
 use Rattle.ffi3_marshal.proofs.Composing.{none_append}
-use Rattle.ffi3_machine_transfer.proofs.Composing.{same_then, wrote_then}
+use Rattle.ffi3_machine_transfer.proofs.Composing.{by_register, lie_more, register_is, same_then, sp_moved, wrote_then}
+use Rattle.ffi3_machine_transfer.proofs.Tables.{each_with, reserved_are_places}
 use Rattle.ffi3_machine_transfer.proofs.Putting.{stored_inside, stored_within}
 use Rattle.ffi3_machine_transfer.proofs.Stepping.{same_word_in}
 use Rattle.ffi3_machine_transfer.proofs.Owning.{image_word, owned, filled as all_filled}
@@ -59,9 +60,7 @@ filled_bytes addr len byte s low fits i below =
 
 register_apart : (l : Loc) (at n : ℕ) → IsPlace 0 l → AllByRecursion (Apart l) (stack_words at n)
 register_apart l at zero h = tt
-register_apart (G r) at (suc n) h = (tt, register_apart (G r) (at + 8) n h)
-register_apart (F r) at (suc n) h = (tt, register_apart (F r) (at + 8) n h)
-register_apart (S k w) at (suc n) h = absurd (omega (arith, h.0, h.1))
+register_apart l at (suc n) h = (by_register (λ l. Apart l (S at 8)) (λ r below. tt) (λ r below. tt) l h, register_apart l (at + 8) n h)
 
 register_apart_copies : (l : Loc) (ts : List Tree) (ps : List Place) → IsPlace 0 l → AllByRecursion (Apart l) (copy_locs ts ps)
 register_apart_copies l [] ps h = tt
@@ -94,51 +93,36 @@ module _ (std : Standard) (s : Signature) (sound : IsSound std s) where
       uses_each (IsNoneOf hidden) s.arguments places sound.has_all (across_none hidden flat to_places) (across_none hidden copies to_copies)
 
   pub hidden_lies : SignatureHasNoFault s → (room : ℕ) → frame_of std s ≤ room → AllByRecursion (IsPlace room) (hidden_locs (plan_of std s).res)
-  hidden_lies right room h = more (frame_of std s) room h (hidden_locs (plan_of std s).res) (each_first (IsPlace (frame_of std s)) (hidden_locs (plan_of std s).res) (flat_map place_locs (plan_of std s).places) (each_first (IsPlace (frame_of std s)) (argument_locs (plan_of std s)) (copy_locs s.arguments (plan_of std s).places ++ buffer_locs s.result_type (plan_of std s).res) (call_places std s sound right)))
-    where
-      more : (n m : ℕ) → n ≤ m → (ls : List Loc) → AllByRecursion (IsPlace n) ls → AllByRecursion (IsPlace m) ls
-      more n m h [] all = tt
-      more n m h (G r ∷ ls) all = (all.0, more n m h ls all.1)
-      more n m h (F r ∷ ls) all = (all.0, more n m h ls all.1)
-      more n m h (S k w ∷ ls) all = ((omega (arith, h, all.0.0), all.0.1, all.0.2), more n m h ls all.1)
+  hidden_lies right room h =
+      each_map (IsPlace (frame_of std s)) (IsPlace room) (lie_more (frame_of std s) room h) (hidden_locs (plan_of std s).res) (each_first (IsPlace (frame_of std s)) (hidden_locs (plan_of std s).res) (flat_map place_locs (plan_of std s).places) (each_first (IsPlace (frame_of std s)) (argument_locs (plan_of std s)) (copy_locs s.arguments (plan_of std s).places ++ buffer_locs s.result_type (plan_of std s).res) (call_places std s sound right)))
 
   -- the register that tells the number carries no argument
   count_free : AllByRecursion (IsNoneOf (to_list std.vector_count)) (argument_locs (plan_of std s))
   count_free =
-      each_of (argument_locs (plan_of std s)) sound.allowed
-    where
-      each_of : (ls : List Loc) → AllByRecursion (IsNoneOf (closed_to_arguments std)) ls → AllByRecursion (IsNoneOf (to_list std.vector_count)) ls
-      each_of [] h = tt
-      each_of (l ∷ ls) h = (each_rest (Apart l) std.trampoline_registers (to_list std.vector_count) (each_rest (Apart l) (closed_to_results std) (std.trampoline_registers ++ to_list std.vector_count) h.0), each_of ls h.1)
+      each_map (IsNoneOf (closed_to_arguments std)) (IsNoneOf (to_list std.vector_count)) (λ l h. each_rest (Apart l) std.trampoline_registers (to_list std.vector_count) (each_rest (Apart l) (closed_to_results std) (std.trampoline_registers ++ to_list std.vector_count) h)) (argument_locs (plan_of std s)) sound.allowed
 
   pub count_clear : AllByRecursion (IsPlace 0) (to_list std.vector_count) → AllByRecursion (IsNoneOf (to_list std.vector_count)) (all_uses s.arguments (plan_of std s).places)
   count_clear registers =
-      uses_each (IsNoneOf (to_list std.vector_count)) s.arguments (plan_of std s).places sound.has_all (each_rest (IsNoneOf (to_list std.vector_count)) (hidden_locs (plan_of std s).res) (flat_map place_locs (plan_of std s).places) count_free) (across_none (to_list std.vector_count) (copy_locs s.arguments (plan_of std s).places) (each_copies (to_list std.vector_count) registers))
-    where
-      each_copies : (ls : List Loc) → AllByRecursion (IsPlace 0) ls → AllByRecursion (λ x. AllByRecursion (Apart x) (copy_locs s.arguments (plan_of std s).places)) ls
-      each_copies [] h = tt
-      each_copies (l ∷ ls) h = (register_apart_copies l s.arguments (plan_of std s).places h.0, each_copies ls h.1)
+      let copies = copy_locs s.arguments (plan_of std s).places in
+      let apart = each_map (IsPlace 0) (λ x. AllByRecursion (Apart x) copies) (λ l lies. register_apart_copies l s.arguments (plan_of std s).places lies) (to_list std.vector_count) registers in
+      uses_each (IsNoneOf (to_list std.vector_count)) s.arguments (plan_of std s).places sound.has_all (each_rest (IsNoneOf (to_list std.vector_count)) (hidden_locs (plan_of std s).res) (flat_map place_locs (plan_of std s).places) count_free) (across_none (to_list std.vector_count) copies apart)
 
   pub count_clear_of_hidden : AllByRecursion (IsNoneOf (to_list std.vector_count)) (hidden_locs (plan_of std s).res)
   count_clear_of_hidden = each_first (IsNoneOf (to_list std.vector_count)) (hidden_locs (plan_of std s).res) (flat_map place_locs (plan_of std s).places) count_free
 
 hidden_stays : (base : ℕ) (r : Res) (ls : List Loc) (a b : State) → AllByRecursion (IsNoneOf ls) (hidden_locs r) → Stays base ls a b → HiddenStands base a r → HiddenStands base b r
 hidden_stays base (Hidden at buffer) ls a b none stays stands = same_word_in base at a b (stays.others at none.0) ∙ stands
-hidden_stays base Nothing ls a b none stays stands = tt
-hidden_stays base (DirectRes pieces) ls a b none stays stands = tt
+hidden_stays base _ ls a b none stays stands = tt
 
 pub hidden_owned : (m : State) (len : ℕ) (r : Res) → STACK ≤ m.sp → AllByRecursion (IsPlace len) (hidden_locs r) → HiddenStands m.sp m r → OwnsHidden (image_of len m) 0 r
 hidden_owned m len (Hidden at buffer) low lie stands =
     let none : m.sp + buffer ≡ m.sp + 0 + buffer = omega arith in
     image_word m len low at lie.0 ∙ stands ∙ none
-hidden_owned m len Nothing low lie stands = tt
-hidden_owned m len (DirectRes pieces) low lie stands = tt
+hidden_owned m len _ low lie stands = tt
 
 pub count_told : (m : State) (len : ℕ) (at : Option Loc) (n : ℕ) → STACK ≤ m.sp → AllByRecursion (IsPlace 0) (to_list at) → CountStands m.sp m at n → RegisterHolds (image_of len m) at n
 count_told m len None n low registers stands = tt
-count_told m len (Some (G r)) n low registers stands = stands
-count_told m len (Some (F r)) n low registers stands = stands
-count_told m len (Some (S k w)) n low registers stands = absurd (omega (arith, registers.0.0, registers.0.1))
+count_told m len (Some at) n low registers stands = register_is len m.sp m at registers.0 ∙ stands
 
 -- ---- the three stores together
 
@@ -157,9 +141,8 @@ called_all std s sound right vs target base a b c low write registers stand hidd
 
 -- a register is the same whatever the stack's places count from
 register_same : (base other : ℕ) (l : Loc) (a b : State) → IsPlace 0 l → SameAt base l a b → SameAt other l a b
-register_same base other (G r) a b h same = same
-register_same base other (F r) a b h same = same
-register_same base other (S n w) a b h same = absurd (omega (arith, h.0, h.1))
+register_same base other l a b lies =
+    by_register (λ l. SameAt base l a b → SameAt other l a b) (λ r below same. same) (λ r below same. same) l lies
 
 -- the other registers, after all stores
 pub others_same : (std : Standard) (s : Signature) → IsSound std s → (base : ℕ) (l : Loc) (z o a b c : State) → IsPlace 0 l → IsNoneOf (argument_locs (plan_of std s) ++ to_list std.vector_count) l → SameAt 0 l z o → Stays base (all_uses s.arguments (plan_of std s).places) o a → Stays base (hidden_locs (plan_of std s).res) a b → Stays base (to_list std.vector_count) b c → SameAt 0 l z c
@@ -175,39 +158,17 @@ free_same std s sound base at w o a b c registers none first second third =
     let parts = none_append (argument_locs (plan_of std s)) (copy_locs s.arguments (plan_of std s).places) (S at w) none in
     let both = none_append (hidden_locs (plan_of std s).res) (flat_map place_locs (plan_of std s).places) (S at w) parts.0 in
     let in_uses = uses_each (Apart (S at w)) s.arguments (plan_of std s).places sound.has_all both.1 parts.1 in
-    same_then base (S at w) o b c (same_then base (S at w) o a b (first.others (S at w) in_uses) (second.others (S at w) both.0)) (third.others (S at w) (none_of_registers (to_list std.vector_count) registers))
-  where
-    none_of_registers : (ls : List Loc) → AllByRecursion (IsPlace 0) ls → IsNoneOf ls (S at w)
-    none_of_registers [] h = tt
-    none_of_registers (G r ∷ ls) h = (tt, none_of_registers ls h.1)
-    none_of_registers (F r ∷ ls) h = (tt, none_of_registers ls h.1)
-    none_of_registers (S k v ∷ ls) h = absurd (omega (arith, h.0.0, h.0.1))
+    same_then base (S at w) o b c (same_then base (S at w) o a b (first.others (S at w) in_uses) (second.others (S at w) both.0)) (third.others (S at w) (each_map (IsPlace 0) (Apart (S at w)) (by_register (Apart (S at w)) (λ r below. tt) (λ r below. tt)) (to_list std.vector_count) registers))
 
 -- ---- the frame that is opened
 
 pub frame_registers : (sp frame byte : ℕ) (x : State) (l : Loc) → IsPlace 0 l → SameAt 0 l x (filled sp frame byte (with_sp sp x))
-frame_registers sp frame byte x (G r) h = refl
-frame_registers sp frame byte x (F r) h = refl
-frame_registers sp frame byte x (S k w) h = absurd (omega (arith, h.0, h.1))
-
-lowered_within : (sp low high : ℕ) (x : State) → WroteWithin low high x (with_sp sp x)
-lowered_within sp low high x = record {
-  size = refl;
-  outside = λ i h. refl;
-  mark = inl (omega arith);
-  target = refl;
-  pc = refl;
-  code = refl;
-  events = refl;
-  spare_events = refl;
-  spare_bytes = refl;
-  exchange = refl;
-  steps = refl;
-}
+frame_registers sp frame byte x l lies =
+    by_register (λ l. SameAt 0 l x (filled sp frame byte (with_sp sp x))) (λ r below. refl) (λ r below. refl) l lies
 
 pub frame_within : (sp frame byte : ℕ) (x : State) → STACK ≤ sp → sp - STACK + frame ≤ length x.stack → WroteWithin sp (sp + frame) x (filled sp frame byte (with_sp sp x))
 frame_within sp frame byte x low fits =
-    wrote_then sp (sp + frame) x (with_sp sp x) (filled sp frame byte (with_sp sp x)) (lowered_within sp sp (sp + frame) x) (filled_within sp frame byte (with_sp sp x) low fits)
+    wrote_then sp (sp + frame) x (with_sp sp x) (filled sp frame byte (with_sp sp x)) (sp_moved sp sp (sp + frame) x) (filled_within sp frame byte (with_sp sp x) low fits)
 
 pub frame_begun : (n number sp frame byte : ℕ) (old a b d : State) → number ≡ n → a ≡ scribbled number old → b ≡ with_sp sp a → d ≡ filled sp frame byte b → d ≡ filled sp frame byte (with_sp sp (scribbled n old))
 frame_begun n number sp frame byte old a b d number_is first second third =
@@ -262,9 +223,7 @@ call_stored std s sound right vs target base r k n z o a b d is low res_is count
     }
 
 pub register_lies : (room : ℕ) (l : Loc) → IsPlace 0 l → IsPlace room l
-register_lies room (G r) h = h
-register_lies room (F r) h = h
-register_lies room (S k w) h = absurd (omega (arith, h.0, h.1))
+register_lies room l lies = by_register (IsPlace room) (λ r below. below) (λ r below. below) l lies
 
 pub call_within : (frame : ℕ) (x o d : State) → o.sp + frame ≡ x.sp → WroteWithin o.sp (o.sp + frame) x o → d.sp ≡ o.sp → WroteWithin o.sp (o.sp + frame) o d → WroteWithin d.sp x.sp x d
 call_within frame x o d top first same second =
@@ -312,14 +271,6 @@ module _ (std : Standard) (agrees : AgreesWithMachine std) where
   count_not_reserved : AllByRecursion (IsNoneOf (to_list std.vector_count)) std.reserved
   count_not_reserved = across_none (to_list std.vector_count) std.reserved count_unreserved
 
-  reserved_are_registers : AllByRecursion (IsPlace 0) std.reserved
-  reserved_are_registers = subst (AllByRecursion (IsPlace 0)) (sym agrees.reserved) (each (isa_of std.target))
-    where
-      each : (isa : Isa) → AllByRecursion (IsPlace 0) (reserved_places isa)
-      each Amd64 = tt
-      each Aarch64 = (omega arith, tt)
-      each Riscv = (omega arith, (omega arith, (omega arith, tt)))
-
   -- ---- registers that a callee preserves, and reserved ones
 
   module _ (s : Signature) (sound : IsSound std s) (z d : State) (others : (l : Loc) → IsPlace 0 l → IsNoneOf (argument_locs (plan_of std s) ++ to_list std.vector_count) l → SameAt 0 l z d) where
@@ -339,15 +290,11 @@ module _ (std : Standard) (agrees : AgreesWithMachine std) where
 
     reserved_same : AllByRecursion (λ l. SameAt 0 l z d) std.reserved
     reserved_same =
-        each_same std.reserved reserved_are_registers (each_first (IsNoneOf (argument_locs (plan_of std s))) std.reserved (to_list std.link_register) (each_rest (IsNoneOf (argument_locs (plan_of std s))) std.callee_saved (std.reserved ++ to_list std.link_register) closed)) count_not_reserved
+        each_same std.reserved (subst (AllByRecursion (IsPlace 0)) (sym agrees.reserved) (reserved_are_places (isa_of std.target))) (each_first (IsNoneOf (argument_locs (plan_of std s))) std.reserved (to_list std.link_register) (each_rest (IsNoneOf (argument_locs (plan_of std s))) std.callee_saved (std.reserved ++ to_list std.link_register) closed)) count_not_reserved
 
     -- a scribble leaves the reserved registers
     pub reserved_stays : (n : ℕ) (old : State) (kind : Target) → z ≡ scribbled n old → std.target ≡ kind → old.target ≡ kind → AllByRecursion (λ l. SameAt 0 l old d) std.reserved
     reserved_stays n old kind z_is is same =
         let isa_is : isa_of old.target ≡ isa_of std.target = ap isa_of (same ∙ sym is) in
         let kept = subst (AllByRecursion (λ l. SameAt 0 l old (scribbled n old))) (sym agrees.reserved) (scribble_leaves (isa_of std.target) n old isa_is) in
-        both std.reserved (subst (λ x. AllByRecursion (λ l. SameAt 0 l old x) std.reserved) (sym z_is) kept) reserved_same
-      where
-        both : (ls : List Loc) → AllByRecursion (λ l. SameAt 0 l old z) ls → AllByRecursion (λ l. SameAt 0 l z d) ls → AllByRecursion (λ l. SameAt 0 l old d) ls
-        both [] h k = tt
-        both (l ∷ ls) h k = (same_then 0 l old z d h.0 k.0, both ls h.1 k.1)
+        each_with (λ l. SameAt 0 l old z) (λ l. SameAt 0 l z d) (λ l. SameAt 0 l old d) (λ l h k. same_then 0 l old z d h k) std.reserved (subst (λ x. AllByRecursion (λ l. SameAt 0 l old x) std.reserved) (sym z_is) kept) reserved_same

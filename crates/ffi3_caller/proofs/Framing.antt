@@ -10,23 +10,10 @@ use Rattle.ffi3_machine_spec.specs.State.{State, with_sp}
 use Rattle.ffi3_caller.specs.Called.{frame_start_if}
 use Rattle.ffi3_caller.specs.Loaded.{loaded, register_of, with_piece}
 
-pub start_by_stub : (b : Bool) (frame : ℕ) (m : State) → b ≡ true → frame_start_if b frame m ≡ m.sp - frame
-start_by_stub true frame m e = refl
-start_by_stub false frame m e = cc
-
-pub start_itself : (b : Bool) (frame : ℕ) (m : State) → b ≡ false → frame_start_if b frame m ≡ m.sp
-start_itself true frame m e = cc
-start_itself false frame m e = refl
-
-pub frame_below : (b : Bool) (frame : ℕ) (m : State) → b ≡ true → STACK ≤ frame_start_if b frame m → frame ≤ m.sp
-frame_below true frame m e h = omega (arith, h)
-frame_below false frame m e h = absurd cc
-
 -- what is loaded does not depend on sp
 register_moved : (sp : ℕ) (m : State) (l : Loc) → register_of (with_sp sp m) l ≡ register_of m l
 register_moved sp m (G r) = refl
-register_moved sp m (F r) = refl
-register_moved sp m (S n w) = refl
+register_moved sp m _ = refl
 
 pub loaded_moved : (sp : ℕ) (m : State) (ps : List Piece) (out : List ℕ) → loaded (with_sp sp m) ps out ≡ loaded m ps out
 loaded_moved sp m [] out = refl

@@ -15,6 +15,8 @@ use Rattle.ffi3_machine_spec.specs.State.{State, image_of}
 use Rattle.ffi3_machine_transfer.specs.Stored.{IsPlace}
 use Rattle.ffi3_caller.specs.Loaded.{AreWithin, register_of, loaded, with_piece}
 use Rattle.ffi3_place_spec.proofs.Reading.{ReadsLeaf, LeavesRead}
+use Rattle.ffi3_marshal.proofs.Ranges.{above_range, below_range, in_range, range_length}
+use Rattle.ffi3_machine_transfer.proofs.Composing.{by_register}
 
 -- the pieces from number i on are still to be loaded
 pub record IsLeftToLoad (m : State) (pieces : List Piece) (old : List ℕ) (i : ℕ) (out : List ℕ) : Type 0 where
@@ -22,28 +24,6 @@ pub record IsLeftToLoad (m : State) (pieces : List Piece) (old : List ℕ) (i : 
   pub same : loaded m (drop i pieces) out ≡ loaded m pieces old
   pub within : AreWithin (length old) (drop i pieces)
   pub registers : AllByRecursion (λ p. IsPlace 0 p.loc) (drop i pieces)
-
--- ---- a range that is replaced
-
-module _ (xs ys : List ℕ) (i j : ℕ) (counted : i + length ys ≡ j) (fits : j ≤ length xs) where
-  before_length : length (take i xs) ≡ i
-  before_length = length-take-le i xs (omega arith)
-
-  both_length : length (take i xs ++ ys) ≡ j
-  both_length = length-append (take i xs) ys ∙ ap (λ n. n + length ys) before_length ∙ counted
-
-  in_range : (o : ℕ) → i ≤ o → o < j → get_or (replace_range xs i j ys) o 0 ≡ get_or ys (o - i) 0
-  in_range o from to =
-      get_or_append_left (take i xs ++ ys) (drop j xs) 0 o (omega (arith, both_length)) ∙ get_or-append_right (take i xs) ys i o 0 before_length from
-
-  below_range : (o : ℕ) → o < i → get_or (replace_range xs i j ys) o 0 ≡ get_or xs o 0
-  below_range o to =
-      get_or_append_left (take i xs ++ ys) (drop j xs) 0 o (omega (arith, both_length)) ∙ get_or_append_left (take i xs) ys 0 o (omega (arith, before_length)) ∙ get_or-take i xs o 0 to
-
-  above_range : (o : ℕ) → j ≤ o → get_or (replace_range xs i j ys) o 0 ≡ get_or xs o 0
-  above_range o from =
-      let back : j + (o - j) ≡ o = omega arith in
-      get_or-append_right (take i xs ++ ys) (drop j xs) j o 0 both_length from ∙ get_or-drop j xs (o - j) 0 ∙ ap (λ n. get_or xs n 0) back
 
 -- ---- pieces in registers
 
@@ -55,9 +35,8 @@ module _ (m : State) (frame size : ℕ) where
   at_return = image_of frame m
 
   same_byte : (at : Loc) (k : ℕ) → IsPlace 0 at → byte_at at_return 0 at k ≡ get_or (to_le_bytes w64 (register_of m at)) k 0
-  same_byte (G r) k h = refl
-  same_byte (F r) k h = refl
-  same_byte (S n w) k h = absurd (omega (arith, h.0, h.1))
+  same_byte at k lies =
+      by_register (λ at. byte_at at_return 0 at k ≡ get_or (to_le_bytes w64 (register_of m at)) k 0) (λ r below. refl) (λ r below. refl) at lies
 
   module _ (p : Piece) (out : List ℕ) (sized : length out ≡ size) (within : IsWithin size p) (register : IsPlace 0 p.loc) where
     abbrev low : List ℕ
@@ -86,9 +65,7 @@ module _ (m : State) (frame size : ℕ) where
         ]
 
     still_sized : length (with_piece m p out) ≡ size
-    still_sized =
-        let both = both_length out low p.off (p.off + p.len) low_length room in
-        omega (arith, length-append (take p.off out ++ low) (drop (p.off + p.len) out), both, length-drop (p.off + p.len) out, room, sized)
+    still_sized = range_length out low p.off (p.off + p.len) low_length room ∙ sized
 
   -- where each piece that carries a byte has it, and one does or it is there, it is there in the end
   byte_loaded : (pieces : List Piece) (out : List ℕ) (o x : ℕ) → length out ≡ size → AreWithin size pieces → AllByRecursion (λ p. IsPlace 0 p.loc) pieces → AllByRecursion (λ p. Carries o p → byte_at at_return 0 p.loc (o - p.off) ≡ x) pieces → (Any (Carries o) pieces) ⊎ (get_or out o 0 ≡ x) → get_or (loaded m pieces out) o 0 ≡ x
@@ -115,7 +92,6 @@ module _ (m : State) (frame size : ℕ) where
 
   pub leaves_loaded : (pieces : List Piece) (out : List ℕ) (ls : List Leaf) (bs : List (List ℕ)) → length out ≡ size → AreWithin size pieces → AllByRecursion (λ p. IsPlace 0 p.loc) pieces → AllByRecursion (CoversLeaf pieces) ls → LeavesStand at_return 0 pieces ls bs → LeavesRead (loaded m pieces out) ls bs
   leaves_loaded pieces out [] [] sized within registers covers stand = tt
-  leaves_loaded pieces out [] (b ∷ bs) sized within registers covers stand = absurd stand
-  leaves_loaded pieces out (l ∷ ls) [] sized within registers covers stand = absurd stand
   leaves_loaded pieces out (l ∷ ls) (b ∷ bs) sized within registers covers stand =
       (leaf_loaded pieces out l b sized within registers covers.0 stand.0, leaves_loaded pieces out ls bs sized within registers covers.1 stand.1)
+  leaves_loaded pieces out _ _ sized within registers covers stand = absurd stand

@@ -31,9 +31,10 @@ use Rattle.ffi3_machine_transfer.specs.Stored.{IsPlace, SameAt}
 use Rattle.ffi3_machine_transfer.proofs.Alike.{AreAlike, arguments_owned, arguments_filled, address_owned, count_held}
 use Rattle.ffi3_marshal.proofs.Lawful.{call_places, each_first, each_rest, each_map, machine_places}
 use Rattle.ffi3_machine_transfer.proofs.Outcomes.{own_result_kept}
-use Rattle.ffi3_machine_transfer.proofs.Passing.{stubs_there}
+use Rattle.ffi3_machine_transfer.proofs.Composing.{by_register}
+use Rattle.ffi3_caller.proofs.Calling.{register_lies}
 use Rattle.ffi3_marshal.proofs.Ranges.{range_length}
-use Rattle.ffi3_machine_transfer.proofs.Tables.{each_with, one_of_each, preserved_not_called, preserved_not_returned, reserved_are_places, reserved_not_called, reserved_not_link, reserved_not_returned}
+use Rattle.ffi3_machine_transfer.proofs.Tables.{all_true, each_with, one_of_each, preserved_not_called, preserved_not_returned, reserved_are_places, reserved_not_called, reserved_not_link, reserved_not_returned}
 use Rattle.ffi3_caller.specs.Called.{HasComeBack, IsCarried, IsLeft, IsPassedBack, IsUntouched, SlotIsCalled, at_frame}
 
 -- ---- the stack
@@ -44,24 +45,15 @@ above_same Amd64 sp stack low fits =
     let eight : length (to_le_bytes w64 RETURN) ≡ 8 = refl in
     let both : length (take (sp - 8 - STACK) stack ++ to_le_bytes w64 RETURN) ≡ sp - STACK = omega (arith, length-append (take (sp - 8 - STACK) stack) (to_le_bytes w64 RETURN), before, eight, low) in
     drop-append-drop (sp - STACK) stack (take (sp - 8 - STACK) stack ++ to_le_bytes w64 RETURN) (sp - STACK) (omega arith) both
-above_same Aarch64 sp stack low fits = refl
-above_same Riscv sp stack low fits = refl
+above_same _ sp stack low fits = refl
 
-linked_length : (isa : Isa) (sp : ℕ) (stack : List ℕ) → STACK + pushed_bytes isa ≤ sp → sp - STACK ≤ length stack → length (linked_stack (link_register isa) sp stack) ≡ length stack
+pub linked_length : (isa : Isa) (sp : ℕ) (stack : List ℕ) → STACK + pushed_bytes isa ≤ sp → sp - STACK ≤ length stack → length (linked_stack (link_register isa) sp stack) ≡ length stack
 linked_length Amd64 sp stack low fits =
     let eight : length (to_le_bytes w64 RETURN) ≡ 8 = refl in
     range_length stack (to_le_bytes w64 RETURN) (sp - 8 - STACK) (sp - STACK) (omega (arith, eight, low)) fits
-linked_length Aarch64 sp stack low fits = refl
-linked_length Riscv sp stack low fits = refl
+linked_length _ sp stack low fits = refl
 
 -- ---- by a standard
-
--- calls that go by stubs agree with them
-pub laws_of : (std : Standard) (target : Target) → (has_stubs std.target ≡ true → AgreesWithStubs std) → std.target ≡ target → by_exchange target ≡ true → AgreesWithStubs std
-laws_of std target law same e = law (ap has_stubs same ∙ stubs_there target e)
-
-pub result_law_of : (std : Standard) (s : Signature) (target : Target) → (has_stubs std.target ≡ true → ResultGoesByStubs std s) → std.target ≡ target → by_exchange target ≡ true → ResultGoesByStubs std s
-result_law_of std s target law same e = law (ap has_stubs same ∙ stubs_there target e)
 
 on_stack_or_in : (ls ms : List Loc) → AllByRecursion (IsOneOf ms) ls → (l : Loc) → IsOnStackOrIn ls l → IsOnStackOrIn ms l
 on_stack_or_in ls ms all (G r) some = one_of_each (IsOneOf ms) (G r) ls all some
@@ -69,17 +61,8 @@ on_stack_or_in ls ms all (F r) some = one_of_each (IsOneOf ms) (F r) ls all some
 on_stack_or_in ls ms all (S n w) some = tt
 
 one_is_in : (ms : List Loc) (l : Loc) → IsOneOf ms l → IsOnStackOrIn ms l
-one_is_in ms (G r) some = some
-one_is_in ms (F r) some = some
 one_is_in ms (S n w) some = tt
-
-all_free : (ls : List Loc) → AllByRecursion (λ l. ⊤) ls
-all_free [] = tt
-all_free (l ∷ ls) = (tt, all_free ls)
-
-all_back : (ls : List Loc) → AllByRecursion (λ l. ⊤) ls
-all_back [] = tt
-all_back (l ∷ ls) = (tt, all_back ls)
+one_is_in ms _ some = some
 
 module _ (std : Standard) (agrees : AgreesWithMachine std) where
   pub pushed_is : (m : State) (kind : Target) → std.target ≡ kind → m.target ≡ kind → std.link ≡ pushed_bytes (isa_of m.target)
@@ -119,11 +102,11 @@ module _ (std : Standard) (agrees : AgreesWithMachine std) where
   -- and so does the way back
   free_preserved : (b : Bool) → (b ≡ true → AgreesWithStubs std) → AllByRecursion (IsUntouched b (isa_of std.target)) std.callee_saved
   free_preserved true law = preserved_not_returned std agrees (law refl)
-  free_preserved false law = all_free std.callee_saved
+  free_preserved false law = all_true std.callee_saved
 
   free_reserved : (b : Bool) → AllByRecursion (IsUntouched b (isa_of std.target)) std.reserved
   free_reserved true = reserved_from (IsNoneOf (exit_scratch (isa_of std.target))) (reserved_not_returned (isa_of std.target))
-  free_reserved false = all_free std.reserved
+  free_reserved false = all_true std.reserved
 
   pub back_preserves : (frame : ℕ) (m n : State) → std.target ≡ m.target → (by_exchange m.target ≡ true → AgreesWithStubs std) → HasComeBack frame m n → AllByRecursion (λ l. SameAt 0 l m n) std.callee_saved
   back_preserves frame m n same law back =
@@ -210,13 +193,8 @@ module _ (std : Standard) (s : Signature) (sound : IsSound std s) (right : Signa
 
     count_still : AllByRecursion IsStill (to_list std.vector_count)
     count_still =
-        each_with (IsPlace (frame_of std s)) (IsCarried (by_exchange m.target) (isa_of m.target)) IsStill (λ l lies carried. (lies, carried)) (to_list std.vector_count) (each_map (IsPlace 0) (IsPlace (frame_of std s)) (lies_wider (frame_of std s)) (to_list std.vector_count) (machine_places (isa_of std.target) 0 (to_list std.vector_count) agrees.count_exists))
+        each_with (IsPlace (frame_of std s)) (IsCarried (by_exchange m.target) (isa_of m.target)) IsStill (λ l lies carried. (lies, carried)) (to_list std.vector_count) (each_map (IsPlace 0) (IsPlace (frame_of std s)) (register_lies (frame_of std s)) (to_list std.vector_count) (machine_places (isa_of std.target) 0 (to_list std.vector_count) agrees.count_exists))
         (subst (λ k. AllByRecursion (IsCarried (by_exchange m.target) (isa_of k)) (to_list std.vector_count)) same (carried_count (by_exchange m.target) law))
-      where
-        lies_wider : (room : ℕ) (l : Loc) → IsPlace 0 l → IsPlace room l
-        lies_wider room (G r) lies = lies
-        lies_wider room (F r) lies = lies
-        lies_wider room (S k w) lies = absurd (omega (arith, lies.0, lies.1))
 
     -- where the frame holds the arguments before a call, registers and the stack behind the return address hold them after it
     pub holds_after_call : (vs : List ValueTree) → OwnsArguments (image_of (frame_of std s) (passing m)) 0 s.arguments (plan_of std s).places vs → FillArguments (image_of (frame_of std s) (passing m)) 0 s.arguments (plan_of std s).places vs → OwnsHidden (image_of (frame_of std s) (passing m)) 0 (plan_of std s).res → RegisterHolds (image_of (frame_of std s) (passing m)) std.vector_count (plan_of std s).vectors → Holds std s vs (image_of (std.link + frame_of std s) n)
@@ -245,13 +223,12 @@ module _ (std : Standard) (s : Signature) (sound : IsSound std s) (right : Signa
 -- ---- a result
 
 register_same : (n k : ℕ) (a b : State) (l : Loc) → IsPlace 0 l → SameAt 0 l a b → register (image_of n b) l ≡ register (image_of k a) l
-register_same n k a b (G r) lies h = h
-register_same n k a b (F r) lies h = h
-register_same n k a b (S i w) lies h = absurd (omega (arith, lies.0, lies.1))
+register_same n k a b l lies =
+    by_register (λ l. SameAt 0 l a b → register (image_of n b) l ≡ register (image_of k a) l) (λ r below h. h) (λ r below h. h) l lies
 
 passed_back : (std : Standard) (s : Signature) (b : Bool) → (b ≡ true → ResultGoesByStubs std s) → AllByRecursion (IsPassedBack b (isa_of std.target)) (result_locs (plan_of std s).res)
 passed_back std s true law = let laws = law refl in laws.loaded
-passed_back std s false law = all_back (result_locs (plan_of std s).res)
+passed_back std s false law = all_true (result_locs (plan_of std s).res)
 
 -- what the image at a return owns is passed back
 pub result_back : (std : Standard) (s : Signature) (m n : State) (v : ValueTree) → IsSoundOnMachine std s → std.target ≡ m.target → (by_exchange m.target ≡ true → ResultGoesByStubs std s) → HasComeBack (frame_of std s) m n → OwnResult std s v (image_of (frame_of std s) m) → OwnResult std s v (image_of (frame_of std s) (at_frame (frame_of std s) n))
@@ -261,6 +238,5 @@ result_back std s m n v sound same law back own =
     (subst (λ k. AllByRecursion (IsPassedBack (by_exchange m.target) (isa_of k)) (result_locs (plan_of std s).res)) same (passed_back std s (by_exchange m.target) law)) own
   where
     moved : (l : Loc) → IsPlace 0 l → SameAt 0 l m (passing n) → SameAt 0 l m (at_frame (frame_of std s) n)
-    moved (G r) lies h = h
-    moved (F r) lies h = h
-    moved (S i w) lies h = absurd (omega (arith, lies.0, lies.1))
+    moved l lies =
+        by_register (λ l. SameAt 0 l m (passing n) → SameAt 0 l m (at_frame (frame_of std s) n)) (λ r below h. h) (λ r below h. h) l lies

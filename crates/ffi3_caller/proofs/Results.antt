@@ -21,14 +21,13 @@ use Rattle.ffi3_place_spec.proofs.Tests.{each_weaker}
 use Rattle.ffi3_machine_spec.specs.State.{State, image_of, stack_at}
 use Rattle.ffi3_machine_transfer.specs.Stored.{IsPlace}
 use Rattle.ffi3_marshal.proofs.Lawful.{machine_place}
+use Rattle.ffi3_marshal.proofs.Stepping.{each_loc}
+use Rattle.ffi3_machine_transfer.proofs.Outcomes.{buffer_within}
+use Rattle.ffi3_machine_transfer.proofs.Owning.{part_of_frame}
 use Rattle.ffi3_caller.specs.Loaded.{AreWithin, loaded}
 use Rattle.ffi3_place_spec.proofs.Reading.{reads}
 use Rattle.ffi3_place_spec.proofs.OnMachine.{IsSoundOnMachine}
 use Rattle.ffi3_caller.proofs.Loading.{leaves_loaded}
-
-each_loc : (P : Loc → Type 0) (pieces : List Piece) → AllByRecursion P (piece_locs pieces) → AllByRecursion (λ p. P p.loc) pieces
-each_loc P [] h = tt
-each_loc P (p ∷ ps) h = (h.0, each_loc P ps h.1)
 
 -- the pieces of a result stand in registers
 pub in_registers : (isa : Isa) (r : Res) (pieces : List Piece) → r ≡ DirectRes pieces → AllByRecursion (LiesIn isa 0) (result_locs r) → AllByRecursion (λ p. IsPlace 0 p.loc) pieces
@@ -53,29 +52,6 @@ direct_value m frame std s pieces old v sound is sized still own =
     reads t v (loaded m pieces old) own.fitting (still ∙ sized) (leaves_loaded m frame (size_of t) pieces old (leaves_of t) (leaf_bytes v) sized within registers all.covered stand)
 
 -- ---- a hidden result
-
-buffer_is : (start : ℕ → Tree → ℕ) (end : ℕ) (t : Tree) (spot : ResultSpot) (at : Loc) (buffer : ℕ) → result_at start end t spot ≡ Hidden at buffer → buffer_end start end t spot ≡ buffer + round8 (size_of t)
-buffer_is start end t no_result at buffer is = cc
-buffer_is start end t (in_result_pieces pieces) at buffer is = cc
-buffer_is start end t (in_buffer here) at buffer is =
-    let same : start end t ≡ buffer = cc in
-    ap (λ n. n + round8 (size_of t)) same
-
--- its buffer lies in the frame
-pub buffer_within : (std : Standard) (s : Signature) (at : Loc) (buffer : ℕ) → (plan_of std s).res ≡ Hidden at buffer → buffer + size_of s.result_type ≤ frame_of std s
-buffer_within std s at buffer is =
-    let p = std.placing s in
-    let t = s.result_type in
-    let ends = buffer_is std.copy_start (frame_copies_end std s) t p.result_spot at buffer is in
-    omega (arith, ends, least_multiple-above 8 (size_of t), least_multiple-above 16 (buffer_end std.copy_start (frame_copies_end std s) t p.result_spot))
-
-part_of_frame : (xs : List ℕ) (n buffer size : ℕ) → buffer + size ≤ n → take size (drop buffer (take n xs)) ≡ take size (drop buffer xs)
-part_of_frame xs n buffer size room =
-    let whole : n ≡ buffer + (n - buffer) = omega (arith, room) in
-    ap (λ k. take size (drop buffer (take k xs))) whole ∙ ap (take size) (drop-take buffer (n - buffer) xs) ∙ take_less (drop buffer xs) size (n - buffer) (omega (arith, room))
-  where
-    take_less : (ys : List ℕ) (i j : ℕ) → i ≤ j → take i (take j ys) ≡ take i ys
-    take_less ys i j h = take-take i j ys h
 
 pub hidden_value : (m : State) (std : Standard) (s : Signature) (at : Loc) (buffer start : ℕ) (v : ValueTree) → (plan_of std s).res ≡ Hidden at buffer → STACK ≤ m.sp → start ≡ m.sp + buffer → OwnResult std s v (image_of (frame_of std s) m) → value_in s.result_type (stack_at start (size_of s.result_type) m) ≡ v
 hidden_value m std s at buffer start v is low starts own =

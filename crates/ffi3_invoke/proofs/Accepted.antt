@@ -25,8 +25,11 @@ use Rattle.ffi3_callee.specs.Saved.{IsHiddenWord, IsSaveable, IsToSave, hidden_w
 use Rattle.ffi3_callee.proofs.Entry.{address_owned}
 use Rattle.ffi3_callee.proofs.Laws.{words_saveable}
 use Rattle.ffi3_invoke.specs.Calls.{IsInCallee, IsSavedOf, entry_at}
-use Rattle.ffi3_invoke.proofs.Passed.{reserved_places_lie, same_in}
-use Rattle.ffi3_invoke.proofs.Stretches.{above_stays, return_same}
+use Rattle.ffi3_machine_transfer.proofs.Composing.{beside}
+use Rattle.ffi3_callee.proofs.Answered.{return_same}
+use Rattle.ffi3_callee.proofs.Keeping.{reserved_there}
+use Rattle.ffi3_invoke.proofs.Passed.{same_in}
+use Rattle.ffi3_invoke.proofs.Stretches.{above_stays}
 
 pub counted : (es : List Event) (e : Event) → length (es ++ e ∷ []) ≡ length es + 1
 counted es e = length-append es (e ∷ [])
@@ -47,26 +50,13 @@ module _ (std : Standard) (s : Signature) (agrees : AgreesWithMachine std) (m r 
 
   pub within_beside : WroteWithin r.sp m.sp m (with_journal_of m r)
   within_beside =
-      let w = received.within in record {
-        size = w.size;
-        outside = w.outside;
-        mark = w.mark;
-        target = w.target;
-        pc = refl;
-        code = w.code;
-        events = refl;
-        spare_events = refl;
-        spare_bytes = refl;
-        exchange = refl;
-        steps = refl;
-      }
+      let w = received.within in beside r.sp m.sp m r w.size w.outside w.mark w.target w.code
 
   -- ---- what stands in the save area
 
   hidden_is : (base n : ℕ) (res : Res) → IsHiddenWord base entered (hidden_of res) n → IsAddressOf base (hidden_word base entered (hidden_of res)) res → IsAddressOf base n res
-  hidden_is base n Nothing saved h = tt
-  hidden_is base n (Direct pieces) saved h = tt
   hidden_is base n (Hidden at buffer) saved h = saved ∙ h
+  hidden_is base n _ saved h = tt
 
   word_is : (vs : List ValueTree) → IsSound std s → SignatureHasNoFault s → STACK ≤ m.sp → OwnsAtEntry std s m vs → (w : SaveWord) (n : ℕ) → IsSaveable 0 w → IsToSave (m.sp + std.link) entered (hidden_of (plan_of std s).res) w n → IsSavedOf std s (image_of (std.link + frame_of std s) m) w n
   word_is vs sound right low own (Register (G k)) n lies saved = saved
@@ -95,7 +85,7 @@ module _ (std : Standard) (s : Signature) (agrees : AgreesWithMachine std) (m r 
           return_address = return_same (link_register (isa_of std.target)) m.general m.sp m.stack r.stack (λ none. above_stays r.sp m.sp entered (with_journal_of entered r) w m.sp 8 low (omega arith)) at_standard;
           frame = above_stays r.sp m.sp entered (with_journal_of entered r) w m.sp (std.link + frame_of std s) low (omega arith);
         };
-        reserved = same_in (std.link + frame_of std s) 0 m r std.reserved (reserved_places_lie std agrees) stay;
+        reserved = same_in (std.link + frame_of std s) 0 m r std.reserved (reserved_there std agrees) stay;
         room = omega (arith, spare_events, events);
         bytes = omega (arith, spare_bytes, bytes);
       }

@@ -25,7 +25,9 @@ use Rattle.ffi3_callee.proofs.Laws.{each_both}
 use Rattle.ffi3_callee.specs.declared.Incoming.{Incoming}
 use Rattle.ffi3_callee.specs.Received.{IsIncoming, IsReceived}
 use Rattle.ffi3_invoke.specs.Calls.{HasBegun, HasEnded, HasPassed, HasReturned, IsInCallee, KeepsOpen, KeepsReserved, entry_at, return_at}
-use Rattle.ffi3_invoke.proofs.Passed.{held_still, reserved_places_lie, same_then}
+use Rattle.ffi3_callee.proofs.Keeping.{reserved_there}
+use Rattle.ffi3_machine_transfer.proofs.Composing.{beside, by_register}
+use Rattle.ffi3_invoke.proofs.Passed.{held_still, same_then}
 use Rattle.ffi3_invoke.proofs.Returned.{result_within}
 use Rattle.ffi3_invoke.proofs.Stretches.{above_stays, below_stays, mark_least, open_aside, still_open}
 
@@ -49,7 +51,7 @@ module _ (std : Standard) (s : Signature) (agrees : AgreesWithMachine std) (vs :
         aligned = entry_is_aligned std agrees.save_aligned s outer c.sp limit there;
         stack = length_part c.stack (c.sp - STACK) (std.link + frame_of std s) (omega (arith, sp, long, whole, room, top));
         preserved = passed.preserved;
-        reserved = held_still 0 (std.link + frame_of std s) m c held std.reserved (reserved_places_lie std agrees) passed.reserved holds;
+        reserved = held_still 0 (std.link + frame_of std s) m c held std.reserved (reserved_there std agrees) passed.reserved holds;
       }
 
   -- A CALL HAS BEGUN, once the callee has accepted it
@@ -85,75 +87,24 @@ module _ (std : Standard) (s : Signature) (agrees : AgreesWithMachine std) (vs :
 -- ---- a call has ended
 
 -- all but sp stays where a frame is dropped
-record IsDropped (d n : State) : Type 0 where
-  pub general : d.general ≡ n.general
-  pub floating : d.floating ≡ n.floating
-  pub stack : d.stack ≡ n.stack
-  pub mark : d.mark ≡ n.mark
-  pub target : d.target ≡ n.target
-  pub code : d.code ≡ n.code
-  pub events : d.events ≡ n.events
-  pub spare_events : d.spare_events ≡ n.spare_events
-  pub spare_bytes : d.spare_bytes ≡ n.spare_bytes
-  pub steps : d.steps ≡ n.steps
-
-dropped : (b : Bool) (frame : ℕ) (n : State) → IsDropped (dropped_if b frame n) n
-dropped true frame n = record {
-  general = refl;
-  floating = refl;
-  stack = refl;
-  mark = refl;
-  target = refl;
-  code = refl;
-  events = refl;
-  spare_events = refl;
-  spare_bytes = refl;
-  steps = refl;
-}
-dropped false frame n = record {
-  general = refl;
-  floating = refl;
-  stack = refl;
-  mark = refl;
-  target = refl;
-  code = refl;
-  events = refl;
-  spare_events = refl;
-  spare_bytes = refl;
-  steps = refl;
-}
+dropped : (b : Bool) (frame : ℕ) (n : State) → dropped_if b frame n ≡ record n { sp = (dropped_if b frame n).sp }
+dropped true frame n = refl
+dropped false frame n = refl
 
 -- sp is behind the frame
 dropped_sp : (b : Bool) (frame sp : ℕ) (n : State) → STACK ≤ sp → frame_start_if b frame n ≡ sp → (dropped_if b frame n).sp ≡ sp + frame
 dropped_sp true frame sp n low start = omega (arith, low, start)
 dropped_sp false frame sp n low start = omega (arith, start)
 
--- registers that stay from one machine to the next
-register_then : (a b : State) (l : Loc) → IsPlace 0 l → SameAt 0 l a b → register (image_of 0 b) l ≡ register (image_of 0 a) l
-register_then a b (G k) lies h = h
-register_then a b (F k) lies h = h
-register_then a b (S k w) lies h = absurd (omega (arith, lies.0, lies.1))
-
-register_dropped : (d n : State) → IsDropped d n → (l : Loc) → IsPlace 0 l → register (image_of 0 d) l ≡ register (image_of 0 n) l
-register_dropped d n same (G k) lies = ap (λ xs. get_or xs k 0) same.general
-register_dropped d n same (F k) lies = ap (λ xs. get_or xs k 0) same.floating
-register_dropped d n same (S k w) lies = absurd (omega (arith, lies.0, lies.1))
+-- a register that stays from one machine to the next, and to a third
+register_kept : (a b d : State) → d.general ≡ b.general → d.floating ≡ b.floating → (l : Loc) → IsPlace 0 l → SameAt 0 l a b → register (image_of 0 a) l ≡ register (image_of 0 d) l
+register_kept a b d general floating l lies =
+    by_register (λ l. SameAt 0 l a b → register (image_of 0 a) l ≡ register (image_of 0 d) l) (λ r below h. sym (ap (λ xs. get_or xs r 0) general ∙ h)) (λ r below h. sym (ap (λ xs. get_or xs r 0) floating ∙ h)) l lies
 
 -- what was written, where no more is
 within_still : (low high : ℕ) (a b d : State) → WroteWithin low high a (with_journal_of a b) → d.stack ≡ b.stack → d.mark ≡ b.mark → d.target ≡ b.target → d.code ≡ b.code → WroteWithin low high a (with_journal_of a d)
-within_still low high a b d w stack mark target code = record {
-  size = ap length stack ∙ w.size;
-  outside = λ i far. ap (λ xs. get_or xs i 0) stack ∙ w.outside i far;
-  mark = subst (λ n. (a.mark ≤ n) ⊎ (low ≤ n)) (sym mark) w.mark;
-  target = target ∙ w.target;
-  pc = refl;
-  code = code ∙ w.code;
-  events = refl;
-  spare_events = refl;
-  spare_bytes = refl;
-  exchange = refl;
-  steps = refl;
-}
+within_still low high a b d w stack mark target code =
+    beside low high a d (ap length stack ∙ w.size) (λ i far. ap (λ xs. get_or xs i 0) stack ∙ w.outside i far) (subst (λ n. (a.mark ≤ n) ⊎ (low ≤ n)) (sym mark) w.mark) (target ∙ w.target) (code ∙ w.code)
 
 -- what a result writes lies in the frame, beside all else
 writes_within : (std : Standard) (s : Signature) (base : ℕ) (m l : State) → ResultWrites base s.result_type (plan_of std s).res m (with_journal_of m l) → WroteWithin base (base + frame_of std s) m (with_journal_of m l)
@@ -166,21 +117,21 @@ module _ (std : Standard) (s : Signature) (agrees : AgreesWithMachine std) (v : 
   ended_there : HasEnded std s v m (dropped_if (by_exchange n.target) (frame_of std s) n)
   ended_there =
       let d : State = dropped_if (by_exchange n.target) (frame_of std s) n in
-      let same : IsDropped d n = dropped (by_exchange n.target) (frame_of std s) n in
+      let same = dropped (by_exchange n.target) (frame_of std s) n in
       let whole : need_of std s ≡ frame_of std s + std.link + std.save + block_bytes s = refl in
       let sp = returned.sp in
       let low : STACK ≤ l.sp = omega (arith, sp, bottom) in
       let at_end : d.sp ≡ l.sp + frame_of std s = dropped_sp (by_exchange n.target) (frame_of std s) l.sp n low back.start in
       let first = writes_within std s l.sp m l returned.writes in
-      let w : WroteWithin l.sp (l.sp + frame_of std s) m (with_journal_of m d) = within_still l.sp (l.sp + frame_of std s) m l d first (same.stack ∙ back.stack) (same.mark ∙ back.mark) (same.target ∙ back.target) (same.code ∙ back.code) in
+      let w : WroteWithin l.sp (l.sp + frame_of std s) m (with_journal_of m d) = within_still l.sp (l.sp + frame_of std s) m l d first ((ap (λ q. q.stack) same) ∙ back.stack) ((ap (λ q. q.mark) same) ∙ back.mark) ((ap (λ q. q.target) same) ∙ back.target) ((ap (λ q. q.code) same) ∙ back.code) in
       let least = mark_least l.sp m.mark d.mark w.mark in
-      let events_room : d.spare_events ≡ l.spare_events = same.spare_events ∙ back.spare_events in
-      let bytes_room : d.spare_bytes ≡ l.spare_bytes = same.spare_bytes ∙ back.spare_bytes in
+      let events_room : d.spare_events ≡ l.spare_events = (ap (λ q. q.spare_events) same) ∙ back.spare_events in
+      let bytes_room : d.spare_bytes ≡ l.spare_bytes = (ap (λ q. q.spare_bytes) same) ∙ back.spare_bytes in
       let room = returned.room in
       let bytes = returned.bytes in
       record {
         return = return_at std s l;
-        events = same.events ∙ back.events ∙ returned.events;
+        events = (ap (λ q. q.events) same) ∙ back.events ∙ returned.events;
         is_return = returned.is_return;
         sp = omega (arith, at_end, sp, whole);
         above = λ address count over. above_stays l.sp (l.sp + frame_of std s) m (with_journal_of m d) w address count (omega (arith, over, at_end, sp, bottom)) (omega (arith, over, at_end));
@@ -189,10 +140,10 @@ module _ (std : Standard) (s : Signature) (agrees : AgreesWithMachine std) (v : 
         mark = omega (arith, least, sp);
         code = w.code;
         target = w.target;
-        reserved = each_both (λ at. IsPlace 0 at × SameAt 0 at l n) (λ at. register (image_of 0 m) at ≡ register (image_of 0 l) at) (λ at. register (image_of 0 m) at ≡ register (image_of 0 d) at) (λ at both h. h ∙ sym (register_then l n at both.0 both.1) ∙ sym (register_dropped d n same at both.0)) std.reserved (each_both (IsPlace 0) (λ at. SameAt 0 at l n) (λ at. IsPlace 0 at × SameAt 0 at l n) (λ at p q. (p, q)) std.reserved (reserved_places_lie std agrees) reserved) returned.reserved;
+        reserved = same_then std.reserved (image_of 0 m) (image_of 0 l) (image_of 0 d) returned.reserved (each_both (IsPlace 0) (λ at. SameAt 0 at l n) (λ at. register (image_of 0 l) at ≡ register (image_of 0 d) at) (register_kept l n d (ap (λ q. q.general) same) (ap (λ q. q.floating) same)) std.reserved (reserved_there std agrees) reserved);
         room = omega (arith, events_room, room);
         bytes = omega (arith, bytes_room, bytes);
-        steps = same.steps ∙ back.steps ∙ ap (λ k. steps_if (by_exchange k) (steps_of (isa_of k) Return) l.steps) first.target ∙ ap (steps_if (by_exchange m.target) (steps_of (isa_of m.target) Return)) returned.steps;
+        steps = (ap (λ q. q.steps) same) ∙ back.steps ∙ ap (λ k. steps_if (by_exchange k) (steps_of (isa_of k) Return) l.steps) first.target ∙ ap (steps_if (by_exchange m.target) (steps_of (isa_of m.target) Return)) returned.steps;
       }
 
   -- A CALL HAS ENDED, once its frame is dropped

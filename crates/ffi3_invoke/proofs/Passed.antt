@@ -25,42 +25,21 @@ use Rattle.ffi3_machine_transfer.specs.Passing.{by_exchange, passing, steps_if}
 use Rattle.ffi3_machine_transfer.specs.Stored.{IsPlace, SameAt, WroteWithin, with_journal_of, word_in}
 use Rattle.ffi3_caller.specs.Called.{SlotIsCalled, called_if}
 use Rattle.ffi3_marshal.proofs.Lawful.{each_first, each_rest, machine_places}
-use Rattle.ffi3_machine_transfer.proofs.Stepping.{same_word_in}
+use Rattle.ffi3_machine_transfer.proofs.Composing.{register_is, word_same}
 use Rattle.ffi3_callee.specs.Given.{ReservedStay}
 use Rattle.ffi3_callee.proofs.Laws.{each_both}
-use Rattle.ffi3_callee.proofs.Results.{register_word}
+use Rattle.ffi3_callee.proofs.Keeping as keeping
 use Rattle.ffi3_invoke.specs.Calls.{AreStored, HasPassed}
 use Rattle.ffi3_invoke.proofs.Changed.{IsChanged, holds_changed}
 use Rattle.ffi3_callee.proofs.Beside.{scribbled_beside, wrote_down}
 use Rattle.ffi3_invoke.proofs.Reached.{passes, pushed_within, reserved_clear_of_trampoline, return_address_passed, scribbled_there, trampoline_leaves, trampoline_tells}
 
--- a register of an image is the machine's
-pub register_is : (len : ℕ) (m : State) (l : Loc) → IsPlace 0 l → register (image_of len m) l ≡ word_in STACK_TOP m l
-register_is len m (G r) lies = refl
-register_is len m (F r) lies = refl
-register_is len m (S n w) lies = absurd (omega (arith, lies.0, lies.1))
-
--- reserved registers are registers
-reserved_lie : (isa : Isa) → AllByRecursion (IsPlace 0) (reserved_places isa)
-reserved_lie Amd64 = tt
-reserved_lie Aarch64 = (omega arith, tt)
-reserved_lie Riscv = (omega arith, (omega arith, (omega arith, tt)))
-
-pub reserved_places_lie : (std : Standard) → AgreesWithMachine std → AllByRecursion (IsPlace 0) std.reserved
-reserved_places_lie std agrees =
-    subst (AllByRecursion (IsPlace 0)) (sym agrees.reserved) (reserved_lie (isa_of std.target))
-
 -- ---- registers of a list that are the same in two images
 
 -- where they stay in the machine
 pub same_in : (len n : ℕ) (a b : State) (ls : List Loc) → AllByRecursion (IsPlace 0) ls → AllByRecursion (λ at. word_in STACK_TOP b at ≡ word_in STACK_TOP a at) ls → SameIn ls (image_of len a) (image_of n b)
-same_in len n a b [] lie stay = tt
-same_in len n a b (l ∷ ls) lie stay =
-    (register_is len a l lie.0 ∙ sym stay.0 ∙ sym (register_is n b l lie.0), same_in len n a b ls lie.1 stay.1)
-
-pub same_itself : (ls : List Loc) (e : Image) → SameIn ls e e
-same_itself [] e = tt
-same_itself (l ∷ ls) e = (refl, same_itself ls e)
+same_in len n a b ls =
+    each_both (IsPlace 0) (λ at. word_in STACK_TOP b at ≡ word_in STACK_TOP a at) (λ at. register (image_of len a) at ≡ register (image_of n b) at) (λ l lies stay. register_is len STACK_TOP a l lies ∙ sym stay ∙ sym (register_is n STACK_TOP b l lies)) ls
 
 pub same_then : (ls : List Loc) (d e f : Image) → SameIn ls d e → SameIn ls e f → SameIn ls d f
 same_then [] d e f s t = tt
@@ -70,7 +49,7 @@ same_then (l ∷ ls) d e f s t = (s.0 ∙ t.0, same_then ls d e f s.1 t.1)
 pub held_still : (len n : ℕ) (a b : State) (held : Loc → ℕ) (ls : List Loc) → AllByRecursion (IsPlace 0) ls → SameIn ls (image_of len a) (image_of len b) → AllByRecursion (λ at. register (image_of len a) at ≡ held at) ls → AllByRecursion (λ at. register (image_of n b) at ≡ held at) ls
 held_still len n a b held [] lie same h = tt
 held_still len n a b held (l ∷ ls) lie same h =
-    (register_is n b l lie.0 ∙ sym (register_is len b l lie.0) ∙ sym same.0 ∙ h.0, held_still len n a b held ls lie.1 same.1 h.1)
+    (register_is n STACK_TOP b l lie.0 ∙ sym (register_is len STACK_TOP b l lie.0) ∙ sym same.0 ∙ h.0, held_still len n a b held ls lie.1 same.1 h.1)
 
 -- ---- the machine at ENTRY
 
@@ -98,10 +77,6 @@ module _ (std : Standard) (s : Signature) (sound : IsSound std s) (agrees : Agre
   stays : (l : Loc) → IsPlace 0 l → IsNoneOf std.trampoline_registers l → word_in STACK_TOP (reached d) l ≡ word_in STACK_TOP d l
   stays l lies trampoline = passes d l lies (subst (λ ls. IsNoneOf ls l) written trampoline)
 
-  word_kept : (b c : State) (l : Loc) → IsPlace 0 l → SameAt 0 l b c → word_in STACK_TOP c l ≡ word_in STACK_TOP b l
-  word_kept b c l lies same =
-      register_word STACK_TOP 0 l c lies ∙ same_word_in 0 l b c same ∙ register_word 0 STACK_TOP l b lies
-
   preserved_there : AllByRecursion (λ l. SameAt 0 l (scribbled (length m.events) m) a) std.callee_saved → AllByRecursion (λ l. SameAt 0 l a d) std.callee_saved → AllByRecursion (λ at. register (image_of (std.link + frame_of std s) (reached d)) at ≡ scribble (length m.events) at) std.callee_saved
   preserved_there same then_same =
       each_both (IsNoneOf (special std)) (λ l. IsPlace 0 l × (SameAt 0 l (scribbled (length m.events) m) a × SameAt 0 l a d)) (λ at. register (image_of (std.link + frame_of std s) (reached d)) at ≡ scribble (length m.events) at) one std.callee_saved agrees.callee_saved_plain
@@ -118,12 +93,12 @@ module _ (std : Standard) (s : Signature) (sound : IsSound std s) (agrees : Agre
           let trampoline = each_first (Apart l) std.trampoline_registers (to_list std.vector_count ++ to_list std.returned_address) (each_rest (Apart l) (to_list std.link_register) after_link rest) in
           let reserved = each_first (Apart l) std.reserved (to_list std.link_register ++ (std.trampoline_registers ++ (to_list std.vector_count ++ to_list std.returned_address))) none.1 in
           let free = subst (λ k. IsNoneOf (reserved_places (isa_of k)) l) (sym old_target) (subst (λ ls. IsNoneOf ls l) agrees.reserved reserved) in
-          register_is (std.link + frame_of std s) (reached d) l both.0 ∙ stays l both.0 trampoline ∙ word_kept a d l both.0 both.1.1 ∙ word_kept (scribbled (length m.events) m) a l both.0 both.1.0 ∙ scribbled_there (length m.events) m l both.0 free
+          register_is (std.link + frame_of std s) STACK_TOP (reached d) l both.0 ∙ stays l both.0 trampoline ∙ word_same STACK_TOP STACK_TOP l a d both.0 both.1.1 ∙ word_same STACK_TOP STACK_TOP l (scribbled (length m.events) m) a both.0 both.1.0 ∙ scribbled_there (length m.events) m l both.0 free
 
   reserved_there : AllByRecursion (λ l. SameAt 0 l m a) std.reserved → AllByRecursion (λ l. SameAt 0 l a d) std.reserved → ReservedStay std m (reached d)
   reserved_there same then_same =
-      each_both (λ l. IsPlace 0 l × IsNoneOf std.trampoline_registers l) (λ l. SameAt 0 l m a × SameAt 0 l a d) (λ at. word_in STACK_TOP (reached d) at ≡ word_in STACK_TOP m at) (λ l p q. stays l p.0 p.1 ∙ word_kept a d l p.0 q.1 ∙ word_kept m a l p.0 q.0) std.reserved
-      (each_both (IsPlace 0) (IsNoneOf std.trampoline_registers) (λ l. IsPlace 0 l × IsNoneOf std.trampoline_registers l) (λ l p q. (p, q)) std.reserved (reserved_places_lie std agrees) trampoline)
+      each_both (λ l. IsPlace 0 l × IsNoneOf std.trampoline_registers l) (λ l. SameAt 0 l m a × SameAt 0 l a d) (λ at. word_in STACK_TOP (reached d) at ≡ word_in STACK_TOP m at) (λ l p q. stays l p.0 p.1 ∙ word_same STACK_TOP STACK_TOP l a d p.0 q.1 ∙ word_same STACK_TOP STACK_TOP l m a p.0 q.0) std.reserved
+      (each_both (IsPlace 0) (IsNoneOf std.trampoline_registers) (λ l. IsPlace 0 l × IsNoneOf std.trampoline_registers l) (λ l p q. (p, q)) std.reserved (keeping.reserved_there std agrees) trampoline)
       (each_both (λ l. SameAt 0 l m a) (λ l. SameAt 0 l a d) (λ l. SameAt 0 l m a × SameAt 0 l a d) (λ l p q. (p, q)) std.reserved same then_same)
     where
       trampoline : AllByRecursion (IsNoneOf std.trampoline_registers) std.reserved
@@ -154,7 +129,7 @@ module _ (std : Standard) (s : Signature) (sound : IsSound std s) (agrees : Agre
     closure = trampoline_tells (isa_of d.target) d.pc d.general after.general ∙ called.pc;
     return_address = return_address_passed d called.return_address;
     preserved = preserved_there preserved then_preserved;
-    reserved = same_in 0 0 m (reached d) std.reserved (reserved_places_lie std agrees) (reserved_there reserved then_reserved);
+    reserved = same_in 0 0 m (reached d) std.reserved (keeping.reserved_there std agrees) (reserved_there reserved then_reserved);
     sp = let bytes = pushed in let above = low in let below = called.sp in omega (arith, bytes, above, below, sp);
     within = subst (λ q. WroteWithin q m.sp m (with_journal_of m (reached d))) (sym called.sp) (wrote_down (a.sp - pushed_bytes (isa_of a.target)) a.sp m.sp m a (reached d) (omega arith) (omega (arith, sp)) within (pushed_within pointer a d called low fits));
     events = called.events ∙ stored.events;

@@ -20,6 +20,7 @@ use Rattle.ffi3_machine.specs.Scribbled.{get_or-scribbled_floating, get_or-scrib
 use Rattle.ffi3_closures.specs.Reaching.{jumped_through, reached}
 use Rattle.ffi3_machine_transfer.specs.Stored.{IsPlace, word_in, WroteWithin, with_journal_of}
 use Rattle.ffi3_caller.specs.Called.{SlotIsCalled}
+use Rattle.ffi3_machine_transfer.proofs.Composing.{beside, by_register}
 use Rattle.ffi3_machine_transfer.proofs.Putting.{mark_within}
 use Rattle.ffi3_marshal.proofs.Ranges.{above_range, below_range, range_length}
 
@@ -47,35 +48,23 @@ trampoline_tells Riscv pc general sized =
 eight : length (to_le_bytes w64 RETURN) ≡ 8
 eight = refl
 
-pub stack_sized : (isa : Isa) (sp : ℕ) (stack : List ℕ) → STACK + pushed_bytes isa ≤ sp → sp - STACK ≤ length stack → length (linked_stack (link_register isa) sp stack) ≡ length stack
+stack_sized : (isa : Isa) (sp : ℕ) (stack : List ℕ) → STACK + pushed_bytes isa ≤ sp → sp - STACK ≤ length stack → length (linked_stack (link_register isa) sp stack) ≡ length stack
 stack_sized Amd64 sp stack low fits =
     range_length stack (to_le_bytes w64 RETURN) (sp - 8 - STACK) (sp - STACK) (omega (arith, eight, low)) fits
-stack_sized Aarch64 sp stack low fits = refl
-stack_sized Riscv sp stack low fits = refl
+stack_sized _ sp stack low fits = refl
 
 stack_outside : (isa : Isa) (sp : ℕ) (stack : List ℕ) (i : ℕ) → STACK + pushed_bytes isa ≤ sp → sp - STACK ≤ length stack → (STACK + i < sp - pushed_bytes isa) ⊎ (sp ≤ STACK + i) → get_or (linked_stack (link_register isa) sp stack) i 0 ≡ get_or stack i 0
 stack_outside Amd64 sp stack i low fits (inl below) =
     below_range stack (to_le_bytes w64 RETURN) (sp - 8 - STACK) (sp - STACK) (omega (arith, eight, low)) fits i (omega (arith, low, below))
 stack_outside Amd64 sp stack i low fits (inr above) =
     above_range stack (to_le_bytes w64 RETURN) (sp - 8 - STACK) (sp - STACK) (omega (arith, eight, low)) fits i (omega (arith, low, above))
-stack_outside Aarch64 sp stack i low fits far = refl
-stack_outside Riscv sp stack i low fits far = refl
+stack_outside _ sp stack i low fits far = refl
 
 -- of the stack a call writes the bytes that it pushes, and a trampoline none
 pub pushed_within : (pointer : ℕ) (a d : State) → SlotIsCalled pointer a d → STACK + pushed_bytes (isa_of a.target) ≤ a.sp → a.sp - STACK ≤ length a.stack → WroteWithin (a.sp - pushed_bytes (isa_of a.target)) a.sp a (with_journal_of a (reached d))
-pushed_within pointer a d called low fits = record {
-  size = ap length called.stack ∙ stack_sized (isa_of a.target) a.sp a.stack low fits;
-  outside = λ i far. ap (λ xs. get_or xs i 0) called.stack ∙ stack_outside (isa_of a.target) a.sp a.stack i low fits far;
-  mark = subst (λ k. (a.mark ≤ k) ⊎ (a.sp - pushed_bytes (isa_of a.target) ≤ k)) (sym called.mark) (mark_within (a.sp - pushed_bytes (isa_of a.target)) a.mark (a.sp - pushed_bytes (isa_of a.target)) (pushed_bytes (isa_of a.target)) (omega arith));
-  target = called.target;
-  pc = refl;
-  code = called.code;
-  events = refl;
-  spare_events = refl;
-  spare_bytes = refl;
-  exchange = refl;
-  steps = refl;
-}
+pushed_within pointer a d called low fits =
+    let bytes = pushed_bytes (isa_of a.target) in
+    beside (a.sp - bytes) a.sp a (reached d) (ap length called.stack ∙ stack_sized (isa_of a.target) a.sp a.stack low fits) (λ i far. ap (λ xs. get_or xs i 0) called.stack ∙ stack_outside (isa_of a.target) a.sp a.stack i low fits far) (subst (λ k. (a.mark ≤ k) ⊎ (a.sp - pushed_bytes (isa_of a.target) ≤ k)) (sym called.mark) (mark_within (a.sp - pushed_bytes (isa_of a.target)) a.mark (a.sp - pushed_bytes (isa_of a.target)) (pushed_bytes (isa_of a.target)) (omega arith))) called.target called.code
 
 -- ---- the return address
 
@@ -93,41 +82,24 @@ return_address_passed d back = return_reached (isa_of d.target) d.pc d.sp d.gene
 -- ---- registers that a trampoline leaves
 
 pub passes : (d : State) (l : Loc) → IsPlace 0 l → IsNoneOf (trampoline_registers (isa_of d.target)) l → word_in STACK_TOP (reached d) l ≡ word_in STACK_TOP d l
-passes d (G r) lies trampoline = trampoline_leaves (isa_of d.target) d.pc d.general r trampoline
-passes d (F r) lies trampoline = refl
-passes d (S n w) lies trampoline = absurd (omega (arith, lies.0, lies.1))
+passes d l lies =
+    by_register (λ l. IsNoneOf (trampoline_registers (isa_of d.target)) l → word_in STACK_TOP (reached d) l ≡ word_in STACK_TOP d l) (λ r below trampoline. trampoline_leaves (isa_of d.target) d.pc d.general r trampoline) (λ r below trampoline. refl) l lies
 
 -- none of them is reserved
 pub reserved_clear_of_trampoline : (isa : Isa) → AllByRecursion (IsNoneOf (trampoline_registers isa)) (reserved_places isa)
 reserved_clear_of_trampoline Amd64 = tt
-reserved_clear_of_trampoline Aarch64 = each_none_of (trampoline_registers Aarch64) (reserved_places Aarch64) refl
-reserved_clear_of_trampoline Riscv = each_none_of (trampoline_registers Riscv) (reserved_places Riscv) refl
+reserved_clear_of_trampoline isa = each_none_of (trampoline_registers isa) (reserved_places isa) refl
 
 -- ---- a scribble
 
-none_on : (a b c : Bool) → a ≡ false → b ≡ false → c ≡ false → (a || (b || (c || false))) ≡ false
-none_on false false false h p q = refl
-none_on true b c h p q = cc
-none_on false true c h p q = cc
-none_on false false true h p q = cc
-
-one_off : (b : Bool) → b ≡ false → (b || false) ≡ false
-one_off false h = refl
-one_off true h = cc
-
 not_reserved : (isa : Isa) (k : ℕ) → IsNoneOf (reserved_places isa) (G k) → is_reserved isa k ≡ false
 not_reserved Amd64 k none = refl
-not_reserved Aarch64 k none = one_off (k == 18) (ne_eqb k 18 none.0)
-not_reserved Riscv k none =
-    none_on (k == 0) (k == 3) (k == 4) (ne_eqb k 0 none.0) (ne_eqb k 3 none.1.0) (ne_eqb k 4 none.1.1.0)
-
-filled_new : (b : Bool) (old new : ℕ) → b ≡ false → (if b then old else new) ≡ new
-filled_new true old new h = cc
-filled_new false old new h = refl
+not_reserved Aarch64 k none = λ i. ne_eqb k 18 none.0 i || false
+not_reserved Riscv k none = λ i. ne_eqb k 0 none.0 i || (ne_eqb k 3 none.1.0 i || (ne_eqb k 4 none.1.1.0 i || false))
 
 -- a register that is not reserved has the scribble's number
 pub scribbled_there : (n : ℕ) (m : State) (l : Loc) → IsPlace 0 l → IsNoneOf (reserved_places (isa_of m.target)) l → word_in STACK_TOP (scribbled n m) l ≡ scribble n l
 scribbled_there n m (G k) lies none =
-    get_or-scribbled_general (isa_of m.target) n m.general k lies ∙ filled_new (is_reserved (isa_of m.target) k) (get_or m.general k 0) (scribble n (G k)) (not_reserved (isa_of m.target) k none)
+    get_or-scribbled_general (isa_of m.target) n m.general k lies ∙ ap (λ (b : Bool). if b then get_or m.general k 0 else scribble n (G k)) (not_reserved (isa_of m.target) k none)
 scribbled_there n m (F k) lies none = get_or-scribbled_floating n k lies
 scribbled_there n m (S k w) lies none = absurd (omega (arith, lies.0, lies.1))

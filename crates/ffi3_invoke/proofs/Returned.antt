@@ -26,8 +26,8 @@ use Rattle.ffi3_machine_spec.specs.State.{State, HasReturnAddress, HasReturnAt, 
 use Rattle.ffi3_machine_spec.specs.Stubs.{Exit}
 use Rattle.ffi3_stubs.specs.Calls.{steps_of}
 use Rattle.ffi3_machine_transfer.specs.Passing.{by_exchange, passing, steps_if}
-use Rattle.ffi3_machine_transfer.specs.Stored.{IsPlace, WroteWithin, with_journal_of}
-use Rattle.ffi3_machine_transfer.proofs.Composing.{wrote_wider}
+use Rattle.ffi3_machine_transfer.specs.Stored.{IsPlace, WroteWithin, with_journal_of, word_in}
+use Rattle.ffi3_machine_transfer.proofs.Composing.{beside, register_is, wrote_wider}
 use Rattle.ffi3_callee.specs.declared.Incoming.{Incoming}
 use Rattle.ffi3_callee.specs.Given.{ReservedStay, ResultWrites}
 use Rattle.ffi3_callee.specs.GoneBack.{HasGoneBack, IsAtReturn, returned_by, returned_if}
@@ -35,39 +35,29 @@ use Rattle.ffi3_callee.specs.Loaded.{image_from}
 use Rattle.ffi3_callee.specs.Received.{IsIncoming}
 use Rattle.ffi3_callee.specs.Saved.{HoldRegisters, saved_word}
 use Rattle.ffi3_callee.proofs.Beside.{passed_beside}
-use Rattle.ffi3_callee.proofs.Keeping.{reserved_then}
-use Rattle.ffi3_callee.proofs.Results.{buffer_within}
+use Rattle.ffi3_callee.proofs.Answered.{pushes, return_same}
+use Rattle.ffi3_callee.proofs.Keeping.{reserved_then, reserved_there}
+use Rattle.ffi3_callee.proofs.Laws.{each_both}
+use Rattle.ffi3_machine_transfer.proofs.Outcomes.{buffer_within}
 use Rattle.ffi3_callee.proofs.Return.{same_stack}
-use Rattle.ffi3_callee.proofs.WayBack.{same_reserved}
+use Rattle.ffi3_callee.proofs.WayBack.{register_returned, same_reserved}
 use Rattle.ffi3_invoke.specs.Calls.{HasReturned, IsInCallee, return_at}
-use Rattle.ffi3_invoke.proofs.Passed.{same_in, reserved_places_lie, same_then}
-use Rattle.ffi3_invoke.proofs.Stretches.{below_stays, return_same, word_below}
+use Rattle.ffi3_invoke.proofs.Passed.{same_then}
+use Rattle.ffi3_invoke.proofs.Stretches.{below_stays, word_below}
 
 -- ---- what a result writes
 
 -- it lies in the frame
 pub result_within : (std : Standard) (s : Signature) (base : ℕ) (res : Res) (a b : State) → (plan_of std s).res ≡ res → ResultWrites base s.result_type res a b → WroteWithin base (base + frame_of std s) a b
-result_within std s base Nothing a b is w = wrote_wider base base base (base + frame_of std s) a b (omega arith) (omega arith) w
-result_within std s base (Direct pieces) a b is w = wrote_wider base base base (base + frame_of std s) a b (omega arith) (omega arith) w
 result_within std s base (Hidden at buffer) a b is w =
     let inside = buffer_within std s at buffer is in
     wrote_wider (base + buffer) (base + buffer + size_of s.result_type) base (base + frame_of std s) a b (omega arith) (omega (arith, inside)) w
+result_within std s base _ a b is w = wrote_wider base base base (base + frame_of std s) a b (omega arith) (omega arith) w
 
 -- and it is written beside all that is not the stack, whatever follows
 pub written_on : (low high : ℕ) (a b l : State) → low ≤ STACK_TOP → WroteWithin low high (passing a) (passing b) → l.stack ≡ b.stack → (b.mark ≤ l.mark) ⊎ (STACK_TOP ≤ l.mark) → l.target ≡ b.target → l.code ≡ b.code → WroteWithin low high a (with_journal_of a l)
-written_on low high a b l below w stack mark target code = record {
-  size = ap length stack ∙ w.size;
-  outside = λ i far. ap (λ xs. get_or xs i 0) stack ∙ w.outside i far;
-  mark = falls w.mark mark;
-  target = target ∙ w.target;
-  pc = refl;
-  code = code ∙ w.code;
-  events = refl;
-  spare_events = refl;
-  spare_bytes = refl;
-  exchange = refl;
-  steps = refl;
-}
+written_on low high a b l below w stack mark target code =
+    beside low high a l (ap length stack ∙ w.size) (λ i far. ap (λ xs. get_or xs i 0) stack ∙ w.outside i far) (falls w.mark mark) (target ∙ w.target) (code ∙ w.code)
   where
     falls : (a.mark ≤ b.mark) ⊎ (low ≤ b.mark) → (b.mark ≤ l.mark) ⊎ (STACK_TOP ≤ l.mark) → (a.mark ≤ l.mark) ⊎ (low ≤ l.mark)
     falls x (inr h) = inr (omega (arith, below, h))
@@ -75,54 +65,18 @@ written_on low high a b l below w stack mark target code = record {
     falls (inr h) (inl k) = inr (omega (arith, h, k))
 
 result_written_on : (std : Standard) (s : Signature) (base : ℕ) (res : Res) (a b l : State) → (plan_of std s).res ≡ res → base + frame_of std s ≤ STACK_TOP → ResultWrites base s.result_type res (passing a) (passing b) → l.stack ≡ b.stack → (b.mark ≤ l.mark) ⊎ (STACK_TOP ≤ l.mark) → l.target ≡ b.target → l.code ≡ b.code → ResultWrites base s.result_type res a (with_journal_of a l)
-result_written_on std s base Nothing a b l is high w stack mark target code =
-    written_on base base a b l (omega (arith, high)) w stack mark target code
-result_written_on std s base (Direct pieces) a b l is high w stack mark target code =
-    written_on base base a b l (omega (arith, high)) w stack mark target code
 result_written_on std s base (Hidden at buffer) a b l is high w stack mark target code =
     let inside = buffer_within std s at buffer is in
     written_on (base + buffer) (base + buffer + size_of s.result_type) a b l (omega (arith, high, inside)) w stack mark target code
+result_written_on std s base _ a b l is high w stack mark target code =
+    written_on base base a b l (omega (arith, high)) w stack mark target code
 
 -- ---- the machine at its return
 
 -- all but sp and pc are those of the machine that has gone back
-record IsReturnOf (m r : State) : Type 0 where
-  pub general : m.general ≡ r.general
-  pub floating : m.floating ≡ r.floating
-  pub stack : m.stack ≡ r.stack
-  pub mark : m.mark ≡ r.mark
-  pub target : m.target ≡ r.target
-  pub code : m.code ≡ r.code
-  pub events : m.events ≡ r.events
-  pub spare_events : m.spare_events ≡ r.spare_events
-  pub spare_bytes : m.spare_bytes ≡ r.spare_bytes
-  pub steps : m.steps ≡ r.steps
-
-return_of : (b : Bool) (r : State) → IsReturnOf (returned_if b r) r
-return_of true r = record {
-  general = refl;
-  floating = refl;
-  stack = refl;
-  mark = refl;
-  target = refl;
-  code = refl;
-  events = refl;
-  spare_events = refl;
-  spare_bytes = refl;
-  steps = refl;
-}
-return_of false r = record {
-  general = refl;
-  floating = refl;
-  stack = refl;
-  mark = refl;
-  target = refl;
-  code = refl;
-  events = refl;
-  spare_events = refl;
-  spare_bytes = refl;
-  steps = refl;
-}
+return_of : (b : Bool) (r : State) → returned_if b r ≡ record r { sp = (returned_if b r).sp; pc = (returned_if b r).pc }
+return_of true r = refl
+return_of false r = refl
 
 pc_there : (b : Bool) (r : State) → IsAtReturn b r → (returned_if b r).pc ≡ RETURN
 pc_there true r h = h
@@ -130,32 +84,10 @@ pc_there false r h = refl
 
 -- ---- what a record of the return asks
 
-pub own_address : (b : Bool) (m : State) → b ≡ false → IsAtReturn b m → HasReturnAddress m
-own_address true m e h = absurd cc
-own_address false m e h = h
-
-pub stub_at_return : (b : Bool) (m : State) → b ≡ true → IsAtReturn b m → m.pc ≡ RETURN
-stub_at_return true m e h = h
-stub_at_return false m e h = absurd cc
-
-pub own_lies : (b : Bool) (m : State) (frame : ℕ) → b ≡ false → STACK ≤ m.sp → (returned_if b m).sp + frame ≤ STACK_TOP → LieInStack m.sp (pushed_bytes (isa_of m.target) + frame)
-own_lies true m frame e low high = absurd cc
-own_lies false m frame e low high = λ some. (low, omega (arith, high))
-
-pub stub_lies : (b : Bool) (m : State) (frame : ℕ) → b ≡ true → STACK ≤ m.sp → (returned_if b m).sp + frame ≤ STACK_TOP → LieInStack m.sp frame
-stub_lies true m frame e low high = λ some. (low, high)
-stub_lies false m frame e low high = absurd cc
-
 -- sp has not fallen below the entry's
 sp_low : (b : Bool) (r : State) (link entry : ℕ) → pushed_bytes (isa_of r.target) ≡ link → STACK ≤ entry → (returned_if b r).sp ≡ entry + link → STACK ≤ r.sp
 sp_low true r link entry pushed low sp = omega (arith, low, sp)
 sp_low false r link entry pushed low sp = omega (arith, pushed, low, sp)
-
--- a call that names no register for the return address pushes it
-pushes : (isa : Isa) → link_register isa ≡ None → pushed_bytes isa ≡ 8
-pushes Amd64 none = refl
-pushes Aarch64 none = cc
-pushes Riscv none = cc
 
 -- ---- the machine before the return
 
@@ -179,36 +111,27 @@ module _ (std : Standard) (s : Signature) (agrees : AgreesWithMachine std) (v : 
   gone_stack : r.stack ≡ g.stack
   gone_stack = same_stack g (with_journal_of g r) back.within
 
-  same : IsReturnOf (returned_by r) r
+  same : returned_by r ≡ record r { sp = (returned_by r).sp; pc = (returned_by r).pc }
   same = return_of (by_exchange r.target) r
 
   stack_there : (returned_by r).stack ≡ g.stack
-  stack_there = same.stack ∙ gone_stack
+  stack_there = (ap (λ q. q.stack) same) ∙ gone_stack
 
   target_there : (returned_by r).target ≡ g.target
-  target_there = same.target ∙ back.within.target
+  target_there = (ap (λ q. q.target) same) ∙ back.within.target
 
   code_there : (returned_by r).code ≡ g.code
-  code_there = same.code ∙ back.within.code
+  code_there = (ap (λ q. q.code) same) ∙ back.within.code
 
   mark_there : (g.mark ≤ (returned_by r).mark) ⊎ (STACK_TOP ≤ (returned_by r).mark)
-  mark_there = subst (λ n. (g.mark ≤ n) ⊎ (STACK_TOP ≤ n)) (sym same.mark) back.within.mark
+  mark_there = subst (λ n. (g.mark ≤ n) ⊎ (STACK_TOP ≤ n)) (sym (ap (λ q. q.mark) same)) back.within.mark
 
   reserved_both : ReservedStay std m r
   reserved_both = reserved_then std m g r reserved gone
 
   reserved_kept : SameIn std.reserved (image_of 0 m) (image_of 0 (returned_by r))
   reserved_kept =
-      subst (λ xs. SameIn std.reserved (image_of 0 m) (record { general = xs; floating = (returned_by r).floating; sp = (returned_by r).sp; stack = [] })) (sym same.general) (subst (λ xs. SameIn std.reserved (image_of 0 m) (record { general = r.general; floating = xs; sp = (returned_by r).sp; stack = [] })) (sym same.floating) (moved std.reserved (reserved_places_lie std agrees) (same_in 0 0 m r std.reserved (reserved_places_lie std agrees) reserved_both)))
-    where
-      one : (l : Loc) → IsPlace 0 l → register (image_of 0 r) l ≡ register (record { general = r.general; floating = r.floating; sp = (returned_by r).sp; stack = [] }) l
-      one (G k) lies = refl
-      one (F k) lies = refl
-      one (S k w) lies = absurd (omega (arith, lies.0, lies.1))
-
-      moved : (ls : List Loc) → AllByRecursion (IsPlace 0) ls → SameIn ls (image_of 0 m) (image_of 0 r) → SameIn ls (image_of 0 m) (record { general = r.general; floating = r.floating; sp = (returned_by r).sp; stack = [] })
-      moved [] lie h = tt
-      moved (l ∷ ls) lie h = (h.0 ∙ one l lie.0, moved ls lie.1 h.1)
+      each_both (IsPlace 0) (λ at. word_in STACK_TOP r at ≡ word_in STACK_TOP m at) (λ at. register (image_of 0 m) at ≡ register (image_of 0 (returned_by r)) at) (λ l lies h. register_is 0 STACK_TOP m l lies ∙ sym h ∙ sym (register_returned (by_exchange r.target) 0 r l lies)) std.reserved (reserved_there std agrees) reserved_both
 
   module _ (entry : Event) (called : IsInCallee std (record { signature = s; event = entry }) m) where
     entry_sp : entry.image.sp ≡ incoming.entry
@@ -231,7 +154,7 @@ module _ (std : Standard) (s : Signature) (agrees : AgreesWithMachine std) (v : 
         let above : HasReturnAt (link_register (isa_of std.target)) entry.image.general entry.image.sp g.stack = return_same (link_register (isa_of std.target)) entry.image.general entry.image.sp m.stack g.stack (λ none. let eight = none_pushed none in let here = entry_sp in below_stays base (base + frame_of std s) m (with_journal_of m g) given entry.image.sp 8 (omega (arith, here, bottom)) (omega (arith, here, eight))) called.stands.return_address in
         subst (λ n. HasReturnAt (link_register (isa_of std.target)) entry.image.general n g.stack) entry_sp above
 
-    pub at_return : IsAtReturn (by_exchange r.target) r
+    at_return : IsAtReturn (by_exchange r.target) r
     at_return = back.at_return entry.image saved_there address_there
 
     pc : (returned_by r).pc ≡ RETURN
@@ -244,10 +167,10 @@ module _ (std : Standard) (s : Signature) (agrees : AgreesWithMachine std) (v : 
       image_there : image_from (incoming.entry + std.link) (frame_of std s) r ≡ image_of (frame_of std s) (returned_by r)
       image_there =
           λ i. record {
-            general = sym same.general i;
-            floating = sym same.floating i;
+            general = sym (ap (λ q. q.general) same) i;
+            floating = sym (ap (λ q. q.floating) same) i;
             sp = sym back.sp i;
-            stack = take (frame_of std s) (drop (sym back.sp i - STACK) (sym same.stack i));
+            stack = take (frame_of std s) (drop (sym back.sp i - STACK) (sym (ap (λ q. q.stack) same) i));
           }
 
       is_return : IsReturn std (record { signature = s; event = entry }) v (return_at std s (after_arrive (frame_of std s) (returned_by r)))
@@ -266,20 +189,23 @@ module _ (std : Standard) (s : Signature) (agrees : AgreesWithMachine std) (v : 
 
   -- ---- what a return asks of the machine
 
-  pub return_high : (returned_by r).sp + frame_of std s ≤ STACK_TOP
+  return_high : (returned_by r).sp + frame_of std s ≤ STACK_TOP
   return_high = let top = high in let sp = back.sp in omega (arith, top, sp)
 
-  pub return_low : STACK ≤ r.sp
+  return_low : STACK ≤ r.sp
   return_low =
       let bottom = low in
       let link : pushed_bytes (isa_of r.target) ≡ std.link = ap (λ k. pushed_bytes (isa_of k)) (back.within.target ∙ first.target ∙ target) ∙ sym agrees.link in
       sp_low (by_exchange r.target) r std.link incoming.entry link (omega (arith, bottom)) back.sp
 
-  pub events_room : r.spare_events ≡ m.spare_events
+  events_room : r.spare_events ≡ m.spare_events
   events_room = back.spare_events ∙ first.spare_events
 
-  pub bytes_room : r.spare_bytes ≡ m.spare_bytes
+  bytes_room : r.spare_bytes ≡ m.spare_bytes
   bytes_room = back.spare_bytes ∙ first.spare_bytes
+
+  pub asked : (entry : Event) → IsInCallee std (record { signature = s; event = entry }) m → IsAtReturn (by_exchange r.target) r × (STACK ≤ r.sp) × ((returned_by r).sp + frame_of std s ≤ STACK_TOP) × (r.spare_events ≡ m.spare_events) × (r.spare_bytes ≡ m.spare_bytes)
+  asked entry called = (at_return entry called, return_low, return_high, events_room, bytes_room)
 
   -- THE CALLEE HAS RETURNED
   returned_there : (kept : (e : Image) (room : ℕ) → e.sp ≡ incoming.entry → HoldRegisters (incoming.entry - std.save) std.save_area (register e) g → SameIn std.reserved e (image_of 0 g) → Kept std e (image_of room (returned_by r))) → HoldsResult std s v (image_from (incoming.entry + std.link) (frame_of std s) r) → (some : Event) → IsInCallee std (record { signature = s; event = some }) m → HasReturned std s v m (after_arrive (frame_of std s) (returned_by r))
@@ -289,10 +215,10 @@ module _ (std : Standard) (s : Signature) (agrees : AgreesWithMachine std) (v : 
       let sp = back.sp in
       let room = called.room in
       let bytes = called.bytes in
-      let spare_events : (returned_by r).spare_events ≡ m.spare_events = same.spare_events ∙ events_room in
-      let spare_bytes : (returned_by r).spare_bytes ≡ m.spare_bytes = same.spare_bytes ∙ bytes_room in
+      let spare_events : (returned_by r).spare_events ≡ m.spare_events = (ap (λ q. q.spare_events) same) ∙ events_room in
+      let spare_bytes : (returned_by r).spare_bytes ≡ m.spare_bytes = (ap (λ q. q.spare_bytes) same) ∙ bytes_room in
       record {
-        events = ap (λ es. es ++ return_at std s l ∷ []) (same.events ∙ back.events ∙ first.events);
+        events = ap (λ es. es ++ return_at std s l ∷ []) ((ap (λ q. q.events) same) ∙ back.events ∙ first.events);
         is_return = λ entry called. is_return entry called held kept;
         pc = pc some called;
         sp = omega (arith, entry_is, sp, block);
@@ -300,7 +226,7 @@ module _ (std : Standard) (s : Signature) (agrees : AgreesWithMachine std) (v : 
         writes = subst (λ n. ResultWrites n s.result_type (plan_of std s).res m (with_journal_of m l)) (sym back.sp) (result_written_on std s base (plan_of std s).res m g l refl high writes stack_there mark_there target_there code_there);
         room = omega (arith, spare_events, room);
         bytes = omega (arith, spare_bytes, bytes);
-        steps = same.steps ∙ back.steps ∙ ap (λ k. steps_if (by_exchange k) (steps_of (isa_of k) Exit) g.steps) first.target ∙ ap (steps_if (by_exchange m.target) (steps_of (isa_of m.target) Exit)) first.steps;
+        steps = (ap (λ q. q.steps) same) ∙ back.steps ∙ ap (λ k. steps_if (by_exchange k) (steps_of (isa_of k) Exit) g.steps) first.target ∙ ap (steps_if (by_exchange m.target) (steps_of (isa_of m.target) Exit)) first.steps;
       }
 
   pub returned : (n : ℕ) (l : State) → n ≡ frame_of std s → l ≡ after_arrive n (returned_by r) → ((e : Image) (room : ℕ) → e.sp ≡ incoming.entry → HoldRegisters (incoming.entry - std.save) std.save_area (register e) g → SameIn std.reserved e (image_of 0 g) → Kept std e (image_of room (returned_by r))) → HoldsResult std s v (image_from (incoming.entry + std.link) (frame_of std s) r) → (some : Event) → IsInCallee std (record { signature = s; event = some }) m → HasReturned std s v m l

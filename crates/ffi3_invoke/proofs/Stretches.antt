@@ -11,6 +11,7 @@ use Rattle.ffi3_machine_spec.specs.State.{State, HasReturnAt, stack_at}
 use Rattle.ffi3_machine_transfer.specs.Stored.{WroteWithin, with_journal_of}
 use Rattle.ffi3_machine_transfer.proofs.Stepping.{same_word_in}
 use Rattle.ffi3_callee.specs.Saved.{saved_word}
+use Rattle.ffi3_callee.proofs.Answered.{return_same}
 use Rattle.ffi3_invoke.specs.Calls.{IsSavedOf, KeepsOpen}
 
 -- the mark is no lower than it may be
@@ -45,13 +46,6 @@ word_above low high from i a b w inside above =
 pub word_below : (low high from i : ℕ) (a b : State) → WroteWithin low high a b → STACK ≤ from → from + 8 * i + 8 ≤ low → saved_word from i b ≡ saved_word from i a
 word_below low high from i a b w inside below =
     same_word_in from (S (8 * i) 8) a b (λ k h. w.outside (from + 8 * i + k - STACK) (inl (omega (arith, inside, below, h))))
-
--- ---- the return address
-
--- its bytes are asked for where a call pushes it
-pub return_same : (link : Option ℕ) (general : List ℕ) (sp : ℕ) (xs ys : List ℕ) → (link ≡ None → take 8 (drop (sp - STACK) ys) ≡ take 8 (drop (sp - STACK) xs)) → HasReturnAt link general sp xs → HasReturnAt link general sp ys
-return_same None general sp xs ys same h = (h.0, same refl ∙ h.1)
-return_same (Some link) general sp xs ys same h = h
 
 -- ---- open calls
 

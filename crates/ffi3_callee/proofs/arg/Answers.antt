@@ -35,20 +35,8 @@ lend_stack-requires-clause-high g c =
     let size_is = c.size-size.ensures.value ∙ ap size_of (c.arg-ty.ensures ∙ ap (λ r. tree_at r.arguments c.args.i) c.checked_sig-sig.ensures.value) in
     omega (arith, c.block.ensures, offset_is, size_is, least_multiple-above 8 (size_of (tree_at s.arguments c.args.i)), whole_within s c.args.i c.requires.in_range, c.requires.incoming.entry, c.requires.incoming.high)
 
-pub returns-clause-are : goal.returns-clause-are
-returns-clause-are g c =
-    let s = c.args.cif.now in
-    let block = c.args.incoming.now.block in
-    let offset_is = c.offset_of-offset.ensures ∙ ap (λ r. block_offset r.arguments c.args.i) c.checked_sig-sig.ensures.value in
-    let size_is = c.size-size.ensures.value ∙ ap size_of (c.arg-ty.ensures ∙ ap (λ r. tree_at r.arguments c.args.i) c.checked_sig-sig.ensures.value) in
-    c.lend_stack.ensures.value ∙ ap (λ n. stack_at (n + c.offset_of-offset.result) c.size-size.result c.args.machine.now) c.block.ensures ∙ ap (λ n. stack_at (block + n) c.size-size.result c.args.machine.now) offset_is ∙ ap (λ n. stack_at (block + block_offset s.arguments c.args.i) n c.args.machine.now) size_is
-
-pub returns-clause-count : goal.returns-clause-count
-returns-clause-count g c =
-    c.lend_stack.ensures.len ∙ c.size-size.ensures.value ∙ ap size_of (c.arg-ty.ensures ∙ ap (λ r. tree_at r.arguments c.args.i) c.checked_sig-sig.ensures.value)
-
-pub returns-clause-value : goal.returns-clause-value
-returns-clause-value g c = λ vs all.
+pub returns : goal.returns
+returns g c =
     let s = c.args.cif.now in
     let i = c.args.i in
     let m = c.args.machine.now in
@@ -56,6 +44,10 @@ returns-clause-value g c = λ vs all.
     let block = c.args.incoming.now.block in
     let offset_is = c.offset_of-offset.ensures ∙ ap (λ r. block_offset r.arguments i) c.checked_sig-sig.ensures.value in
     let size_is = c.size-size.ensures.value ∙ ap size_of (c.arg-ty.ensures ∙ ap (λ r. tree_at r.arguments i) c.checked_sig-sig.ensures.value) in
-    let here = c.lend_stack.ensures.value ∙ ap (λ n. stack_at (n + c.offset_of-offset.result) c.size-size.result c.args.machine.now) c.block.ensures ∙ ap (λ n. stack_at (block + n) c.size-size.result m) offset_is ∙ ap (λ n. stack_at (block + block_offset s.arguments i) n m) size_is in
+    let here = c.lend_stack.ensures.value ∙ ap (λ n. stack_at (n + c.offset_of-offset.result) c.size-size.result m) c.block.ensures ∙ ap (λ n. stack_at (block + n) c.size-size.result m) offset_is ∙ ap (λ n. stack_at (block + block_offset s.arguments i) n m) size_is in
     let inside : block_offset s.arguments i + size_of t ≤ block_bytes s = omega (arith, least_multiple-above 8 (size_of t), whole_within s i c.requires.in_range) in
-    ap (value_in t) (here ∙ sym (stack_inside block (block_bytes s) (block_offset s.arguments i) (size_of t) m c.requires.incoming.low inside)) ∙ sym (argument_here s.arguments (stack_at block (block_bytes s) m) i c.requires.in_range) ∙ ap (λ ws. slice_index_or ws i void_value) all
+    record {
+      are = here;
+      count = c.lend_stack.ensures.len ∙ size_is;
+      value = λ vs all. ap (value_in t) (here ∙ sym (stack_inside block (block_bytes s) (block_offset s.arguments i) (size_of t) m c.requires.incoming.low inside)) ∙ sym (argument_here s.arguments (stack_at block (block_bytes s) m) i c.requires.in_range) ∙ ap (λ ws. slice_index_or ws i void_value) all;
+    }

@@ -9,7 +9,8 @@ use Rattle.ffi3_caller.specs.Called.{at_frame, frame_start}
 use Rattle.ffi3_caller.proofs.Framing.{loaded_moved}
 use Rattle.ffi3_machine_transfer.specs.Passing.{passing}
 use Rattle.ffi3_caller.specs.Loaded.{AreWithin}
-use Rattle.ffi3_caller.proofs.Results.{are_within, in_registers, direct_value, buffer_within, hidden_value}
+use Rattle.ffi3_machine_transfer.proofs.Outcomes.{buffer_within}
+use Rattle.ffi3_caller.proofs.Results.{are_within, in_registers, direct_value, hidden_value}
 use Rattle.ffi3_caller.proofs.load_result.Goals as goal
 
 pub load_pieces-requires-clause-registers : goal.load_pieces-requires-clause-registers

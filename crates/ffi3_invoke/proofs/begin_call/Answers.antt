@@ -10,30 +10,21 @@ pass_arguments-requires-clause-room g c =
     let need : need_of std s ≡ frame_of std s + std.link + std.save + block_bytes s = refl in
     omega (arith, need, c.requires.room)
 
-pub accept-requires-clause-target : goal.accept-requires-clause-target
-accept-requires-clause-target g c = c.pass_arguments.ensures.within.target ∙ c.requires.target
-
-pub accept-requires-clause-entry : goal.accept-requires-clause-entry
-accept-requires-clause-entry g c = c.pass_arguments.ensures.pc
-
-pub accept-requires-clause-room : goal.accept-requires-clause-room
-accept-requires-clause-room g c =
+pub accept-requires : goal.accept-requires
+accept-requires g c =
     let std = g.A.Abi.standard in
     let s = c.args.cif.now in
+    let passed = c.pass_arguments.ensures in
     let need : need_of std s ≡ frame_of std s + std.link + std.save + block_bytes s = refl in
-    omega (arith, need, c.requires.room, c.pass_arguments.ensures.sp)
-
-pub accept-requires-clause-frame : goal.accept-requires-clause-frame
-accept-requires-clause-frame g c = omega (arith, c.requires.top, c.pass_arguments.ensures.sp)
-
-pub accept-requires-clause-some : goal.accept-requires-clause-some
-accept-requires-clause-some g c = (c.args.values.now, c.pass_arguments.ensures.holds.own)
-
-pub accept-requires-clause-events : goal.accept-requires-clause-events
-accept-requires-clause-events g c = omega (arith, c.requires.events, c.pass_arguments.ensures.spare_events)
-
-pub accept-requires-clause-bytes : goal.accept-requires-clause-bytes
-accept-requires-clause-bytes g c = omega (arith, c.requires.bytes, c.pass_arguments.ensures.spare_bytes)
+    record {
+      target = passed.within.target ∙ c.requires.target;
+      entry = passed.pc;
+      room = omega (arith, need, c.requires.room, passed.sp);
+      frame = omega (arith, c.requires.top, passed.sp);
+      some = (c.args.values.now, passed.holds.own);
+      events = omega (arith, c.requires.events, passed.spare_events);
+      bytes = omega (arith, c.requires.bytes, passed.spare_bytes);
+    }
 
 pub returns-clause-begun : goal.returns-clause-begun
 returns-clause-begun g c =

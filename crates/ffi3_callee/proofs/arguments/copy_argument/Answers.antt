@@ -37,60 +37,48 @@ copy_registers-requires-clause-within c =
     let t = c.args.ty.now in
     within_wider (size_of t) (c.args.base - c.args.to) c.in-Direct.pieces (omega (arith, c.requires.below)) (parts_within t c.in-Direct.pieces (size_of t) refl (subst (PlaceHasAll t) c.in-Direct.is c.requires.has_all))
 
-pub copy_stack-requires-clause-from_low : goal.copy_stack-requires-clause-from_low
-copy_stack-requires-clause-from_low c =
-    let found = subst (IsFound c.args.base (passing c.args.machine.now)) c.in-ByRef.is c.requires.found in
-    omega (arith, c.place_word-start.ensures, found, c.requires.low, c.requires.below)
-
-pub copy_stack-requires-clause-from_high : goal.copy_stack-requires-clause-from_high
-copy_stack-requires-clause-from_high c =
+pub copy_stack-requires : goal.copy_stack-requires
+copy_stack-requires c =
     let found = subst (IsFound c.args.base (passing c.args.machine.now)) c.in-ByRef.is c.requires.found in
     let lies = subst (PlaceLies (STACK_TOP - c.args.base) c.args.ty.now) c.in-ByRef.is c.requires.lies in
-    omega (arith, c.place_word-start.ensures, found, lies.1, c.address-at.ensures.high, c.size.ensures.value)
+    record {
+      from_low = omega (arith, c.place_word-start.ensures, found, c.requires.low, c.requires.below);
+      from_high = omega (arith, c.place_word-start.ensures, found, lies.1, c.address-at.ensures.high, c.size.ensures.value);
+      to_low = c.requires.low;
+      to_high = omega (arith, c.requires.below, c.address-at.ensures.high, c.size.ensures.value);
+    }
 
-pub returns-in-Direct-clause-only : goal.returns-in-Direct-clause-only
-returns-in-Direct-clause-only c =
+pub returns-in-Direct : goal.returns-in-Direct
+returns-in-Direct c =
     let t = c.args.ty.now in
     let room = STACK_TOP - c.args.base in
-    let all = subst (PlaceHasAll t) c.in-Direct.is c.requires.has_all in
-    let lie = subst (PlaceLies room t) c.in-Direct.is c.requires.lies in
-    let are = subst (λ p. AreRunsOf (pieces_of p) c.args.runs.now) c.in-Direct.is c.requires.runs in
-    let first = c.copy_runs.ensures.only room (size_of t) (runs_lie t room c.in-Direct.pieces c.args.runs.now all.each lie are) in
-    let second = c.copy_registers.ensures.only (size_of t) (parts_within t c.in-Direct.pieces (size_of t) refl all) in
-    only_then c.args.to (c.args.to + size_of t) (passing c.args.machine.now) (passing c.copy_runs.new.machine) (passing c.copy_registers.new.machine) first second
-
-pub returns-in-Direct-clause-read : goal.returns-in-Direct-clause-read
-returns-in-Direct-clause-read c =
-    let t = c.args.ty.now in
-    let room = STACK_TOP - c.args.base in
+    let old = passing c.args.machine.now in
+    let mid = passing c.copy_runs.new.machine in
+    let new = passing c.copy_registers.new.machine in
     let all = subst (PlaceHasAll t) c.in-Direct.is c.requires.has_all in
     let lie = subst (PlaceLies room t) c.in-Direct.is c.requires.lies in
     let are = subst (λ p. AreRunsOf (pieces_of p) c.args.runs.now) c.in-Direct.is c.requires.runs in
     let first = c.copy_runs.ensures.only room (size_of t) (runs_lie t room c.in-Direct.pieces c.args.runs.now all.each lie are) in
     let second = c.copy_registers.ensures.only (size_of t) (parts_within t c.in-Direct.pieces (size_of t) refl all) in
     let fits : c.args.to - STACK + size_of t ≤ length c.copy_registers.new.machine.stack = omega (arith, first.within.size, second.within.size, c.requires.low, c.requires.below, c.address-at.ensures.high, c.facts.ensures.stack) in
-    subst (λ p. IsRead c.args.base (passing c.args.machine.now) t p (stack_at c.args.to (size_of t) (passing c.copy_registers.new.machine))) (sym c.in-Direct.is)
-    (direct_read c.args.base c.args.to t c.in-Direct.pieces c.args.runs.now c.requires.low c.requires.below all.each are (passing c.args.machine.now) (passing c.copy_runs.new.machine) (passing c.copy_registers.new.machine) first c.copy_runs.ensures c.copy_registers.ensures fits all)
+    record {
+      read = subst (λ p. IsRead c.args.base old t p (stack_at c.args.to (size_of t) new)) (sym c.in-Direct.is) (direct_read c.args.base c.args.to t c.in-Direct.pieces c.args.runs.now c.requires.low c.requires.below all.each are old mid new first c.copy_runs.ensures c.copy_registers.ensures fits all);
+      only = only_then c.args.to (c.args.to + size_of t) old mid new first second;
+    }
 
-pub returns-in-ByRef-clause-only : goal.returns-in-ByRef-clause-only
-returns-in-ByRef-clause-only c =
+pub returns-in-ByRef : goal.returns-in-ByRef
+returns-in-ByRef c =
     let t = c.args.ty.now in
     let m = passing c.args.machine.now in
+    let new = passing c.copy_stack.new.self in
     let start = c.place_word-start.result in
     let found = subst (IsFound c.args.base m) c.in-ByRef.is c.requires.found in
     let lies = subst (PlaceLies (STACK_TOP - c.args.base) t) c.in-ByRef.is c.requires.lies in
     let is = (ap passing c.copy_stack.ensures) ∙ ap (λ n. stored c.args.to (stack_at start n m) m) c.size.ensures.value in
-    copied_only c.args.to start (size_of t) m (passing c.copy_stack.new.self) c.requires.low (omega (arith, c.place_word-start.ensures, found, lies.1, c.requires.low, c.requires.below, c.address-at.ensures.high, c.facts.ensures.stack)) (omega (arith, c.requires.low, c.requires.below, c.address-at.ensures.high, c.facts.ensures.stack)) is
-
-pub returns-in-ByRef-clause-read : goal.returns-in-ByRef-clause-read
-returns-in-ByRef-clause-read c =
-    let t = c.args.ty.now in
-    let m = passing c.args.machine.now in
-    let start = c.place_word-start.result in
-    let found = subst (IsFound c.args.base m) c.in-ByRef.is c.requires.found in
-    let lies = subst (PlaceLies (STACK_TOP - c.args.base) t) c.in-ByRef.is c.requires.lies in
-    let is = (ap passing c.copy_stack.ensures) ∙ ap (λ n. stored c.args.to (stack_at start n m) m) c.size.ensures.value in
-    let there = copied_there c.args.to start (size_of t) m (passing c.copy_stack.new.self) c.requires.low (omega (arith, c.place_word-start.ensures, found, lies.1, c.requires.low, c.requires.below, c.address-at.ensures.high, c.facts.ensures.stack)) (omega (arith, c.requires.low, c.requires.below, c.address-at.ensures.high, c.facts.ensures.stack)) is in
-    let low : STACK ≤ c.args.base = omega (arith, c.requires.low, c.requires.below) in
-    subst (λ p. IsRead c.args.base m t p (stack_at c.args.to (size_of t) (passing c.copy_stack.new.self))) (sym c.in-ByRef.is)
-    (copy_read c.args.base m t c.in-ByRef.at c.in-ByRef.copy start (stack_at c.args.to (size_of t) (passing c.copy_stack.new.self)) low c.place_word-start.ensures found there)
+    let from : c.place_word-start.result - STACK + size_of c.args.ty.now ≤ length c.args.machine.now.stack = omega (arith, c.place_word-start.ensures, found, lies.1, c.requires.low, c.requires.below, c.address-at.ensures.high, c.facts.ensures.stack) in
+    let into : c.args.to - STACK + size_of c.args.ty.now ≤ length c.args.machine.now.stack = omega (arith, c.requires.low, c.requires.below, c.address-at.ensures.high, c.facts.ensures.stack) in
+    let there = copied_there c.args.to start (size_of t) m new c.requires.low from into is in
+    record {
+      read = subst (λ p. IsRead c.args.base m t p (stack_at c.args.to (size_of t) new)) (sym c.in-ByRef.is) (copy_read c.args.base m t c.in-ByRef.at c.in-ByRef.copy start (stack_at c.args.to (size_of t) new) (omega (arith, c.requires.low, c.requires.below)) c.place_word-start.ensures found there);
+      only = copied_only c.args.to start (size_of t) m new c.requires.low from into is;
+    }

@@ -4,21 +4,21 @@ use Rattle.ffi3_machine_transfer.specs.Passing.{passing}
 use Rattle.ffi3_machine_transfer.specs.Runs.{RunLies}
 use Rattle.ffi3_marshal.proofs.Stepping.{each_drop, each_read}
 use Rattle.ffi3_callee.specs.Moved.{AreRunsMoved}
-use Rattle.ffi3_callee.proofs.Moving.{all_runs_moved, move_run, no_run_moved}
+use Rattle.ffi3_callee.proofs.Moving.{move_run, no_run_moved}
 use Rattle.ffi3_callee.proofs.arguments.copy_runs.Goals as goal
 
 pub loop-i-init : goal.loop-i-init
 loop-i-init c = no_run_moved c.args.base c.args.to c.requires.low c.requires.below c.args.runs.now c.len-i.result (passing c.args.machine.now) (omega arith)
 
-pub copy_stack-requires-clause-from_high : goal.copy_stack-requires-clause-from_high
-copy_stack-requires-clause-from_high c =
+pub copy_stack-requires : goal.copy_stack-requires
+copy_stack-requires c =
     let lies = each_read (RunLies (STACK_TOP - c.args.base) (c.args.base - c.args.to)) c.args.runs.now (c.loop-i.i - 1) c.get-run.result (omega arith) c.get-run.ensures c.requires.lie in
-    omega (arith, lies.0, c.address-from.ensures.value, c.address-from.ensures.high)
-
-pub copy_stack-requires-clause-to_high : goal.copy_stack-requires-clause-to_high
-copy_stack-requires-clause-to_high c =
-    let lies = each_read (RunLies (STACK_TOP - c.args.base) (c.args.base - c.args.to)) c.args.runs.now (c.loop-i.i - 1) c.get-run.result (omega arith) c.get-run.ensures c.requires.lie in
-    omega (arith, lies.1, c.requires.below, c.address-from.ensures.high)
+    record {
+      from_low = omega (arith, c.address-from.ensures.value, c.address-from.ensures.low);
+      from_high = omega (arith, lies.0, c.address-from.ensures.value, c.address-from.ensures.high);
+      to_low = omega (arith, c.requires.low);
+      to_high = omega (arith, lies.1, c.requires.below, c.address-from.ensures.high);
+    }
 
 pub loop-i-preserved : goal.loop-i-preserved
 loop-i-preserved c =
@@ -31,4 +31,5 @@ loop-i-preserved c =
 
 pub returns : goal.returns
 returns c =
-    all_runs_moved c.args.base c.args.to c.requires.low c.requires.below c.args.runs.now c.loop-i.i (passing c.args.machine.now) (passing c.loop-i.machine) (omega arith) c.loop-i.invariant
+    let first : c.loop-i.i ≡ 0 = omega arith in
+    subst (λ i. AreRunsMoved c.args.base c.args.to (drop i c.args.runs.now) (passing c.args.machine.now) (passing c.loop-i.machine)) first c.loop-i.invariant

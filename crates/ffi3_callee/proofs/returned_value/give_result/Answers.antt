@@ -42,43 +42,24 @@ give-requires-clause-result_writable g c =
     let s = c.args.cif.now in
     result_written g.A.Abi.standard s c.args.machine.now.target g.A.Abi.TARGET g.met.A.Abi.agrees (g.met.A.Abi.sound s) g.met.A.Abi.target_is c.requires.target
 
-pub returns-clause-holds : goal.returns-clause-holds
-returns-clause-holds g c =
-    let std = g.A.Abi.standard in
-    let s = c.args.cif.now in
-    let entry = c.args.incoming.now.entry in
-    let base : c.at-base.result ≡ entry + std.link = omega (arith, c.at-base.ensures, c.entry.ensures, c.LINK.ensures, g.met.A.Abi.link_is) in
-    subst (λ n. HoldsResult std s (value_of c.args.value.now) (image_from n (frame_of std s) (passing c.give.new.machine))) base c.give.ensures.holds
-
-pub returns-clause-reserved : goal.returns-clause-reserved
-returns-clause-reserved g c =
+pub returns : goal.returns
+returns g c =
     let std = g.A.Abi.standard in
     let s = c.args.cif.now in
     let m = c.args.machine.now in
     let n = c.give.new.machine in
-    let base = c.at-base.result in
     let res = (plan_of std s).res in
-    let sound = g.met.A.Abi.sound s in
-    own_reserved m n c.facts.ensures c.facts-2.ensures std g.met.A.Abi.agrees (written_target base s.result_type res (passing m) (passing n) c.give.ensures.writes) (written_exchange base s.result_type res (passing m) (passing n) c.give.ensures.writes) (reserved_stay std g.met.A.Abi.agrees (result_uses std res) (passing m) (passing n) (uses_clear std g.met.A.Abi.agrees res sound.result_allowed) c.give.ensures.registers)
-
-pub returns-clause-unused : goal.returns-clause-unused
-returns-clause-unused g c =
-    let std = g.A.Abi.standard in
-    let s = c.args.cif.now in
-    let entry = c.args.incoming.now.entry in
-    keeps_from c.at-base.result (entry + std.link) s.result_type (plan_of std s).res (passing c.args.machine.now) (passing c.give.new.machine) (omega (arith, c.at-base.ensures, c.entry.ensures, c.LINK.ensures, g.met.A.Abi.link_is)) c.give.ensures.unused
-
-pub returns-clause-saved : goal.returns-clause-saved
-returns-clause-saved g c = λ start hidden entry_state saved.
-    let std = g.A.Abi.standard in
-    let s = c.args.cif.now in
+    let agrees = g.met.A.Abi.agrees in
     let incoming = c.requires.incoming in
-    saved_below (c.args.incoming.now.entry - std.save) c.at-base.result start s.result_type (plan_of std s).res hidden std.save_area entry_state (passing c.args.machine.now) (passing c.give.new.machine) (omega (arith, c.at-base.ensures, c.entry.ensures, incoming.low, incoming.entry)) (omega (arith, c.at-base.ensures, c.entry.ensures, g.met.A.Abi.agrees.area, incoming.entry)) c.give.ensures.writes saved
-
-pub returns-clause-writes : goal.returns-clause-writes
-returns-clause-writes g c =
-    let std = g.A.Abi.standard in
-    let s = c.args.cif.now in
-    let entry = c.args.incoming.now.entry in
-    let base : c.at-base.result ≡ entry + std.link = omega (arith, c.at-base.ensures, c.entry.ensures, c.LINK.ensures, g.met.A.Abi.link_is) in
-    subst (λ n. ResultWrites n s.result_type (plan_of std s).res (passing c.args.machine.now) (passing c.give.new.machine)) base c.give.ensures.writes
+    let writes = c.give.ensures.writes in
+    let base : c.at-base.result ≡ c.args.incoming.now.entry + std.link = omega (arith, c.at-base.ensures, c.entry.ensures, c.LINK.ensures, g.met.A.Abi.link_is) in
+    let stay = reserved_stay std agrees (result_uses std res) (passing m) (passing n) (uses_clear std agrees res (g.met.A.Abi.sound s).result_allowed) c.give.ensures.registers in
+    record {
+      holds = subst (λ b. HoldsResult std s (value_of c.args.value.now) (image_from b (frame_of std s) (passing n))) base c.give.ensures.holds;
+      unused = keeps_from c.at-base.result (c.args.incoming.now.entry + std.link) s.result_type res (passing m) (passing n) base c.give.ensures.unused;
+      registers = c.give.ensures.registers;
+      reserved = own_reserved m n c.facts.ensures c.facts-2.ensures std agrees (written_target c.at-base.result s.result_type res (passing m) (passing n) writes) (written_exchange c.at-base.result s.result_type res (passing m) (passing n) writes) stay;
+      saved = λ start hidden before saved. saved_below (c.args.incoming.now.entry - std.save) c.at-base.result start s.result_type res hidden std.save_area before (passing m) (passing n) (omega (arith, incoming.low, incoming.entry)) (omega (arith, base, agrees.area, incoming.low, incoming.entry)) writes saved;
+      writes = subst (λ b. ResultWrites b s.result_type res (passing m) (passing n)) base writes;
+      sp = c.give.ensures.sp;
+    }

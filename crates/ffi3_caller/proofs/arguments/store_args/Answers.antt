@@ -38,25 +38,19 @@ pub at-base-requires-clause-high : goal.at-base-requires-clause-high
 at-base-requires-clause-high g c =
     omega (arith, c.begin_frame.ensures.sp, c.sp.ensures.value, c.requires.top)
 
-pub store_hidden-requires-clause-lie : goal.store_hidden-requires-clause-lie
-store_hidden-requires-clause-lie g c =
-    let std = g.A.Abi.standard in
-    let s = c.args.cif.now in
-    let sound = g.met.A.Abi.sound s in
-    subst (λ r. AllByRecursion (IsPlace (STACK_TOP - c.at-base.result)) (hidden_locs r)) (sym c.result_place.ensures) (hidden_lies std s sound c.sig-sig.ensures.faultless (STACK_TOP - c.at-base.result) (omega (arith, c.begin_frame.ensures.sp, c.requires.top, c.frame.ensures, c.at-base.ensures, c.sp.ensures.value)))
-
-pub store_hidden-requires-clause-writable : goal.store_hidden-requires-clause-writable
-store_hidden-requires-clause-writable g c =
+pub store_hidden-requires : goal.store_hidden-requires
+store_hidden-requires g c =
     let std = g.A.Abi.standard in
     let s = c.args.cif.now in
     let sound = g.met.A.Abi.sound s in
     let target = c.store_places.new.machine.target in
+    let is = sym c.result_place.ensures in
     let write = written_by_law std s sound g.met.A.Abi.agrees c.store_places.new.machine.target _ g.met.A.Abi.target_is (c.store_places.ensures.within.target ∙ c.begin_frame.ensures.within.target ∙ c.requires.target) in
-    subst (λ r. AllByRecursion (IsWritable target) (hidden_locs r)) (sym c.result_place.ensures) (each_first (IsWritable target) (hidden_locs (plan_of std s).res) (flat_map place_locs (plan_of std s).places) write)
-
-pub store_hidden-requires-clause-whole : goal.store_hidden-requires-clause-whole
-store_hidden-requires-clause-whole g c =
-    subst (λ r. AllByRecursion IsWhole (hidden_locs r)) (sym c.result_place.ensures) (g.met.A.Abi.sound c.args.cif.now).address
+    record {
+      lie = subst (λ r. AllByRecursion (IsPlace (STACK_TOP - c.at-base.result)) (hidden_locs r)) is (hidden_lies std s sound c.sig-sig.ensures.faultless (STACK_TOP - c.at-base.result) (omega (arith, c.begin_frame.ensures.sp, c.requires.top, c.frame.ensures, c.at-base.ensures, c.sp.ensures.value)));
+      writable = subst (λ r. AllByRecursion (IsWritable target) (hidden_locs r)) is (each_first (IsWritable target) (hidden_locs (plan_of std s).res) (flat_map place_locs (plan_of std s).places) write);
+      whole = subst (λ r. AllByRecursion IsWhole (hidden_locs r)) is sound.address;
+    }
 
 pub put_count-requires-clause-registers : goal.put_count-requires-clause-registers
 put_count-requires-clause-registers g c =

@@ -3,7 +3,8 @@ use Rattle.ffi3_type_spec.proofs.Placed.{faultless_is_plain}
 use Rattle.ffi3_place_spec.proofs.OnMachine.{as_before}
 use Rattle.ffi3_machine_transfer.specs.Passing.{by_exchange}
 use Rattle.ffi3_caller.specs.Called.{HasComeBack, come_back_if}
-use Rattle.ffi3_caller.proofs.Pushing.{back_preserves, back_reserves, laws_of, result_back, result_law_of}
+use Rattle.ffi3_caller.proofs.Pushing.{back_preserves, back_reserves, result_back}
+use Rattle.ffi3_machine_transfer.proofs.Passing.{laws_of}
 use Rattle.ffi3_caller.proofs.return_path.come_back.Goals as goal
 
 pub come_over-requires-clause-frame : goal.come_over-requires-clause-frame
@@ -40,4 +41,4 @@ returns-clause-owns g c = λ v own.
     let sound = as_before std s (g.met.A.Abi.sound s) plain in
     let same : std.target ≡ m.target = g.met.A.Abi.target_is ∙ sym c.requires.target in
     let back = subst (λ n. HasComeBack n m c.come_over.new.machine) c.frame.ensures c.come_over.ensures.back in
-    result_back std s m c.come_over.new.machine v sound same (λ e. result_law_of std s m.target (g.met.A.Abi.result_by_stubs s plain) same e) back own
+    result_back std s m c.come_over.new.machine v sound same (λ e. laws_of std m.target (g.met.A.Abi.result_by_stubs s plain) same e) back own

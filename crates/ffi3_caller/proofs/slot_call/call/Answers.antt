@@ -3,7 +3,8 @@ use Rattle.ffi3_type_spec.specs.declared.limits.TheConstants.{STACK}
 use Rattle.ffi3_type_spec.specs.TargetIsa.{isa_of}
 use Rattle.ffi3_place_spec.specs.MachineRegisters.{pushed_bytes}
 use Rattle.ffi3_place_spec.specs.Standard.{frame_of}
-use Rattle.ffi3_caller.proofs.Pushing.{call_preserves, call_reserves, holds_after_call, laws_of, pushed_is}
+use Rattle.ffi3_caller.proofs.Pushing.{call_preserves, call_reserves, holds_after_call, pushed_is}
+use Rattle.ffi3_machine_transfer.proofs.Passing.{laws_of}
 use Rattle.ffi3_caller.proofs.slot_call.call.Goals as goal
 
 pub call_slot-requires-clause-room : goal.call_slot-requires-clause-room

@@ -6,32 +6,19 @@ use Rattle.ffi3_callee.specs.Given.{ReservedStay}
 use Rattle.ffi3_callee.specs.Received.{IsReceived, OwnsAtEntry}
 use Rattle.ffi3_invoke.specs.Calls.{entry_at}
 use Rattle.ffi3_invoke.proofs.Accepted.{counted, in_callee, reserved_beside, within_beside}
-use Rattle.ffi3_invoke.proofs.Passed.{reserved_places_lie, same_in}
+use Rattle.ffi3_callee.proofs.Keeping.{reserved_there}
+use Rattle.ffi3_invoke.proofs.Passed.{same_in}
 use Rattle.ffi3_invoke.proofs.callee_side.accept.Goals as goal
 
 pub overflow_add-bytes : goal.overflow_add-bytes
-overflow_add-bytes g c =
-    let std = g.A.Abi.standard in
-    let s = c.args.cif.now in
-    let m = c.args.machine.now in
-    let sized : c.LINK.result + c.frame.result ≡ std.link + frame_of std s = omega (arith, c.LINK.ensures, g.met.A.Abi.link_is, c.frame.ensures) in
-    omega (arith, sized, c.requires.frame)
+overflow_add-bytes g c = omega (arith, c.LINK.ensures, g.met.A.Abi.link_is, c.frame.ensures, c.requires.frame)
 
 pub enter-requires-clause-stack : goal.enter-requires-clause-stack
 enter-requires-clause-stack g c =
-    let std = g.A.Abi.standard in
-    let s = c.args.cif.now in
-    let m = c.args.machine.now in
-    let sized : c.LINK.result + c.frame.result ≡ std.link + frame_of std s = omega (arith, c.LINK.ensures, g.met.A.Abi.link_is, c.frame.ensures) in
-    λ some. (omega (arith, c.requires.room), omega (arith, sized, c.requires.frame))
+    λ some. (omega (arith, c.requires.room), omega (arith, c.LINK.ensures, g.met.A.Abi.link_is, c.frame.ensures, c.requires.frame))
 
 pub enter-requires-clause-bytes : goal.enter-requires-clause-bytes
-enter-requires-clause-bytes g c =
-    let std = g.A.Abi.standard in
-    let s = c.args.cif.now in
-    let m = c.args.machine.now in
-    let sized : c.LINK.result + c.frame.result ≡ std.link + frame_of std s = omega (arith, c.LINK.ensures, g.met.A.Abi.link_is, c.frame.ensures) in
-    omega (arith, sized, c.requires.bytes)
+enter-requires-clause-bytes g c = omega (arith, c.LINK.ensures, g.met.A.Abi.link_is, c.frame.ensures, c.requires.bytes)
 
 pub receive-requires-clause-target : goal.receive-requires-clause-target
 receive-requires-clause-target g c = ap (λ x. x.target) c.enter.ensures ∙ c.requires.target
@@ -74,7 +61,7 @@ returns g c =
       block = c.receive.ensures.block;
       general = subst (λ x. c.receive.new.machine.general ≡ scribbled_general (isa_of x.target) (length x.events) x.general) e_is c.receive.ensures.general ∙ ap (λ n. scribbled_general (isa_of m.target) n m.general) (counted m.events (entry_at std s m));
       floating = subst (λ x. c.receive.new.machine.floating ≡ scribbled_floating (length x.events)) e_is c.receive.ensures.floating ∙ ap scribbled_floating (counted m.events (entry_at std s m));
-      reserved = same_in 0 0 m c.receive.new.machine std.reserved (reserved_places_lie std g.met.A.Abi.agrees) beside;
+      reserved = same_in 0 0 m c.receive.new.machine std.reserved (reserved_there std g.met.A.Abi.agrees) beside;
       sp = received.sp;
       within = within_beside std s g.met.A.Abi.agrees m c.receive.new.machine received;
       spare_events = omega (arith, received.spare_events, c.requires.events);
