@@ -42,27 +42,19 @@ module _ (p : Program) (a : Activation) (c : Closures) where
 
   -- ---- a make
 
-  abbrev made_closure : ℕ → ℕ → Closure
-  made_closure func user =
-      record { func = func; sig = (function_at p func).signature; user = user }
-
-  abbrev made : ℕ → ℕ → Effect
-  made func user =
-      goes_on (pointer_value (slot_address (first_free c))) (with_closure c (first_free c) (Some (made_closure func user)))
-
-  pub make_goes_on : (func user : ℕ) → nat_lt (first_free c) slots ≡ true → effect_of p a c (make func user) ≡ made func user
-  make_goes_on func user room =
-      if_true (nat_lt (first_free c) slots) (made func user) (stops TableFull) room
+  abbrev made : ℕ → ℕ → ℕ → Effect
+  made func sig user =
+      goes_on (pointer_value (slot_address (first_free c))) (with_closure c (first_free c) (Some (record { func = func; sig = sig; user = user })))
 
   pub make_is_full : (func user : ℕ) → nat_lt (first_free c) slots ≡ false → effect_of p a c (make func user) ≡ stops TableFull
   make_is_full func user full =
-      if_false (nat_lt (first_free c) slots) (made func user) (stops TableFull) full
+      if_false (nat_lt (first_free c) slots) (made func (function_at p func).signature user) (stops TableFull) full
 
-  -- the same with a signature that is the function's
-  pub make_goes_with : (func sig user : ℕ) → nat_lt (first_free c) slots ≡ true → sig ≡ (function_at p func).signature → effect_of p a c (make func user) ≡ goes_on (pointer_value (slot_address (first_free c))) (with_closure c (first_free c) (Some (record { func = func; sig = sig; user = user })))
+  -- by a signature that is the function's
+  pub make_goes_with : (func sig user : ℕ) → nat_lt (first_free c) slots ≡ true → sig ≡ (function_at p func).signature → effect_of p a c (make func user) ≡ made func sig user
   make_goes_with func sig user room is =
-      make_goes_on func user room
-      ∙ ap (λ (s : ℕ). goes_on (pointer_value (slot_address (first_free c))) (with_closure c (first_free c) (Some (record { func = func; sig = s; user = user })))) (sym is)
+      if_true (nat_lt (first_free c) slots) (made func (function_at p func).signature user) (stops TableFull) room
+      ∙ ap (λ (s : ℕ). made func s user) (sym is)
 
   -- ---- a free
 

@@ -13,13 +13,12 @@ set_either (x ∷ cs) zero (suc k) n c h = inr h
 set_either (x ∷ cs) (suc i) zero n c h = inr h
 set_either (x ∷ cs) (suc i) (suc k) n c h = set_either cs i k n c h
 
-known_by : (p : Program) (n c : Closure) (P : Type 0) → (P → IsKnown p c) → IsKnown p n → (n ≡ c) ⊎ P → IsKnown p c
-known_by p n c P known new (inl same) = subst (λ (x : Closure). IsKnown p x) same new
-known_by p n c P known new (inr there) = known there
-
 pub known_with : (p : Program) (cs : Closures) (i : ℕ) (n : Closure) → AreKnown p cs → IsKnown p n → AreKnown p (with_closure cs i (Some n))
 known_with p cs i n known new = λ k c h.
-    known_by p n c (slice_index_or cs k None ≡ Some c) (known k c) new (set_either cs i k n c h)
+    elim (set_either cs i k n c h) [
+      | inl same ↦ subst (λ (x : Closure). IsKnown p x) same new
+      | inr there ↦ known k c there
+    ]
 
 none_there : (n k : ℕ) (c : Closure) → slice_index_or (replicate n None) k None ≡ Some c → ⊥
 none_there zero k c h = cc
@@ -43,18 +42,16 @@ known_freed_at p cs (Some i) known = λ k c h. known k c (set_none cs i k c h)
 pub known_freed : (p : Program) (cs : Closures) (ptr : ℕ) → AreKnown p cs → AreKnown p (freed cs ptr)
 known_freed p cs ptr known = known_freed_at p cs (slot_number ptr) known
 
-known_in : (p : Program) (cs : Closures) (number : Option ℕ) (c : Closure) → AreKnown p cs → option_and_then (λ k. slice_index_or cs k None) number ≡ Some c → IsKnown p c
-known_in p cs None c known h = cc
-known_in p cs (Some k) c known h = known k c h
+-- what holds of each live closure holds of the one at an address
+module _ (P : Closure → Type 0) (cs : Closures) (all : (k : ℕ) (c : Closure) → slice_index_or cs k None ≡ Some c → P c) where
+  holds_in : (number : Option ℕ) (c : Closure) → option_and_then (λ k. slice_index_or cs k None) number ≡ Some c → P c
+  holds_in None c h = cc
+  holds_in (Some k) c h = all k c h
 
--- the closure at an address is known
+-- it is known
 pub known_at : (p : Program) (cs : Closures) (ptr : ℕ) (c : Closure) → AreKnown p cs → closure_at cs ptr ≡ Some c → IsKnown p c
-known_at p cs ptr c known h = known_in p cs (slot_number ptr) c known h
+known_at p cs ptr c known h = holds_in (λ x. IsKnown p x) cs known (slot_number ptr) c h
 
-below_in : (count : ℕ) (cs : Closures) (number : Option ℕ) (c : Closure) → AreBelow count cs → option_and_then (λ k. slice_index_or cs k None) number ≡ Some c → c.sig < count
-below_in count cs None c below h = cc
-below_in count cs (Some k) c below h = below k c h
-
--- the signature of the closure at an address is among so many
+-- and its signature is among so many
 pub below_at : (count : ℕ) (cs : Closures) (ptr : ℕ) (c : Closure) → AreBelow count cs → closure_at cs ptr ≡ Some c → c.sig < count
-below_at count cs ptr c below h = below_in count cs (slot_number ptr) c below h
+below_at count cs ptr c below h = holds_in (λ x. x.sig < count) cs below (slot_number ptr) c h

@@ -1,5 +1,5 @@
 -- What each kind of move leads to on a configuration.
-use Rattle.std.proofs.Common.{◌≡◌, ℕ, suc, true, ◌+◌, ◌-◌, ◌≤◌, inl, inr, List, [], ◌∷◌, ◌++◌, length, Option, Some, refl, sym, ap, ◌∙◌, subst, arith, reverse}
+use Rattle.std.proofs.Common.{◌≡◌, ℕ, suc, true, ◌+◌, ◌-◌, ◌≤◌, inl, inr, List, [], ◌∷◌, ◌++◌, length, Option, Some, refl, sym, ap, ◌∙◌, subst, arith, reverse, append-nil}
 use Rattle.std.specs.Prelude.{Bool}
 use Rattle.std.proofs.lemmas.List.{reverse-append}
 use Rattle.ffi3_type_spec.specs.declared.limits.TheConstants.{STACK}
@@ -16,19 +16,17 @@ use Rattle.ffi3_semantics_spec.specs.declared.Stop.{Stop}
 use Rattle.ffi3_semantics_spec.specs.declared.Stop.TheVariants.{MoveLimit}
 use Rattle.ffi3_semantics_spec.specs.Closures.{Closures}
 use Rattle.ffi3_semantics_spec.specs.Lines.{enter_lines, leave_lines}
-use Rattle.ffi3_semantics_spec.specs.Meaning as meaning
-use Rattle.ffi3_semantics_spec.specs.Meaning.{Program, stops, enters, function, callee_of, effect_of, need_at}
+use Rattle.ffi3_semantics_spec.specs.Meaning.{Program, stops, enters, function, callee_of, effect_of, need_at, goes_on}
 use Rattle.ffi3_semantics_spec.specs.Move.{Move, call, return}
 use Rattle.ffi3_semantics_spec.specs.Trace.{TraceItem, Enter, Leave}
 use Rattle.ffi3_small_step_spec.specs.Remainder.{Remainder, Suspended}
 use Rattle.ffi3_small_step_spec.specs.SoFar.{Base, text_after}
 use Rattle.ffi3_small_step_spec.specs.TracingOf.{IsTracingOf}
-use Rattle.ffi3_machine_spec.specs.State.{State, stack_at}
+use Rattle.ffi3_machine_spec.specs.State.{State, stack_at, with_code}
 use Rattle.ffi3_semantics_spec.specs.SeenActivation.{arguments_in}
 use Rattle.ffi3_io_spec.specs.Sink.{SinkState}
-use Rattle.ffi3_io_spec.specs.Written.{TookText}
+use Rattle.ffi3_io_spec.specs.Written.{TookText, LineInterrupted}
 use Rattle.ffi3_io_spec.specs.declared.IoError.{IoError}
-use Rattle.ffi3_io_spec.specs.declared.IoError.TheVariants as cut
 use Rattle.ffi3_callee.specs.declared.Incoming.{Incoming}
 use Rattle.ffi3_invoke.specs.Calls.{HasEnded}
 use Rattle.ffi3_run_state.specs.declared.activation.Activation.{Activation}
@@ -36,20 +34,23 @@ use Rattle.ffi3_run_state.specs.declared.activation.OpenCall.{OpenCall}
 use Rattle.ffi3_run_state.specs.declared.activation.Waiting.{Waiting}
 use Rattle.ffi3_run_state.specs.declared.configuration.Configuration.{Configuration}
 use Rattle.ffi3_run_state.specs.declared.configuration.Turn.{Turn}
-use Rattle.ffi3_run_state.specs.declared.configuration.Turn.TheVariants as turn
 use Rattle.ffi3_run_state.specs.Between.{Beginning, RunState, asking, IsBetween, IsAsking, run_state, run_state_with, open_calls_at}
 use Rattle.ffi3_run_state.specs.Going.{StoppedBy, GoneOn, HasGoneBack, activation_of, and_result}
 use Rattle.ffi3_run_state.specs.Activations.{acting, arguments_at, call_inside, suspended_at, calls_of}
 use Rattle.ffi3_run_state.specs.TraceLines.{last_event, entry_lines, return_lines}
 use Rattle.ffi3_run_state.specs.Turned.{TurnHasStopped, WasInterruptedAfter, LooksAs, turn_of, WentOn, Turned}
-use Rattle.ffi3_io_spec.specs.Written.{LineInterrupted}
 use Rattle.ffi3_run_state.proofs.Blocks.{AreAbove, blocks_above, acting_kept, suspended_kept}
 use Rattle.ffi3_run_state.proofs.Opened.{StaysFrom}
-use Rattle.ffi3_run_state.proofs.Moving.{cut_after, cut_between, looks_as_itself, limit_ends, limit_failed, limit_is_last, move_is_last, stop_ends, stop_failed}
-use Rattle.ffi3_run_state.proofs.Entering as entering
-use Rattle.ffi3_run_state.proofs.Leaving as leaving
+use Rattle.ffi3_run_state.proofs.Moving.{cut_after, cut_between, looks_as_itself, limit_ends, limit_failed, limit_is_last, move_is_last, stop_ends, stop_failed, change_on}
 use Rattle.ffi3_run_state.proofs.Since.{looked_at}
 use Rattle.ffi3_run_state.proofs.Telling.{last_is}
+use Rattle.ffi3_type_spec.specs.declared.Target.{Target}
+use Rattle.ffi3_machine_spec.specs.Slots.{HoldsMap}
+use Rattle.ffi3_run_state.specs.Known.{AreKnown}
+use Rattle.ffi3_semantics_spec.specs.Meaning as meaning
+use Rattle.ffi3_io_spec.specs.declared.IoError.TheVariants as cut
+use Rattle.ffi3_run_state.specs.declared.configuration.Turn.TheVariants as turn
+use Rattle.ffi3_run_state.proofs.Crossing as crossing
 
 pub reverse-last : {X : Type 0} (xs : List X) (x : X) → reverse (xs ++ x ∷ []) ≡ x ∷ reverse xs
 reverse-last xs x = reverse-append xs (x ∷ [])
@@ -160,7 +161,7 @@ module _ {S : Type 0} (p : Program) (base : Base) (all : Remainder) (first : Beg
   abbrev before_call : RunState
   before_call = run_state_with p.signatures served outer closures moves m output current
 
-  module _ (is : IsAsking p base all first own events before_call (call ptr sig args)) (closure : Closure) (does : effect_of p before_call.innermost closures (call ptr sig args) ≡ enters ptr sig (callee_of p before_call.innermost sig args closure)) (m' : State) (incoming : Incoming) (called : entering.HasCalled p base ptr sig args m m' incoming) (standing : S) where
+  module _ (is : IsAsking p base all first own events before_call (call ptr sig args)) (closure : Closure) (does : effect_of p before_call.innermost closures (call ptr sig args) ≡ enters ptr sig (callee_of p before_call.innermost sig args closure)) (m' : State) (incoming : Incoming) (called : crossing.HasCalled p base ptr sig args m m' incoming) (standing : S) where
     abbrev new_call : OpenCall
     new_call = record { sig = sig; incoming = incoming }
 
@@ -182,7 +183,7 @@ module _ {S : Type 0} (p : Program) (base : Base) (all : Remainder) (first : Beg
     innermost_is =
         let site = signature_at p.signatures sig in
         let arguments : arguments_at p.signatures m' (Some new_call) ≡ args = ap (λ (k : ℕ). arguments_in site.arguments (stack_at k (block_bytes site) m')) called.block_is ∙ called.begun.arguments_stand in
-        let low : m'.sp + need_at p sig ≡ m.sp = entering.lower p base all first own events before_call ptr sig args is closure does m' incoming called in
+        let low : m'.sp + need_at p sig ≡ m.sp = crossing.lower p base all first own events before_call ptr sig args is closure does m' incoming called in
         let had : before_call.innermost.left + STACK ≡ m.sp = is.between.left in
         let left : incoming.block - STACK ≡ before_call.innermost.left - need_at p sig = omega (arith, low, had, called.block_is) in
         λ i. record { who = function closure.func; arguments = arguments i; user = closure.user; left = left i; results = [] }
@@ -199,19 +200,19 @@ module _ {S : Type 0} (p : Program) (base : Base) (all : Remainder) (first : Beg
         let event : last_event m'.events ≡ called.begun.entry = ap last_event called.begun.events ∙ last_is m.events called.begun.entry in
         ap (λ (e : Event). entry_lines trace base.standard site e (arguments_in site.arguments (stack_at m'.sp (block_bytes site) m'))) event
         ∙ ap (λ (vs : List ValueTree). entry_lines trace base.standard site called.begun.entry vs) called.begun.arguments_stand
-        ∙ entering.told_lines_are p base all first own events before_call ptr sig args is closure does m' incoming called trace tracing
+        ∙ crossing.told_lines_are p base all first own events before_call ptr sig args is closure does m' incoming called trace tracing
 
     pub call_entered : (output' : SinkState) → TookText (enter_lines first.tracing (text_after p base own) ptr (signature_at p.signatures sig) args) output output' → IsBetween p base all first (own ++ Enter ptr sig args ∷ []) (events ++ called.begun.entry ∷ []) (in_call output')
     call_entered output' told =
-        let there = entering.enters_on p base all first own events before_call ptr sig args is closure does m' incoming called output' told in
-        let same : in_call output' ≡ entering.entered p base all first own events before_call ptr sig args is closure does m' incoming called output' =
+        let there = crossing.enters_on p base all first own events before_call ptr sig args is closure does m' incoming called output' told in
+        let same : in_call output' ≡ crossing.entered p base all first own events before_call ptr sig args is closure does m' incoming called output' =
         λ i. record { innermost = innermost_is i; suspended = suspended_is i; calls = new_call ∷ calls_of served outer; closures = closures; moves = moves; machine = m'; output = output' } in
         subst (λ (x : RunState). IsBetween p base all first (own ++ Enter ptr sig args ∷ []) (events ++ called.begun.entry ∷ []) x) (sym same) there
 
     -- or the run is interrupted there
     pub call_cut_off : (why : IoError) (output' : SinkState) → LineInterrupted (enter_lines first.tracing (text_after p base own) ptr (signature_at p.signatures sig) args) output output' why → WasInterruptedAfter p base all first own (suc moves) why closures moves m' output'
     call_cut_off why output' cut_off =
-        entering.enters_cut p base all first own events before_call ptr sig args is closure does m' incoming called why output' cut_off
+        crossing.enters_cut p base all first own events before_call ptr sig args is closure does m' incoming called why output' cut_off
 
 -- ---- a return
 
@@ -235,7 +236,7 @@ module _ {S : Type 0} (p : Program) (base : Base) (all : Remainder) (first : Beg
 
     above_return : AreAbove m'.sp (calls_of served outer)
     above_return =
-        leaving.others_above p base all first own events a caller w.call others (calls_of served outer) closures moves m output v is m' ended
+        crossing.others_above p base all first own events a caller w.call others (calls_of served outer) closures moves m output v is m' ended
 
     stays_return : StaysFrom m'.sp m m'
     stays_return = ended.above
@@ -245,18 +246,43 @@ module _ {S : Type 0} (p : Program) (base : Base) (all : Remainder) (first : Beg
     return_lines_told trace tracing =
         let event : last_event m'.events ≡ ended.return = ap last_event ended.events ∙ last_is m.events ended.return in
         ap (λ (e : Event). return_lines trace base.standard (signature_at p.signatures w.call.sig) e v) event
-        ∙ leaving.told_lines_are p base all first own events a caller w.call others (calls_of served outer) closures moves m output v is m' ended trace tracing
+        ∙ crossing.told_lines_are_at_return p base all first own events a caller w.call others (calls_of served outer) closures moves m output v is m' ended trace tracing
 
     pub call_returned : (output' : SinkState) → TookText (leave_lines first.tracing (text_after p base own).calls v) output output' → IsBetween p base all first (own ++ Leave w.call.sig v ∷ []) (events ++ ended.return ∷ []) (after_return output')
     call_returned output' told =
-        let there = leaving.returns_on p base all first own events a caller w.call others (calls_of served outer) closures moves m output v is m' ended output' told in
+        let there = crossing.returns_on p base all first own events a caller w.call others (calls_of served outer) closures moves m output v is m' ended output' told in
         let innermost = acting_kept p.signatures m m' m'.sp stays_return served (and_result w.activation v) outer above_return in
         let suspended = suspended_kept p.signatures m m' m'.sp stays_return served outer above_return in
-        let same : after_return output' ≡ leaving.back p base all first own events a caller w.call others (calls_of served outer) closures moves m output v is m' ended output' =
+        let same : after_return output' ≡ crossing.back p base all first own events a caller w.call others (calls_of served outer) closures moves m output v is m' ended output' =
         λ i. record { innermost = innermost i; suspended = suspended i; calls = calls_of served outer; closures = closures; moves = moves; machine = m'; output = output' } in
         subst (λ (x : RunState). IsBetween p base all first (own ++ Leave w.call.sig v ∷ []) (events ++ ended.return ∷ []) x) (sym same) there
 
     -- or the run is interrupted there
     pub return_cut_off : (why : IoError) (output' : SinkState) → LineInterrupted (leave_lines first.tracing (text_after p base own).calls v) output output' why → WasInterruptedAfter p base all first own (suc moves) why closures moves m' output'
     return_cut_off why output' cut_off =
-        leaving.returns_cut p base all first own events a caller w.call others (calls_of served outer) closures moves m output v is m' ended why output' cut_off
+        crossing.returns_cut p base all first own events a caller w.call others (calls_of served outer) closures moves m output v is m' ended why output' cut_off
+
+module _ {S : Type 0} (p : Program) (base : Base) (all : Remainder) (first : Beginning) (own : List TraceItem) (events : List Event) (b : Configuration S) (a : Activation S) (m m' : State) (output : SinkState) (asked : Move) (is : IsAsking p base all first own events (run_state p.signatures a b m output) asked) (r : ValueTree) (closures : Closures) (does : effect_of p (run_state p.signatures a b m output).innermost b.table asked ≡ goes_on r closures) (address : ℕ) (bytes : List ℕ) (written : m' ≡ with_code address bytes m) (holds : HoldsMap m'.target closures m'.code) (known : AreKnown p closures) where
+  abbrev changed_configuration : Configuration S
+  changed_configuration = record b { table = closures }
+
+  changed : IsBetween p base all first (own ++ []) events (run_state p.signatures (and_result a r) changed_configuration m' output)
+  changed =
+      let n = with_code address bytes m in
+      let h = subst (λ (k : State). HoldsMap k.target closures k.code) written holds in
+      let target : m.target ≡ base.standard.target = is.between.calls.target in
+      let here = subst (λ (t : Target). HoldsMap t closures n.code) target h in
+      let on = change_on p base all first own events (run_state p.signatures a b m output) asked is r closures does address bytes here known in
+      let P = λ (k : State). IsBetween p base all first own events (run_state p.signatures (and_result a r) changed_configuration k output) in
+      let Q = λ (l : List TraceItem). IsBetween p base all first l events (run_state p.signatures (and_result a r) changed_configuration m' output) in
+      subst Q (sym (append-nil own)) (subst P (sym written) on)
+
+  -- the run goes on, or there is no memory for the result
+  pub made_on : (b' : Configuration S) (t : Turn) → GoneOn r a changed_configuration b' t → Turned p base all first own (suc b.moves) b' m' output t
+  made_on b' t gone =
+      goes p base all first own changed_configuration b' a m' output r [] events t (omega arith) gone changed
+
+  -- there is no memory for it
+  pub made_refused : WasInterruptedAfter p base all first own (suc b.moves) cut.NoMemory closures b.moves m' output
+  made_refused =
+      cut_after p base all first own [] events (run_state p.signatures (and_result a r) changed_configuration m' output) (suc b.moves) b.moves m' (omega arith) (inl refl) (omega arith, omega arith) (omega arith) (looks_as_itself m') changed

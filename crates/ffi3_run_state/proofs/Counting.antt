@@ -116,28 +116,14 @@ counts_from_none target trace =
 
 -- ---- by entries and returns
 
-entry_more : (item s more more' others : ℕ) → s ≡ more + others → more' ≡ more + item → item + s ≡ more' + others
-entry_more item s more more' others sum grown = omega (arith, sum, grown)
-
-return_more : (item s more more' others : ℕ) → s ≡ others + more → more' ≡ more + item → item + s ≡ others + more'
-return_more item s more more' others sum grown = omega (arith, sum, grown)
-
-nentry_more : (s t : ℕ) → s ≡ t → 0 + s ≡ t
-nentry_more s t same = omega (arith, same)
-
 pub by_kind : (target : Target) (trace : List TraceItem) → steps_in target trace ≡ entry_steps target * entries_in trace + return_steps target * returns_in trace
-by_kind target [] =
-    let a : entry_steps target * 0 ≡ 0 = mul-zero (entry_steps target) in
-    let b : return_steps target * 0 ≡ 0 = mul-zero (return_steps target) in
-    sym (ap (λ (k : ℕ). k + return_steps target * 0) a ∙ ap (λ (k : ℕ). 0 + k) b)
+by_kind target [] = omega (arith, mul-zero (entry_steps target), mul-zero (return_steps target))
 by_kind target (Enter ptr sig args ∷ later) =
-    entry_more (entry_steps target) (steps_in target later) (entry_steps target * entries_in later) (entry_steps target * suc (entries_in later)) (return_steps target * returns_in later) (by_kind target later) (mul-suc (entry_steps target) (entries_in later))
-by_kind target (Line t v ∷ later) =
-    nentry_more (steps_in target later) (entry_steps target * entries_in later + return_steps target * returns_in later) (by_kind target later)
+    omega (arith, by_kind target later, mul-suc (entry_steps target) (entries_in later))
+by_kind target (Line t v ∷ later) = omega (arith, by_kind target later)
 by_kind target (Leave sig r ∷ later) =
-    return_more (return_steps target) (steps_in target later) (return_steps target * returns_in later) (return_steps target * suc (returns_in later)) (entry_steps target * entries_in later) (by_kind target later) (mul-suc (return_steps target) (returns_in later))
-by_kind target (StopLine stop ∷ later) =
-    nentry_more (steps_in target later) (entry_steps target * entries_in later + return_steps target * returns_in later) (by_kind target later)
+    omega (arith, by_kind target later, mul-suc (return_steps target) (returns_in later))
+by_kind target (StopLine stop ∷ later) = omega (arith, by_kind target later)
 
 -- WHERE EACH CALL HAS RETURNED, each takes the same
 pub whole_calls : (target : Target) (trace : List TraceItem) → entries_in trace ≡ returns_in trace → steps_in target trace ≡ call_steps target * returns_in trace

@@ -10,11 +10,8 @@ pub mod Moving
 pub mod Blocks
 mod Telling
 pub mod Counting
-mod Entering
-mod Leaving
+mod Crossing
 pub mod Configuring
-mod Made
-mod Served
 pub mod Accepting
 mod Transports
 mod Passing

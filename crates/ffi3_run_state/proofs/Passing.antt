@@ -1,7 +1,7 @@
 -- A call whose arguments are passed: what the machine shows at its entry, and what holds once its callee has accepted it.
-use Rattle.std.proofs.Common.{◌≡◌, ℕ, ◌+◌, ◌*◌, ◌≤◌, List, length, refl, ◌∙◌, subst, arith}
+use Rattle.std.proofs.Common.{◌≡◌, ℕ, ◌+◌, ◌*◌, ◌<◌, ◌≤◌, List, length, refl, sym, ◌∙◌, subst, arith}
 use Rattle.ffi3_type_spec.specs.declared.limits.TheConstants.{STACK, STACK_BYTES, STACK_TOP}
-use Rattle.ffi3_type_spec.specs.Signature.{Signature}
+use Rattle.ffi3_type_spec.specs.Signature.{Signature, signature_at}
 use Rattle.ffi3_type_spec.specs.Value.{ValueTree}
 use Rattle.ffi3_place_spec.specs.Agrees.{AgreesWithMachine}
 use Rattle.ffi3_place_spec.specs.Standard.{Standard, block_bytes, frame_of, need_of}
@@ -11,7 +11,10 @@ use Rattle.ffi3_invoke.specs.Calls.{HasBegun, HasPassed, KeepsReserved}
 use Rattle.ffi3_invoke.proofs.Made.{begun}
 use Rattle.ffi3_run_state.specs.Passed.{IsPassed}
 use Rattle.ffi3_run_state.specs.Served.{ShowsCall}
+use Rattle.ffi3_semantics_spec.specs.Meaning.{Program}
+use Rattle.ffi3_small_step_spec.specs.SoFar.{Base}
 use Rattle.ffi3_run_state.proofs.Accepting.{WasAccepted}
+use Rattle.ffi3_run_state.proofs.Crossing.{HasCalled, has_called}
 
 -- by another name of its signature
 pub passed_by : (std : Standard) (s t : Signature) (ptr : ℕ) (args : List ValueTree) (m m' : State) → s ≡ t → IsPassed std s ptr args m m' → IsPassed std t ptr args m m'
@@ -51,3 +54,15 @@ module _ (std : Standard) (s : Signature) (ptr : ℕ) (args : List ValueTree) (b
   pub begins : (m' : State) (incoming : Incoming) → AgreesWithMachine std → WasAccepted std s m m' incoming → KeepsReserved std m m' → HasBegun std s args ptr (with_room (std.link + frame_of std s) before) m'
   begins m' incoming agrees was reserved =
       begun std s agrees args ptr (with_room (std.link + frame_of std s) before) m m' is.size is.room is.top is.passed was.events was.received was.sp was.within reserved was.spare_events was.spare_bytes was.steps was.in_callee
+
+-- by another name of its signature
+pub shows_by : (std : Standard) (s t : Signature) (ptr : ℕ) (args : List ValueTree) (before m : State) → s ≡ t → IsPassed std s ptr args before m → ShowsCall std t args m
+shows_by std s t ptr args before m same is =
+    shows std t ptr args before m (passed_by std s t ptr args before m same is)
+
+-- THE CALL, in the words of the program, once its callee has accepted it
+pub called_from : (p : Program) (base : Base) (std : Standard) (ss : List Signature) (s : Signature) (ptr sig : ℕ) (args : List ValueTree) (before m m' : State) (incoming : Incoming) → base.standard ≡ std → p.signatures ≡ ss → s ≡ signature_at ss sig → sig < length ss → AgreesWithMachine std → IsPassed std (signature_at ss sig) ptr args before m → (ShowsCall std s args m → WasAccepted std s m m' incoming) → KeepsReserved std m m' → HasCalled p base ptr sig args before m' incoming
+called_from p base std ss s ptr sig args before m m' incoming standard signatures s_is below agrees passed accepts reserved =
+    let is = passed_by std (signature_at ss sig) s ptr args before m (sym s_is) passed in
+    let was = accepts (shows std s ptr args before m is) in
+    has_called p base std ss s ptr sig std.link (frame_of std s) args before (with_room (std.link + frame_of std s) before) m' incoming standard signatures s_is refl refl refl (begins std s ptr args before m is m' incoming agrees was reserved) was.incoming_is was.block below

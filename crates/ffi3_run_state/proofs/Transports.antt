@@ -10,9 +10,6 @@ use Rattle.ffi3_machine_spec.specs.State.{State, stack_at}
 use Rattle.ffi3_semantics_spec.specs.SeenActivation.{arguments_in}
 use Rattle.ffi3_io_spec.specs.Sink.{SinkState}
 use Rattle.ffi3_io_spec.specs.declared.IoError.{IoError}
-use Rattle.ffi3_callee.specs.declared.Incoming.{Incoming}
-use Rattle.ffi3_callee.specs.Received.{IsIncoming}
-use Rattle.ffi3_invoke.specs.Calls.{HasBegun, HasEnded, HasReturned}
 use Rattle.ffi3_run_state.specs.TraceLines.{last_event, entry_lines, return_lines}
 use Rattle.ffi3_io_spec.specs.Written.{LineInterrupted}
 
@@ -20,30 +17,9 @@ use Rattle.ffi3_io_spec.specs.Written.{LineInterrupted}
 pub numbered : (p : Program) (ss : List Signature) (i : ℕ) (s : Signature) → p.signatures ≡ ss → s ≡ signature_at ss i → s ≡ signature_at p.signatures i
 numbered p ss i s same is = is ∙ ap (λ (l : List Signature). signature_at l i) (sym same)
 
-pub begun_as : (std std' : Standard) (s s' : Signature) (args : List ValueTree) (ptr : ℕ) (m₀ m₀' m : State) → std ≡ std' → s ≡ s' → m₀ ≡ m₀' → HasBegun std s args ptr m₀ m → HasBegun std' s' args ptr m₀' m
-begun_as std std' s s' args ptr m₀ m₀' m a b c h =
-    let P = λ (x : Standard). HasBegun x s' args ptr m₀' m in
-    let Q = λ (x : Signature). HasBegun std x args ptr m₀' m in
-    let R = λ (x : State). HasBegun std s args ptr x m in
-    subst P a (subst Q b (subst R c h))
-
-pub incoming_as : (std std' : Standard) (s s' : Signature) (i : Incoming) → std ≡ std' → s ≡ s' → IsIncoming std s i → IsIncoming std' s' i
-incoming_as std std' s s' i a b h =
-    let P = λ (x : Standard). IsIncoming x s' i in
-    let Q = λ (x : Signature). IsIncoming std x i in
-    subst P a (subst Q b h)
-
-pub ended_as : (std std' : Standard) (s s' : Signature) (v : ValueTree) (m m' : State) → std ≡ std' → s ≡ s' → HasEnded std s v m m' → HasEnded std' s' v m m'
-ended_as std std' s s' v m m' a b h =
-    let P = λ (x : Standard). HasEnded x s' v m m' in
-    let Q = λ (x : Signature). HasEnded std x v m m' in
-    subst P a (subst Q b h)
-
-pub returned_as : (std std' : Standard) (s s' : Signature) (v : ValueTree) (m m' : State) → std ≡ std' → s ≡ s' → HasReturned std s v m m' → HasReturned std' s' v m m'
-returned_as std std' s s' v m m' a b h =
-    let P = λ (x : Standard). HasReturned x s' v m m' in
-    let Q = λ (x : Signature). HasReturned std x v m m' in
-    subst P a (subst Q b h)
+pub by_names : (P : Standard → Signature → Type 0) (std std' : Standard) (s s' : Signature) → std ≡ std' → s ≡ s' → P std s → P std' s'
+by_names P std std' s s' a b h =
+    subst (λ (x : Standard). P x s') a (subst (λ (x : Signature). P std x) b h)
 
 -- what holds of a machine holds of it as it is left, where nothing was done to it since
 pub as_left : (Q : State → Type 0) (m left : State) → Q m → left ≡ m → Q left

@@ -1,5 +1,6 @@
-//! The state of a run between two moves, and what each kind of move does to it, to the machine and to the output: of any
-//! nesting of calls, by any calling standard. Which move is next is not known here.
+//! A run that is under way: its open calls, live closures and moves left, and one function for each kind of move, which
+//! prints, makes or frees a closure, calls, returns or stops. Calls may nest to any depth, by any calling standard; which
+//! move is next is decided elsewhere.
 #![tactic(auto)]
 
 mod activation;

@@ -22,28 +22,23 @@ accept-incoming-requires-clause-entry g c = c.requires.shows.1.entry
 
 pub accept-incoming-requires-clause-room : goal.accept-incoming-requires-clause-room
 accept-incoming-requires-clause-room g c =
-    let shows = subst (λ (s : Signature). ShowsCall g.A.Abi.standard s c.requires.shows.0 c.args.machine.now) (sym c.get-cif.ensures) c.requires.shows.1 in
-    shows.room
+    (subst (λ (s : Signature). ShowsCall g.A.Abi.standard s c.requires.shows.0 c.args.machine.now) (sym c.get-cif.ensures) c.requires.shows.1).room
 
 pub accept-incoming-requires-clause-frame : goal.accept-incoming-requires-clause-frame
 accept-incoming-requires-clause-frame g c =
-    let shows = subst (λ (s : Signature). ShowsCall g.A.Abi.standard s c.requires.shows.0 c.args.machine.now) (sym c.get-cif.ensures) c.requires.shows.1 in
-    shows.frame
+    (subst (λ (s : Signature). ShowsCall g.A.Abi.standard s c.requires.shows.0 c.args.machine.now) (sym c.get-cif.ensures) c.requires.shows.1).frame
 
 pub accept-incoming-requires-clause-some : goal.accept-incoming-requires-clause-some
 accept-incoming-requires-clause-some g c =
-    let shows = subst (λ (s : Signature). ShowsCall g.A.Abi.standard s c.requires.shows.0 c.args.machine.now) (sym c.get-cif.ensures) c.requires.shows.1 in
-    (c.requires.shows.0, shows.owns)
+    (c.requires.shows.0, (subst (λ (s : Signature). ShowsCall g.A.Abi.standard s c.requires.shows.0 c.args.machine.now) (sym c.get-cif.ensures) c.requires.shows.1).owns)
 
 pub accept-incoming-requires-clause-events : goal.accept-incoming-requires-clause-events
 accept-incoming-requires-clause-events g c =
-    let two = c.requires.shows.1.events in omega (arith, two)
+    omega (arith, c.requires.shows.1.events)
 
 pub accept-incoming-requires-clause-bytes : goal.accept-incoming-requires-clause-bytes
 accept-incoming-requires-clause-bytes g c =
-    let shows = subst (λ (s : Signature). ShowsCall g.A.Abi.standard s c.requires.shows.0 c.args.machine.now) (sym c.get-cif.ensures) c.requires.shows.1 in
-    let enough = shows.bytes in
-    omega (arith, enough)
+    omega (arith, (subst (λ (s : Signature). ShowsCall g.A.Abi.standard s c.requires.shows.0 c.args.machine.now) (sym c.get-cif.ensures) c.requires.shows.1).bytes)
 
 pub tell_entry-requires-clause-recorded : goal.tell_entry-requires-clause-recorded
 tell_entry-requires-clause-recorded g c =
@@ -52,17 +47,11 @@ tell_entry-requires-clause-recorded g c =
 
 pub tell_entry-requires-clause-low : goal.tell_entry-requires-clause-low
 tell_entry-requires-clause-low g c =
-    let shows = subst (λ (s : Signature). ShowsCall g.A.Abi.standard s c.requires.shows.0 c.args.machine.now) (sym c.get-cif.ensures) c.requires.shows.1 in
-    let room = shows.room in
-    let sp = c.accept-incoming.ensures.sp in
-    omega (arith, room, sp)
+    omega (arith, (subst (λ (s : Signature). ShowsCall g.A.Abi.standard s c.requires.shows.0 c.args.machine.now) (sym c.get-cif.ensures) c.requires.shows.1).room, c.accept-incoming.ensures.sp)
 
 pub tell_entry-requires-clause-high : goal.tell_entry-requires-clause-high
 tell_entry-requires-clause-high g c =
-    let shows = subst (λ (s : Signature). ShowsCall g.A.Abi.standard s c.requires.shows.0 c.args.machine.now) (sym c.get-cif.ensures) c.requires.shows.1 in
-    let frame = shows.frame in
-    let sp = c.accept-incoming.ensures.sp in
-    omega (arith, frame, sp)
+    omega (arith, (subst (λ (s : Signature). ShowsCall g.A.Abi.standard s c.requires.shows.0 c.args.machine.now) (sym c.get-cif.ensures) c.requires.shows.1).frame, c.accept-incoming.ensures.sp)
 
 pub returns-in-Err-clause-accepted : goal.returns-in-Err-clause-accepted
 returns-in-Err-clause-accepted g c = λ p arguments signatures needs shown holds known few.

@@ -12,9 +12,8 @@ use Rattle.ffi3_run_state.specs.Between.{run_state}
 use Rattle.ffi3_run_state.specs.Known.{AreKnown}
 use Rattle.ffi3_run_state.specs.Turned.{Turned}
 use Rattle.ffi3_run_state.proofs.Acts.{free_finds_none, free_goes_on}
-use Rattle.ffi3_run_state.proofs.Configuring.{stops_at}
+use Rattle.ffi3_run_state.proofs.Configuring.{stops_at, made_on}
 use Rattle.ffi3_run_state.proofs.Closed.{known_freed}
-use Rattle.ffi3_run_state.proofs.Made.{made_on}
 use Rattle.ffi3_run_state.proofs.configuration.Configuration.free.Goals as goal
 
 pub returns-in-Some-clause-turned : goal.returns-in-Some-clause-turned

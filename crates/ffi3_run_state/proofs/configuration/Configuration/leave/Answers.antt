@@ -2,6 +2,8 @@ use Rattle.std.proofs.Common.{◌≡◌, true, List, [], ◌∷◌, ◌++◌, re
 use Rattle.ffi3_type_spec.specs.Signature.{Signature, signature_at}
 use Rattle.ffi3_type_spec.specs.Value.{ValueTree, fits}
 use Rattle.ffi3_values.specs.ValueOf.{value_of}
+use Rattle.ffi3_place_spec.specs.Standard.{Standard}
+use Rattle.ffi3_invoke.specs.Calls.{HasEnded}
 use Rattle.ffi3_semantics_spec.specs.Move.{return}
 use Rattle.ffi3_semantics_spec.specs.Trace.{Leave}
 use Rattle.ffi3_run_state.specs.declared.activation.Waiting.{Waiting}
@@ -14,7 +16,7 @@ use Rattle.ffi3_run_state.specs.Activations.{call_inside, calls_of, result_type_
 use Rattle.ffi3_run_state.specs.Stack.{HoldsCalls}
 use Rattle.ffi3_run_state.proofs.Configuring.{goes, goes_off, gone_back, call_returned, return_cut_off, return_lines_told, popped_holds, popped_state}
 use Rattle.ffi3_run_state.proofs.Opened.{is_called, is_incoming}
-use Rattle.ffi3_run_state.proofs.Transports.{cut_as, ended_as, return_told_as}
+use Rattle.ffi3_run_state.proofs.Transports.{by_names, cut_as, return_told_as}
 use Rattle.ffi3_run_state.proofs.configuration.Configuration.leave.Goals as goal
 
 pub leave_run-requires-clause-stand : goal.leave_run-requires-clause-stand
@@ -43,19 +45,11 @@ returns-in_default-clause-turned g c = λ p base all first own events current st
 
 pub end_with-requires-clause-called : goal.end_with-requires-clause-called
 end_with-requires-clause-called g c =
-    let stand = c.requires.stand in
-    let w = c.in-Some.field-0 in
-    let outer = calls_of c.args.self.now.served (reverse c.pop.new.self.items) in
-    let held = popped_holds g.A.Abi.standard c.args.cifs.now stand.0 stand.1 c.args.machine.now stand.2 c.args.self.now.served c.args.self.now.suspended.items c.pop.new.self.items w c.in-Some.ensures.items stand.3 in
-    is_called g.A.Abi.standard c.args.cifs.now stand.0 stand.1 c.args.machine.now w.call outer stand.2 held
+    is_called g.A.Abi.standard c.args.cifs.now c.requires.stand.0 c.requires.stand.1 c.args.machine.now c.in-Some.field-0.call _ c.requires.stand.2 (popped_holds g.A.Abi.standard c.args.cifs.now c.requires.stand.0 c.requires.stand.1 c.args.machine.now c.requires.stand.2 c.args.self.now.served c.args.self.now.suspended.items c.pop.new.self.items c.in-Some.field-0 c.in-Some.ensures.items c.requires.stand.3)
 
 pub end_with-requires-clause-incoming : goal.end_with-requires-clause-incoming
 end_with-requires-clause-incoming g c =
-    let stand = c.requires.stand in
-    let w = c.in-Some.field-0 in
-    let outer = calls_of c.args.self.now.served (reverse c.pop.new.self.items) in
-    let held = popped_holds g.A.Abi.standard c.args.cifs.now stand.0 stand.1 c.args.machine.now stand.2 c.args.self.now.served c.args.self.now.suspended.items c.pop.new.self.items w c.in-Some.ensures.items stand.3 in
-    is_incoming g.A.Abi.standard c.args.cifs.now stand.0 stand.1 c.args.machine.now w.call outer stand.2 held
+    is_incoming g.A.Abi.standard c.args.cifs.now c.requires.stand.0 c.requires.stand.1 c.args.machine.now c.in-Some.field-0.call _ c.requires.stand.2 (popped_holds g.A.Abi.standard c.args.cifs.now c.requires.stand.0 c.requires.stand.1 c.args.machine.now c.requires.stand.2 c.args.self.now.served c.args.self.now.suspended.items c.pop.new.self.items c.in-Some.field-0 c.in-Some.ensures.items c.requires.stand.3)
 
 pub returns-clause-goes : goal.returns-clause-goes
 returns-clause-goes g c = λ more.
@@ -78,7 +72,7 @@ returns-clause-turned g c = λ p base all first own events current standard sign
     let mid = record b { suspended = c.pop.new.self } in
     let asks = subst (λ (x : RunState). IsAsking p base all first own events x (return v)) (popped_state p.signatures current b m o c.pop.new.self.items w c.in-Some.ensures.items) is in
     let site = ap (λ (l : List Signature). signature_at l w.call.sig) (sym signatures) in
-    let ended = ended_as g.A.Abi.standard base.standard (signature_at c.args.cifs.now w.call.sig) (signature_at p.signatures w.call.sig) v m m' (sym standard) site c.in-Ok.ensures.ended in
+    let ended = by_names (λ (x : Standard) (y : Signature). HasEnded x y v m m') g.A.Abi.standard base.standard (signature_at c.args.cifs.now w.call.sig) (signature_at p.signatures w.call.sig) (sym standard) site c.in-Ok.ensures.ended in
     let lines = return_lines_told p base all first own events b.served w outer b.table b.moves m o current v asks m' ended c.args.trace tracing in
     let told = took_as o o' _ _ (return_told_as c.args.trace g.A.Abi.standard base.standard c.get.result.now (signature_at p.signatures w.call.sig) (last_event m'.events) v _ (sym standard) (c.get.ensures ∙ site) lines) c.in_default-tell_return.ensures in
     let back = call_returned p base all first own events b.served w outer b.table b.moves m o current v asks m' ended o' told in
@@ -96,7 +90,7 @@ returns-in-Err-clause-turned g c = λ p base all first own events current standa
     let outer = reverse c.pop.new.self.items in
     let asks = subst (λ (x : RunState). IsAsking p base all first own events x (return v)) (popped_state p.signatures current b m o c.pop.new.self.items w c.in-Some.ensures.items) is in
     let site = ap (λ (l : List Signature). signature_at l w.call.sig) (sym signatures) in
-    let ended = ended_as g.A.Abi.standard base.standard (signature_at c.args.cifs.now w.call.sig) (signature_at p.signatures w.call.sig) v m m' (sym standard) site c.in-Err.ensures.ended in
+    let ended = by_names (λ (x : Standard) (y : Signature). HasEnded x y v m m') g.A.Abi.standard base.standard (signature_at c.args.cifs.now w.call.sig) (signature_at p.signatures w.call.sig) (sym standard) site c.in-Err.ensures.ended in
     return_cut_off p base all first own events b.served w outer b.table b.moves m o current v asks m' ended cut.NoMemory o refl
 
 pub returns-in-Err-tell_return-clause-turned : goal.returns-in-Err-tell_return-clause-turned
@@ -111,7 +105,7 @@ returns-in-Err-tell_return-clause-turned g c = λ p base all first own events cu
     let outer = reverse c.pop.new.self.items in
     let asks = subst (λ (x : RunState). IsAsking p base all first own events x (return v)) (popped_state p.signatures current b m o c.pop.new.self.items w c.in-Some.ensures.items) is in
     let site = ap (λ (l : List Signature). signature_at l w.call.sig) (sym signatures) in
-    let ended = ended_as g.A.Abi.standard base.standard (signature_at c.args.cifs.now w.call.sig) (signature_at p.signatures w.call.sig) v m m' (sym standard) site c.in-Ok.ensures.ended in
+    let ended = by_names (λ (x : Standard) (y : Signature). HasEnded x y v m m') g.A.Abi.standard base.standard (signature_at c.args.cifs.now w.call.sig) (signature_at p.signatures w.call.sig) (sym standard) site c.in-Ok.ensures.ended in
     let lines = return_lines_told p base all first own events b.served w outer b.table b.moves m o current v asks m' ended c.args.trace tracing in
     let told = return_told_as c.args.trace g.A.Abi.standard base.standard c.get.result.now (signature_at p.signatures w.call.sig) (last_event m'.events) v _ (sym standard) (c.get.ensures ∙ site) lines in
     let cut_off = cut_as _ _ o o' c.in-Err-tell_return.why told c.in-Err-tell_return.ensures in

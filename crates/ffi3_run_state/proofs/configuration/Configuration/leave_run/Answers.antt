@@ -4,7 +4,8 @@ use Rattle.ffi3_type_spec.specs.Value.{fits}
 use Rattle.ffi3_values.specs.ValueOf.{value_of}
 use Rattle.ffi3_semantics_spec.specs.Move.{return}
 use Rattle.ffi3_io.proofs.Writing.{took_as}
-use Rattle.ffi3_invoke.specs.Calls.{IsCalled}
+use Rattle.ffi3_invoke.specs.Calls.{HasReturned, IsCalled}
+use Rattle.ffi3_place_spec.specs.Standard.{Standard}
 use Rattle.ffi3_run_state.specs.declared.activation.OpenCall.{OpenCall}
 use Rattle.ffi3_run_state.specs.Between.{RunState, IsAsking}
 use Rattle.ffi3_run_state.specs.Activations.{calls_below, result_type_at}
@@ -12,8 +13,8 @@ use Rattle.ffi3_run_state.specs.Stack.{HoldsCalls}
 use Rattle.ffi3_run_state.specs.TraceLines.{last_event}
 use Rattle.ffi3_run_state.proofs.Configuring.{goes_off, outermost_state}
 use Rattle.ffi3_run_state.proofs.Opened.{is_called}
-use Rattle.ffi3_run_state.proofs.Served.{is_done, lines_told, main_returns, served_cut, served_returns}
-use Rattle.ffi3_run_state.proofs.Transports.{cut_as, numbered, return_told_as, returned_as}
+use Rattle.ffi3_run_state.proofs.Accepting.{is_done, lines_told, main_returns, served_cut, served_returns}
+use Rattle.ffi3_run_state.proofs.Transports.{by_names, cut_as, numbered, return_told_as}
 use Rattle.ffi3_run_state.proofs.configuration.Configuration.leave_run.Goals as goal
 
 pub give_back-requires-clause-called : goal.give_back-requires-clause-called
@@ -48,7 +49,7 @@ returns-in-Ok-clause-turned g c = λ p base all first own events current standar
     let is_served : b.served ≡ Some call = search rules in
     let asks = subst (λ (x : RunState). IsAsking p base all first own events x (return v)) (outermost_state p.signatures current b m o (Some call) c.requires.alone is_served) is in
     let site = numbered p c.args.cifs.now call.sig c.get-cif.result.now signatures c.get-cif.ensures in
-    let given = returned_as g.A.Abi.standard base.standard c.get-cif.result.now (signature_at p.signatures call.sig) v m m' (sym standard) site c.give_back.ensures in
+    let given = by_names (λ (x : Standard) (y : Signature). HasReturned x y v m m') g.A.Abi.standard base.standard c.get-cif.result.now (signature_at p.signatures call.sig) (sym standard) site c.give_back.ensures in
     let lines = lines_told p base all first own events b.table b.moves m o current v call asks m' given c.args.trace tracing in
     let told = took_as o o' _ _ (return_told_as c.args.trace g.A.Abi.standard base.standard c.get-cif.result.now (signature_at p.signatures call.sig) (last_event m'.events) v _ (sym standard) site lines) c.in-Ok.ensures in
     is_done p base all first own v m' o' _ c.requires.taken c.requires.alone c.take.ensures.after (served_returns p base all first own events b.table b.moves m o current v call asks m' given o' told)
@@ -65,7 +66,7 @@ returns-in-Err-clause-turned g c = λ p base all first own events current standa
     let is_served : b.served ≡ Some call = search rules in
     let asks = subst (λ (x : RunState). IsAsking p base all first own events x (return v)) (outermost_state p.signatures current b m o (Some call) c.requires.alone is_served) is in
     let site = numbered p c.args.cifs.now call.sig c.get-cif.result.now signatures c.get-cif.ensures in
-    let given = returned_as g.A.Abi.standard base.standard c.get-cif.result.now (signature_at p.signatures call.sig) v m m' (sym standard) site c.give_back.ensures in
+    let given = by_names (λ (x : Standard) (y : Signature). HasReturned x y v m m') g.A.Abi.standard base.standard c.get-cif.result.now (signature_at p.signatures call.sig) (sym standard) site c.give_back.ensures in
     let lines = lines_told p base all first own events b.table b.moves m o current v call asks m' given c.args.trace tracing in
     let told = return_told_as c.args.trace g.A.Abi.standard base.standard c.get-cif.result.now (signature_at p.signatures call.sig) (last_event m'.events) v _ (sym standard) site lines in
     let cut_off = cut_as _ _ o o' c.in-Err.why told c.in-Err.ensures in

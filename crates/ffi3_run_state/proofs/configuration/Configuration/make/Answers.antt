@@ -16,8 +16,7 @@ use Rattle.ffi3_run_state.specs.Going.{StoppedBy, GoneOn}
 use Rattle.ffi3_run_state.specs.Between.{run_state}
 use Rattle.ffi3_run_state.specs.Turned.{Turned}
 use Rattle.ffi3_run_state.proofs.Acts.{make_is_full, make_goes_with}
-use Rattle.ffi3_run_state.proofs.Configuring.{stops_at}
-use Rattle.ffi3_run_state.proofs.Made.{made_on, made_refused}
+use Rattle.ffi3_run_state.proofs.Configuring.{stops_at, made_on, made_refused}
 use Rattle.ffi3_run_state.proofs.configuration.Configuration.make.Goals as goal
 
 -- a make where a slot is free: what it does, and that its closures are known
