@@ -451,19 +451,19 @@ module _ {S : Type 0} (p : Program) (base : Base) (all : Remainder) (first : Beg
         journal = back.events ∙ ap (λ (l : List Event). l ++ leaving ∷ []) asks.between.journal ∙ append_assoc first.events events (leaving ∷ []);
         steps = inr steps_then;
         mark = let sp = back.sp in
-          let w = within in
-          let least = mark_least m'.sp m.mark m'.mark w.mark in
-          mark_leave base.top first.mark (deepest p (depth_below p base) own) (deepest p (depth_below p base) (own ++ Leave below.sig v ∷ [])) m.mark m.sp m'.mark (depth_at p (depth_below p base) own) asks.between.deep (ends_below p (depth_below p base) own) (omega (arith, least, sp)) (deepest_same p (depth_below p base) own (Leave below.sig v) (omega arith)) asks.between.mark;
+            let w = within in
+            let least = mark_least m'.sp m.mark m'.mark w.mark in
+            mark_leave base.top first.mark (deepest p (depth_below p base) own) (deepest p (depth_below p base) (own ++ Leave below.sig v ∷ [])) m.mark m.sp m'.mark (depth_at p (depth_below p base) own) asks.between.deep (ends_below p (depth_below p base) own) (omega (arith, least, sp)) (deepest_same p (depth_below p base) own (Leave below.sig v) (omega arith)) asks.between.mark;
         target = within.target ∙ asks.between.calls.target;
         holds = subst (λ (code : List ℕ). HoldsMap base.standard.target closures code) (sym within.code) asks.between.holds;
         callers = let F = λ (b : Bottom). KeepsFrame base.standard p.signatures b base.entries m'.stack in
-          let G = λ (l : List Event). KeepsFrame base.standard p.signatures (served below.sig) l m'.stack in
-          let B = λ (i : ℕ) (n : ℕ). IsBesideResult n site.result_type (plan_of base.standard site).res (below.entry.image.sp + i) in
-          let frame : G (below.entry ∷ []) = λ i inside_frame outside. call_served.frame i inside_frame (subst (B i) (sym sp_is) outside) in
-          record {
-            above = call_served.found.above;
-            frame = subst F (sym below.serving) (subst G (sym below.first) frame);
-          };
+            let G = λ (l : List Event). KeepsFrame base.standard p.signatures (served below.sig) l m'.stack in
+            let B = λ (i : ℕ) (n : ℕ). IsBesideResult n site.result_type (plan_of base.standard site).res (below.entry.image.sp + i) in
+            let frame : G (below.entry ∷ []) = λ i inside_frame outside. call_served.frame i inside_frame (subst (B i) (sym sp_is) outside) in
+            record {
+              above = call_served.found.above;
+              frame = subst F (sym below.serving) (subst G (sym below.first) frame);
+            };
       }
 
       served_ended : (output' : SinkState) → TookText told_lines output output' → IsEnded p base all first (returned v) closures moves m' output'

@@ -32,7 +32,7 @@ use Rattle.ffi3_run_spec.specs.CallSteps.{call_steps, steps_in, returns_in}
 use Rattle.ffi3_run_state.specs.Counted.{steps_after}
 use Rattle.ffi3_run_state.specs.Turned.{IsEnded, WasInterrupted, is_in_line}
 use Rattle.ffi3_run_state.proofs.Counting.{counts_from_none, main_counts, whole_calls}
-use Rattle.ffi3_runner.specs.Ran.{Ran}
+use Rattle.ffi3_runner.specs.Ran.{MainRan}
 use Rattle.ffi3_run_spec.specs.RunInterrupted.{RunWasInterrupted}
 use Rattle.ffi3_run_spec.specs.RunMatches.{RunMatches, WrotePart}
 use Rattle.ffi3_runner.specs.declared.run.RunEnd.{RunEnd}
@@ -120,76 +120,52 @@ module _ (p : Program) (std : Standard) (trace : Bool) (b : Configuration Standi
       }
 
   abbrev Answer : RunEnd → Type 0
-  Answer t = Ran p (main_base std) (remainder_of (meaning_of p)) (main_beginning trace std o) b m o' t
+  Answer t = MainRan std trace p o b m o' t
+
+  as_ended : (t u : RunEnd) → Answer t → t ≡ u → Answer u
+  as_ended t u ran is = subst (λ (x : RunEnd). Answer x) is ran
 
   pub ran_done : (t : RunEnd) → Answer t → t ≡ run.Done → RunMatches (main_tracing trace std) std p o o' m
-  ran_done run.Done ran is = ended (returned ran.result) b.table b.moves ran.ended
-  ran_done (run.Stopped stop) ran is = cc
-  ran_done run.NoMemory ran is = cc
-  ran_done run.Failed ran is = cc
+  ran_done t ran is =
+      let done = as_ended t run.Done ran is in ended (returned done.result) b.table b.moves done.ended
 
   pub ran_returned : (t : RunEnd) → Answer t → t ≡ run.Done → (meaning_of p).end ≡ returned void_value
-  ran_returned run.Done ran is = ran.ended.over.end_is ∙ ap returned ran.left.0
-  ran_returned (run.Stopped stop) ran is = cc
-  ran_returned run.NoMemory ran is = cc
-  ran_returned run.Failed ran is = cc
+  ran_returned t ran is =
+      let done = as_ended t run.Done ran is in done.ended.over.end_is ∙ ap returned done.left.0
 
   pub ran_counted : (t : RunEnd) → Answer t → (target : Target) → std.target ≡ target → t ≡ run.Done → m.steps ≡ (call_steps target * returns_in (trace_of p)) % 2 ^ 64
-  ran_counted run.Done ran target same is =
-      (ended (returned ran.result) b.table b.moves ran.ended).calls ran.result ran.ended.over.end_is
+  ran_counted t ran target same is =
+      let done = as_ended t run.Done ran is in
+      (ran_done t ran is).calls done.result done.ended.over.end_is
       ∙ ap (λ (t : Target). (call_steps t * returns_in (trace_of p)) % 2 ^ 64) same
-  ran_counted (run.Stopped stop) ran target same is = cc
-  ran_counted run.NoMemory ran target same is = cc
-  ran_counted run.Failed ran target same is = cc
 
   pub ran_left : (t : RunEnd) → Answer t → t ≡ run.Done → MainHasReturned p b m
-  ran_left run.Done ran is = record { idle = ran.idle; sp = ran.left.1; closures = sym ran.ended.over.closures_are; moves = sym ran.ended.over.moves_are }
-  ran_left (run.Stopped stop) ran is = cc
-  ran_left run.NoMemory ran is = cc
-  ran_left run.Failed ran is = cc
+  ran_left t ran is =
+      let done = as_ended t run.Done ran is in
+      record { idle = done.idle; sp = done.left.1; closures = sym done.ended.over.closures_are; moves = sym done.ended.over.moves_are }
 
   pub ran_stopped : (t : RunEnd) → Answer t → (stop : Stop) → t ≡ run.Stopped stop → RunMatches (main_tracing trace std) std p o o' m
-  ran_stopped run.Done ran stop is = cc
-  ran_stopped (run.Stopped other) ran stop is = ended (stopped other) b.table b.moves ran
-  ran_stopped run.NoMemory ran stop is = cc
-  ran_stopped run.Failed ran stop is = cc
+  ran_stopped t ran stop is = ended (stopped stop) b.table b.moves (as_ended t (run.Stopped stop) ran is)
 
   pub ran_stops : (t : RunEnd) → Answer t → (stop : Stop) → t ≡ run.Stopped stop → (meaning_of p).end ≡ stopped stop
-  ran_stops run.Done ran stop is = cc
-  ran_stops (run.Stopped other) ran stop is =
-      let same : other ≡ stop = cc in ran.over.end_is ∙ ap stopped same
-  ran_stops run.NoMemory ran stop is = cc
-  ran_stops run.Failed ran stop is = cc
+  ran_stops t ran stop is = (as_ended t (run.Stopped stop) ran is).over.end_is
 
   pub ran_left_at_stop : (t : RunEnd) → Answer t → (stop : Stop) → t ≡ run.Stopped stop → MainHasStopped p b
-  ran_left_at_stop run.Done ran stop is = cc
-  ran_left_at_stop (run.Stopped other) ran stop is = record { closures = sym ran.over.closures_are; moves = sym ran.over.moves_are }
-  ran_left_at_stop run.NoMemory ran stop is = cc
-  ran_left_at_stop run.Failed ran stop is = cc
+  ran_left_at_stop t ran stop is =
+      let over = (as_ended t (run.Stopped stop) ran is).over in
+      record { closures = sym over.closures_are; moves = sym over.moves_are }
 
   pub ran_no_memory : (t : RunEnd) → Answer t → t ≡ run.NoMemory → o'.faults ≡ o.faults
-  ran_no_memory run.Done ran is = cc
-  ran_no_memory (run.Stopped stop) ran is = cc
-  ran_no_memory run.NoMemory ran is = ran.cause
-  ran_no_memory run.Failed ran is = cc
+  ran_no_memory t ran is = (as_ended t run.NoMemory ran is).cause
 
   pub ran_failed : (t : RunEnd) → Answer t → t ≡ run.Failed → Rose o.faults o'.faults
-  ran_failed run.Done ran is = cc
-  ran_failed (run.Stopped stop) ran is = cc
-  ran_failed run.NoMemory ran is = cc
-  ran_failed run.Failed ran is = ran.cause.0
+  ran_failed t ran is = (as_ended t run.Failed ran is).cause.0
 
   pub ran_cut_by_memory : (t : RunEnd) → Answer t → t ≡ run.NoMemory → RunWasInterrupted (main_tracing trace std) std p false o o' m b.table b.moves
-  ran_cut_by_memory run.Done ran is = cc
-  ran_cut_by_memory (run.Stopped stop) ran is = cc
-  ran_cut_by_memory run.NoMemory ran is = cut_off cut.NoMemory ran
-  ran_cut_by_memory run.Failed ran is = cc
+  ran_cut_by_memory t ran is = cut_off cut.NoMemory (as_ended t run.NoMemory ran is)
 
   pub ran_cut_by_write : (t : RunEnd) → Answer t → t ≡ run.Failed → RunWasInterrupted (main_tracing trace std) std p true o o' m b.table b.moves
-  ran_cut_by_write run.Done ran is = cc
-  ran_cut_by_write (run.Stopped stop) ran is = cc
-  ran_cut_by_write run.NoMemory ran is = cc
-  ran_cut_by_write run.Failed ran is = cut_off cut.Failed ran
+  ran_cut_by_write t ran is = cut_off cut.Failed (as_ended t run.Failed ran is)
 
   pub ran_never_falls : (t : RunEnd) → Answer t → o.faults ≤ o'.faults
   ran_never_falls run.Done ran = no_fewer o.faults o'.faults ran.ended.written.count

@@ -7,13 +7,12 @@ use Rattle.ffi3_place_spec.specs.declared.Loc.{Loc}
 use Rattle.ffi3_place_spec.specs.Standard.{Standard, block_bytes, frame_of}
 use Rattle.ffi3_semantics_spec.specs.Journal.{Entered}
 use Rattle.ffi3_machine_spec.specs.State.{State, stack_at}
-use Rattle.ffi3_callee.specs.declared.Incoming.{Incoming}
 use Rattle.ffi3_callee.specs.Received.{IsIncoming}
 use Rattle.ffi3_next_move.specs.declared.standing.Standing.{Standing}
 use Rattle.ffi3_run_state.specs.declared.activation.Activation.{Activation}
 use Rattle.ffi3_run_state.specs.declared.activation.OpenCall.{OpenCall}
 use Rattle.ffi3_run_state.specs.declared.activation.Waiting.{Waiting}
-use Rattle.ffi3_run_state.specs.Activations.{calls_below, calls_of}
+use Rattle.ffi3_run_state.specs.Activations.{call_inside, calls_below, calls_of}
 use Rattle.ffi3_run_state.specs.Stack.{HoldsCalls}
 use Rattle.ffi3_run_state.proofs.Configuring.{popped_holds, reverse-last}
 use Rattle.ffi3_run_state.proofs.Opened.{block_at, is_incoming, sig_below}
@@ -42,53 +41,49 @@ module _ {X : Type 0} where
       let k = split_last x xs (length (x ∷ xs) - 1) (omega arith) in
       let there = k.2 in cc
 
--- what is known of the call of the one that waits last
-pub record LastCall {S : Type 0} (std : Standard) (ss : List Signature) (m : State) (items : List (Waiting S)) (w : Waiting S) : Type 0 where
-  pub rest : List (Waiting S)
-  pub turned : reverse items ≡ w ∷ reverse rest
-  pub below : w.call.sig < length ss
-  pub incoming : IsIncoming std (signature_at ss w.call.sig) w.call.incoming
-  pub block : w.call.incoming.block ≡ m.sp
-
-pub last_call : {S : Type 0} (std : Standard) (ss : List Signature) (held : Loc → ℕ) (top : ℕ) (m : State) (entered : List Entered) (served : Option OpenCall) (xs items : List (Waiting S)) (w : Waiting S) → xs ≡ items → Some w ≡ slice_get xs (length xs - 1) → HoldsCalls std ss held top m (calls_of served (reverse items)) entered → LastCall std ss m items w
-last_call std ss held top m entered served xs items w same is h =
-    let last = last_is xs w (sym is) in
-    let ends : items ≡ last.0 ++ w ∷ [] = sym same ∙ last.1 in
-    let here = popped_holds std ss held top m entered served items last.0 w ends h in
-    record {
-      rest = last.0;
-      turned = ap (λ l. reverse l) ends ∙ reverse-last last.0 w;
-      below = sig_below std ss held top m w.call (calls_of served (reverse last.0)) entered here;
-      incoming = is_incoming std ss held top m w.call (calls_of served (reverse last.0)) entered here;
-      block = block_at std ss held top m w.call (calls_of served (reverse last.0)) entered here;
-    }
-
--- and of the call that is served, where none waits
-pub record ServedCall (std : Standard) (ss : List Signature) (m : State) (c : OpenCall) : Type 0 where
+-- what is known of the call that the innermost activation answers to
+pub record InnermostCall {S : Type 0} (std : Standard) (ss : List Signature) (m : State) (served : Option OpenCall) (items : List (Waiting S)) (c : OpenCall) : Type 0 where
+  pub call : call_inside served (reverse items) ≡ Some c
   pub below : c.sig < length ss
-  pub incoming : IsIncoming std (signature_at ss c.sig) c.incoming
   pub block : c.incoming.block ≡ m.sp
+  pub low : STACK ≤ m.sp
+  pub high : m.sp + block_bytes (signature_at ss c.sig) ≤ STACK_TOP
 
-pub served_call : {S : Type 0} (std : Standard) (ss : List Signature) (held : Loc → ℕ) (top : ℕ) (m : State) (entered : List Entered) (served : Option OpenCall) (items : List (Waiting S)) (c : OpenCall) → items ≡ [] → served ≡ Some c → HoldsCalls std ss held top m (calls_of served (reverse items)) entered → ServedCall std ss m c
-served_call {S} std ss held top m entered served items c none is h =
-    let P = λ (l : List (Waiting S)). HoldsCalls std ss held top m (calls_of served (reverse l)) entered in
-    let Q = λ (o : Option OpenCall). HoldsCalls std ss held top m (calls_below o) entered in
-    let here = subst Q is (subst P none h) in
-    record {
-      below = sig_below std ss held top m c [] entered here;
-      incoming = is_incoming std ss held top m c [] entered here;
-      block = block_at std ss held top m c [] entered here;
-    }
+module _ {S : Type 0} (std : Standard) (ss : List Signature) (held : Loc → ℕ) (top : ℕ) (m : State) (entered : List Entered) (served : Option OpenCall) (xs items : List (Waiting S)) (same : xs ≡ items) where
+  innermost_call : (c : OpenCall) (calls : List OpenCall) → call_inside served (reverse items) ≡ Some c → HoldsCalls std ss held top m (c ∷ calls) entered → InnermostCall std ss m served items c
+  innermost_call c calls call h =
+      let s = signature_at ss c.sig in
+      let incoming : IsIncoming std s c.incoming = is_incoming std ss held top m c calls entered h in
+      let block = block_at std ss held top m c calls entered h in
+      let low : STACK ≤ c.incoming.block = incoming.low in
+      let entry : c.incoming.block + block_bytes s + std.save ≡ c.incoming.entry = incoming.entry in
+      let high : c.incoming.entry + std.link + frame_of std s ≤ STACK_TOP = incoming.high in
+      record {
+        call = call;
+        below = sig_below std ss held top m c calls entered h;
+        block = block;
+        low = omega (arith, low, block);
+        high = omega (arith, entry, high, block);
+      }
 
--- its block lies in the stack
-pub block_low : (std : Standard) (s : Signature) (i : Incoming) (sp : ℕ) → IsIncoming std s i → i.block ≡ sp → STACK ≤ sp
-block_low std s i sp h is = let low : STACK ≤ i.block = h.low in omega (arith, low, is)
+  -- it is that of the one that waits last
+  pub last_call : (w : Waiting S) → Some w ≡ slice_get xs (length xs - 1) → HoldsCalls std ss held top m (calls_of served (reverse items)) entered → InnermostCall std ss m served items w.call
+  last_call w is h =
+      let last = last_is xs w (sym is) in
+      let ends : items ≡ last.0 ++ w ∷ [] = sym same ∙ last.1 in
+      innermost_call w.call (calls_of served (reverse last.0)) (ap (λ (l : List (Waiting S)). call_inside served (reverse l)) ends ∙ ap (call_inside served) (reverse-last last.0 w)) (popped_holds std ss held top m entered served items last.0 w ends h)
 
-pub block_high : (std : Standard) (s : Signature) (i : Incoming) (sp : ℕ) → IsIncoming std s i → i.block ≡ sp → sp + block_bytes s ≤ STACK_TOP
-block_high std s i sp h is =
-    let entry : i.block + block_bytes s + std.save ≡ i.entry = h.entry in
-    let high : i.entry + std.link + frame_of std s ≤ STACK_TOP = h.high in
-    omega (arith, entry, high, is)
+  -- and where none waits that of the call that is served, or none
+  pub alone_in : (o : Option OpenCall) → None ≡ slice_get xs (length xs - 1) → served ≡ o → call_inside served (reverse items) ≡ o
+  alone_in o is served_is =
+      ap (λ (l : List (Waiting S)). call_inside served (reverse l)) (sym same ∙ last_none xs (sym is)) ∙ served_is
+
+  pub served_call : (c : OpenCall) → None ≡ slice_get xs (length xs - 1) → served ≡ Some c → HoldsCalls std ss held top m (calls_of served (reverse items)) entered → InnermostCall std ss m served items c
+  served_call c is served_is h =
+      let none : items ≡ [] = sym same ∙ last_none xs (sym is) in
+      let P = λ (l : List (Waiting S)). HoldsCalls std ss held top m (calls_of served (reverse l)) entered in
+      let Q = λ (o : Option OpenCall). HoldsCalls std ss held top m (calls_below o) entered in
+      innermost_call c [] (alone_in (Some c) is served_is) (subst Q served_is (subst P none h))
 
 -- what its callee has seen
 pub callee_seen : (ss : List Signature) (m : State) (c : OpenCall) (a : Activation Standing) (sig : Signature) (block : List ℕ) → sig ≡ signature_at ss c.sig → block ≡ stack_at c.incoming.block (block_bytes (signature_at ss c.sig)) m → record { signature = sig; block = block; user = a.user; results = a.results } ≡ seen_by_callee ss m c a

@@ -1,14 +1,9 @@
-mod Seen
-mod Turning
 mod Agreed
-mod Starting
 mod Ending
-mod Numbers
+mod Turning
 mod Last
 mod Running
-mod Ready
 mod Serving
-mod Showing
 mod Main
 mod Preparing
 mod Returning

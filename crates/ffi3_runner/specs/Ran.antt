@@ -3,9 +3,9 @@ use Rattle.std.specs.Prelude.{◌≡◌, Bool, List}
 use Rattle.ffi3_place_spec.specs.Event.{Event}
 use Rattle.ffi3_place_spec.specs.Standard.{Standard}
 use Rattle.ffi3_semantics_spec.specs.Trace.{TraceItem}
-use Rattle.ffi3_semantics_spec.specs.Meaning.{Program, stopped}
-use Rattle.ffi3_small_step_spec.specs.Remainder.{Remainder}
-use Rattle.ffi3_small_step_spec.specs.SoFar.{Base}
+use Rattle.ffi3_semantics_spec.specs.Meaning.{Program, meaning_of, stopped}
+use Rattle.ffi3_small_step_spec.specs.Remainder.{Remainder, remainder_of}
+use Rattle.ffi3_small_step_spec.specs.SoFar.{Base, main_base}
 use Rattle.ffi3_small_step_spec.specs.TracingOf.{IsTracingOf}
 use Rattle.ffi3_machine_spec.specs.State.{State}
 use Rattle.ffi3_io_spec.specs.Sink.{SinkState}
@@ -15,6 +15,7 @@ use Rattle.ffi3_run_state.specs.declared.configuration.Configuration.{Configurat
 use Rattle.ffi3_run_state.specs.declared.configuration.Turn.{Turn}
 use Rattle.ffi3_run_state.specs.Between.{Beginning}
 use Rattle.ffi3_run_state.specs.Turned.{IsDone, IsEnded, StandsAt, Turned, WasInterrupted}
+use Rattle.ffi3_runner.specs.Started.{main_beginning}
 use Rattle.ffi3_runner.specs.declared.run.RunEnd.{RunEnd}
 use Rattle.ffi3_runner.specs.declared.run.RunEnd.TheVariants as run
 
@@ -26,6 +27,12 @@ Ran p base all first b m output run.NoMemory =
     WasInterrupted p base all first cut.NoMemory b.table b.moves m output
 Ran p base all first b m output run.Failed =
     WasInterrupted p base all first cut.Failed b.table b.moves m output
+
+-- WHAT A RUN OF MAIN CAME TO, on a machine and a configuration on which nothing had begun
+abbrev pub MainRan : Standard → (trace : Bool) → Program → (before : SinkState) → Configuration Standing → State
+    → SinkState → RunEnd → Type 0
+MainRan std trace p before b m output end =
+    Ran p (main_base std) (remainder_of (meaning_of p)) (main_beginning trace std before) b m output end
 
 -- A RUN OF MAIN, traced or not, COMES FROM one moment to another: where it stands at the first it stands at the second, with more done.
 abbrev pub ComesTo : Standard → (trace : Bool) → Program

@@ -8,11 +8,15 @@ ghost use Rattle.ffi3_io_spec.specs.Sink.{SinkState};
 ghost use Rattle.ffi3_script_spec.specs.Handed.{handed};
 ghost use Rattle.ffi3_run_state.specs.Turned.{StandsAt};
 ghost use Rattle.ffi3_runner.specs.Agreeing.{PositionsAgree};
+ghost use Rattle.ffi3_runner.specs.Ran.{MainRan};
 ghost use Rattle.ffi3_runner.specs.Ready.{CanGoOn, traced_or_not};
 ghost use Rattle.ffi3_runner.specs.Running.{IsNew, IsPrepared, program};
 ghost use Rattle.ffi3_runner.specs.Started.{main_beginning};
 
 use crate::prepare::Prepared;
+use crate::run::RunEnd;
+use ffi3_io::Sink;
+use ffi3_machine::Machine;
 use ffi3_next_move::Standing;
 use ffi3_place::Abi;
 use ffi3_run_state::{Activation, Configuration, Who};
@@ -37,5 +41,23 @@ impl<'a, A: Abi> Prepared<'a, A> {
             user: 0,
             results: Values::new(alloc),
         });
+    }
+
+    // Runs main to its end, on a machine as it begins.
+    pub(crate) fn run_main<O: Sink>(
+        &self,
+        configuration: &mut Configuration<Standing>,
+        machine: &mut Machine,
+        output: &mut O,
+        trace: bool,
+    ) -> RunEnd
+        requires prepared { IsPrepared A.standard self.now.script.now (handed title meaning signatures self.now.natives.now.items) self.now.cifs }
+        requires new { IsNew configuration.old }
+        requires begun { machine.old ≡ begun A.TARGET machine.old.spare_events machine.old.spare_bytes }
+        ensures { MainRan A.standard trace (program A.standard self.now.script.now (handed title meaning signatures self.now.natives.now.items))
+            (O.state output.old) configuration.new machine.new (O.state output.new) result }
+    {
+        self.start(configuration);
+        self.run_on(configuration, machine, output, trace)
     }
 }

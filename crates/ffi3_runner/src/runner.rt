@@ -211,10 +211,9 @@ impl<'a, A: Abi> Runner<'a, A> {
         ensures prepared { self.new.prepared ≡ self.old.prepared }
         ensures over { self.new.over ≡ true }
     {
-        self.prepared.start(&mut self.configuration);
         self.over = true;
         self.prepared
-            .run_on(&mut self.configuration, machine, output, trace)
+            .run_main(&mut self.configuration, machine, output, trace)
     }
 
     /// Serves the call of a live closure that the machine shows at its entry, by any caller: does

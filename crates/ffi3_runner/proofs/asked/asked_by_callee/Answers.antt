@@ -3,7 +3,7 @@ use Rattle.ffi3_place_spec.specs.Standard.{block_bytes}
 use Rattle.ffi3_machine_spec.specs.State.{stack_at}
 use Rattle.ffi3_runner.specs.Agreeing.{seen_by_callee}
 use Rattle.ffi3_runner.proofs.Last.{callee_seen}
-use Rattle.ffi3_runner.proofs.Numbers.{asked_as}
+use Rattle.ffi3_runner.proofs.Turning.{asked_as}
 use Rattle.ffi3_runner.proofs.asked.asked_by_callee.Goals as goal
 
 pub returns-clause-asked : goal.returns-clause-asked

@@ -6,7 +6,7 @@ use Rattle.ffi3_place_spec.specs.Standard.{block_bytes}
 use Rattle.ffi3_semantics_spec.specs.Move.{no_signature}
 use Rattle.ffi3_type_spec.proofs.FirstSignatureFaults.{signature_right_by_none}
 use Rattle.ffi3_runner.specs.Agreeing.{seen_by_main}
-use Rattle.ffi3_runner.proofs.Numbers.{asked_as}
+use Rattle.ffi3_runner.proofs.Turning.{asked_as}
 use Rattle.ffi3_runner.proofs.asked.asked_by_main.Goals as goal
 
 no_block : 0 ≡ block_bytes no_signature

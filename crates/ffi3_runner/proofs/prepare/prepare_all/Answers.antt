@@ -1,6 +1,6 @@
 use Rattle.std.proofs.Common.{◌∙◌}
 use Rattle.ffi3_script_spec.specs.Handed.{handed}
-use Rattle.ffi3_runner.proofs.Numbers.{all_cifs, more_cifs, one_of_all}
+use Rattle.ffi3_runner.proofs.Turning.{all_cifs, more_cifs, one_of_all}
 use Rattle.ffi3_runner.proofs.prepare.prepare_all.Goals as goal
 
 pub signature-requires-clause-below : goal.signature-requires-clause-below

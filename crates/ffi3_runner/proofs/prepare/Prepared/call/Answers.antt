@@ -8,9 +8,8 @@ use Rattle.ffi3_invoke.specs.Calls.{entered_closure}
 use Rattle.ffi3_run_state.proofs.Blocks.{blocks_above}
 use Rattle.ffi3_run_state.proofs.Closed.{known_at}
 use Rattle.ffi3_runner.proofs.Agreed.{entered_stands}
-use Rattle.ffi3_runner.proofs.Numbers.{does_at, func_below, own_at}
-use Rattle.ffi3_runner.proofs.Serving.{one_closure}
-use Rattle.ffi3_runner.proofs.Showing.{entered_at, gone_in, none_shown, shown}
+use Rattle.ffi3_runner.proofs.Turning.{does_at, func_below, own_at}
+use Rattle.ffi3_runner.proofs.Serving.{one_closure, entered_at, gone_in, none_shown, shown}
 use Rattle.ffi3_runner.proofs.prepare.Prepared.call.Goals as goal
 
 pub callee-requires-clause-below : goal.callee-requires-clause-below

@@ -1,5 +1,6 @@
 use Rattle.std.proofs.Common.{◌≡◌, suc, arith}
-use Rattle.ffi3_runner.proofs.Running.{comes_nowhere, comes_on, ends_done, ends_failed, ends_no_memory, ends_stopped}
+use Rattle.ffi3_run_state.specs.declared.configuration.Turn.TheVariants as turn
+use Rattle.ffi3_runner.proofs.Running.{comes_nowhere, comes_on, says}
 use Rattle.ffi3_runner.proofs.prepare.Prepared.run_on.Goals as goal
 
 pub loop-stop-init : goal.loop-stop-init
@@ -29,19 +30,19 @@ loop-stop-preserved g c =
 pub returns-in-Done : goal.returns-in-Done
 returns-in-Done g c = λ base all first own events standard tracing h.
     let inv = c.loop-stop.invariant in
-    ends_done g.A.Abi.standard c.args.trace _ c.args.configuration.now c.loop-stop.configuration c.turn.new.configuration c.args.machine.now c.loop-stop.machine c.turn.new.machine (g.O.Sink.state c.args.output.now) (g.O.Sink.state c.loop-stop.output) (g.O.Sink.state c.turn.new.output) inv.since c.turn.result c.turn.ensures.turned base all first own events standard tracing h c.in-Done.is
+    (says g.A.Abi.standard c.args.trace _ c.args.configuration.now c.loop-stop.configuration c.turn.new.configuration c.args.machine.now c.loop-stop.machine c.turn.new.machine (g.O.Sink.state c.args.output.now) (g.O.Sink.state c.loop-stop.output) (g.O.Sink.state c.turn.new.output) inv.since c.turn.result c.turn.ensures.turned base all first own events standard tracing h turn.Done c.in-Done.is).done
 
 pub returns-in-Stopped : goal.returns-in-Stopped
 returns-in-Stopped g c = λ base all first own events standard tracing h.
     let inv = c.loop-stop.invariant in
-    ends_stopped g.A.Abi.standard c.args.trace _ c.args.configuration.now c.loop-stop.configuration c.turn.new.configuration c.args.machine.now c.loop-stop.machine c.turn.new.machine (g.O.Sink.state c.args.output.now) (g.O.Sink.state c.loop-stop.output) (g.O.Sink.state c.turn.new.output) inv.since c.turn.result c.turn.ensures.turned base all first own events standard tracing h c.in-Stopped.stop c.in-Stopped.is
+    (says g.A.Abi.standard c.args.trace _ c.args.configuration.now c.loop-stop.configuration c.turn.new.configuration c.args.machine.now c.loop-stop.machine c.turn.new.machine (g.O.Sink.state c.args.output.now) (g.O.Sink.state c.loop-stop.output) (g.O.Sink.state c.turn.new.output) inv.since c.turn.result c.turn.ensures.turned base all first own events standard tracing h (turn.Stopped c.in-Stopped.stop) c.in-Stopped.is).ended
 
 pub returns-in-NoMemory : goal.returns-in-NoMemory
 returns-in-NoMemory g c = λ base all first own events standard tracing h.
     let inv = c.loop-stop.invariant in
-    ends_no_memory g.A.Abi.standard c.args.trace _ c.args.configuration.now c.loop-stop.configuration c.turn.new.configuration c.args.machine.now c.loop-stop.machine c.turn.new.machine (g.O.Sink.state c.args.output.now) (g.O.Sink.state c.loop-stop.output) (g.O.Sink.state c.turn.new.output) inv.since c.turn.result c.turn.ensures.turned base all first own events standard tracing h c.in-NoMemory.is
+    (says g.A.Abi.standard c.args.trace _ c.args.configuration.now c.loop-stop.configuration c.turn.new.configuration c.args.machine.now c.loop-stop.machine c.turn.new.machine (g.O.Sink.state c.args.output.now) (g.O.Sink.state c.loop-stop.output) (g.O.Sink.state c.turn.new.output) inv.since c.turn.result c.turn.ensures.turned base all first own events standard tracing h turn.NoMemory c.in-NoMemory.is).interrupted
 
 pub returns-in-Failed : goal.returns-in-Failed
 returns-in-Failed g c = λ base all first own events standard tracing h.
     let inv = c.loop-stop.invariant in
-    ends_failed g.A.Abi.standard c.args.trace _ c.args.configuration.now c.loop-stop.configuration c.turn.new.configuration c.args.machine.now c.loop-stop.machine c.turn.new.machine (g.O.Sink.state c.args.output.now) (g.O.Sink.state c.loop-stop.output) (g.O.Sink.state c.turn.new.output) inv.since c.turn.result c.turn.ensures.turned base all first own events standard tracing h c.in-Failed.is
+    (says g.A.Abi.standard c.args.trace _ c.args.configuration.now c.loop-stop.configuration c.turn.new.configuration c.args.machine.now c.loop-stop.machine c.turn.new.machine (g.O.Sink.state c.args.output.now) (g.O.Sink.state c.loop-stop.output) (g.O.Sink.state c.turn.new.output) inv.since c.turn.result c.turn.ensures.turned base all first own events standard tracing h turn.Failed c.in-Failed.is).interrupted

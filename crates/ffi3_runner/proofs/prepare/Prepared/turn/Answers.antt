@@ -1,4 +1,4 @@
-use Rattle.ffi3_runner.proofs.Ready.{goes_on_again, one_fewer, stands_here}
+use Rattle.ffi3_runner.proofs.Running.{goes_on_again, one_fewer, stands_here}
 use Rattle.ffi3_runner.proofs.prepare.Prepared.turn.Goals as goal
 
 pub one_move-requires-clause-between : goal.one_move-requires-clause-between
