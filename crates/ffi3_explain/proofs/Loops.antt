@@ -1,35 +1,22 @@
 -- What the loops over pieces keep.
 use Rattle.std.specs.Prelude.{cond, slice_index_or, Some, None, ◌==◌}
-use Rattle.std.proofs.Common.{◌≡◌, ℕ, zero, suc, ◌+◌, ◌-◌, ◌<◌, ◌≤◌, inl, inr, Bool, true, false, List, [], ◌∷◌, ◌++◌, take, drop, replicate, get_or, length, refl, ap, sym, ◌∙◌, subst, arith}
+use Rattle.std.proofs.Common.{◌≡◌, ℕ, zero, suc, ◌+◌, ◌-◌, ◌<◌, ◌≤◌, inl, inr, Bool, true, false, List, [], ◌∷◌, ◌++◌, take, drop, replicate, get_or, length, refl, ap, sym, ◌∙◌, arith}
 use Rattle.std.specs.List.{AllByRecursion, replace_range}
 use Rattle.std.proofs.lemmas.Bool.{cases_lt}
 use Rattle.std.proofs.lemmas.Bool.Decides.{nat_tests}
-use Rattle.std.proofs.lemmas.List.{ext_get_or, get_or-take, get_or-drop, get_or_append_left, get_or-append_right, length-append, length-take-le, length-drop}
+use Rattle.std.proofs.lemmas.List.{drop_all, length-replicate, ext_get_or, get_or-take, get_or-drop, get_or_append_left, get_or-append_right, length-append, length-take-le, length-drop}
 use Rattle.ffi3_type_spec.specs.Tree.{Tree}
 use Rattle.ffi3_type_spec.specs.Layout.{size_of}
 use Rattle.ffi3_place_spec.specs.declared.Piece.{Piece}
 use Rattle.ffi3_place_spec.specs.Image.{Image, byte_at}
 use Rattle.ffi3_place_spec.specs.Sound.{IsPieceOf, IsWithin}
+use Rattle.ffi3_place_spec.proofs.Elements.{drop_read}
+use Rattle.ffi3_place_spec.proofs.Tests.{each_at}
 use Rattle.ffi3_explain_spec.specs.declared.Check.{Check}
 use Rattle.ffi3_explain_spec.specs.Explain.{carries, place_byte, eight, first_byte, first_bytes, check_of_piece, checks_of_pieces, first_broken}
 use Rattle.ffi3_explain_spec.proofs.Pieces.{carries_is, is_carried, first_bytes-length, first_bytes-index}
 use Rattle.ffi3_explain_spec.proofs.Words.{index_eight, place_byte_is}
 use Rattle.ffi3_explain.specs.Places.{IsPieceRead}
-
--- item i is the first of those from number i on
-pub drop_at : {X : Type 0} (xs : List X) (i : ℕ) (x : X) → i < length xs → x ≡ slice_index_or xs i x → drop i xs ≡ x ∷ drop (i + 1) xs
-drop_at [] i x h e = absurd (omega (arith, h))
-drop_at (y ∷ ys) zero x h e = λ j. sym e j ∷ ys
-drop_at (y ∷ ys) (suc i) x h e =
-    let next : i + 1 ≡ suc i = omega arith in
-    let later : suc i + 1 ≡ suc (i + 1) = omega arith in
-    drop_at ys i x (omega (arith, h)) e ∙ ap (λ n. x ∷ drop n (y ∷ ys)) (sym later)
-
-pub drop_all : {X : Type 0} (xs : List X) (i : ℕ) → length xs ≤ i → drop i xs ≡ []
-drop_all [] zero h = refl
-drop_all [] (suc i) h = refl
-drop_all (x ∷ xs) zero h = absurd (omega (arith, h))
-drop_all (x ∷ xs) (suc i) h = drop_all xs i (omega (arith, h))
 
 -- ---- a range that is replaced
 
@@ -80,9 +67,8 @@ abbrev pub zeros : ℕ → List ℕ
 zeros n = replicate n 0
 
 pub zeros_all : (n o : ℕ) → get_or (zeros n) o 0 ≡ 0
-zeros_all zero o = refl
-zeros_all (suc n) zero = refl
 zeros_all (suc n) (suc o) = zeros_all n o
+zeros_all _ _ = refl
 
 -- a part of a value lies within it
 pub all_within : (t : Tree) (size : ℕ) (ps : List Piece) → size ≡ size_of t → AllByRecursion (IsPieceOf t) ps → AllByRecursion (IsWithin size) ps
@@ -97,22 +83,16 @@ pub record ArePiecesRead (m : Image) (base : ℕ) (pieces : List Piece) (size j 
   pub few : j ≤ length pieces
   pub same : (o : ℕ) → get_or out o 0 ≡ first_byte m base (drop j pieces) o
 
-zeros_length : (n : ℕ) → length (zeros n) ≡ n
-zeros_length zero = refl
-zeros_length (suc n) = ap suc (zeros_length n)
-
 pub none_read : (m : Image) (base : ℕ) (pieces : List Piece) (size j : ℕ) (out : List ℕ) → out ≡ zeros size → j ≡ length pieces → ArePiecesRead m base pieces size j out
 none_read m base pieces size j out is last = record {
-  sized = ap length is ∙ zeros_length size;
+  sized = ap length is ∙ length-replicate {A = ℕ} size 0;
   few = omega (arith, last);
-  same = λ o. ap (λ xs. get_or xs o 0) is ∙ zeros_all size o ∙ ap (λ ps. first_byte m base ps o) (sym (drop_all pieces j (omega (arith, last))));
+  same = λ o. ap (λ xs. get_or xs o 0) is ∙ zeros_all size o ∙ ap (λ ps. first_byte m base ps o) (sym (drop_all j pieces (omega (arith, last))));
 }
 
 -- what holds of each item holds of item i
 pub each_from : {X : Type 0} (P : X → Type 0) (xs : List X) (i : ℕ) (x : X) → i < length xs → x ≡ slice_index_or xs i x → AllByRecursion P xs → P x
-each_from P [] i x h e all = absurd (omega (arith, h))
-each_from P (y ∷ ys) zero x h e all = subst P (sym e) all.0
-each_from P (y ∷ ys) (suc i) x h e all = each_from P ys i x (omega (arith, h)) e all.1
+each_from P xs i x h e all = each_at P xs i x h (sym e) all
 
 module _ (m : Image) (base : ℕ) (pieces : List Piece) (size j : ℕ) (out new : List ℕ) (p : Piece) (below : j < length pieces) (at : p ≡ slice_index_or pieces j p) (left : ArePiecesRead m base pieces size (j + 1) out) (read : IsPieceRead m base p out new) where
   carried_here : (o : ℕ) (b : Bool) → carries o p ≡ b → get_or new o 0 ≡ cond b (byte_at m base p.loc (o - p.off)) (first_byte m base (drop (j + 1) pieces) o)
@@ -127,7 +107,7 @@ module _ (m : Image) (base : ℕ) (pieces : List Piece) (size j : ℕ) (out new 
   one_more_read = record {
     sized = read.sized ∙ left.sized;
     few = omega (arith, below);
-    same = λ o. carried_here o (carries o p) refl ∙ ap (λ ps. first_byte m base ps o) (sym (drop_at pieces j p below at));
+    same = λ o. carried_here o (carries o p) refl ∙ ap (λ ps. first_byte m base ps o) (sym (drop_read pieces j p below at));
   }
 
 -- bytes that are each the first piece's
@@ -178,14 +158,11 @@ IsCheckOf m base i t pieces j c =
 pub record IsLeftToCheck (m : Image) (base i : ℕ) (t : Tree) (pieces : List Piece) (j : ℕ) : Type 0 where
   pub same : first_broken (checks_of_pieces m base i t pieces pieces) ≡ first_broken (checks_of_pieces m base i t pieces (drop j pieces))
 
-pub all_to_check : (m : Image) (base i : ℕ) (t : Tree) (pieces : List Piece) → IsLeftToCheck m base i t pieces 0
-all_to_check m base i t pieces = record { same = refl }
-
 module _ (m : Image) (base i : ℕ) (t : Tree) (pieces : List Piece) (j : ℕ) (below : j < length pieces) (left : IsLeftToCheck m base i t pieces j) (c : Check) (is : IsCheckOf m base i t pieces j c) where
   checked : first_broken (checks_of_pieces m base i t pieces pieces) ≡ cond (c.found == c.wants) (first_broken (checks_of_pieces m base i t pieces (drop (j + 1) pieces))) (Some c)
   checked =
       let item = item_there pieces j below in
-      left.same ∙ ap (λ ps. first_broken (checks_of_pieces m base i t pieces ps)) (drop_at pieces j item.0 below item.1) ∙ ap (λ (d : Check). cond (d.found == d.wants) (first_broken (checks_of_pieces m base i t pieces (drop (j + 1) pieces))) (Some d)) (sym (is item.0 item.1))
+      left.same ∙ ap (λ ps. first_broken (checks_of_pieces m base i t pieces ps)) (drop_read pieces j item.0 below item.1) ∙ ap (λ (d : Check). cond (d.found == d.wants) (first_broken (checks_of_pieces m base i t pieces (drop (j + 1) pieces))) (Some d)) (sym (is item.0 item.1))
 
   pub broken_here : (c.found == c.wants) ≡ false → Some c ≡ first_broken (checks_of_pieces m base i t pieces pieces)
   broken_here differs =
@@ -198,4 +175,4 @@ module _ (m : Image) (base i : ℕ) (t : Tree) (pieces : List Piece) (j : ℕ) (
 
 pub none_left : (m : Image) (base i : ℕ) (t : Tree) (pieces : List Piece) (j : ℕ) → length pieces ≤ j → IsLeftToCheck m base i t pieces j → None ≡ first_broken (checks_of_pieces m base i t pieces pieces)
 none_left m base i t pieces j end left =
-    sym (left.same ∙ ap (λ ps. first_broken (checks_of_pieces m base i t pieces ps)) (drop_all pieces j end))
+    sym (left.same ∙ ap (λ ps. first_broken (checks_of_pieces m base i t pieces ps)) (drop_all j pieces end))

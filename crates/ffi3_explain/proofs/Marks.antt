@@ -1,9 +1,10 @@
 -- The value's bytes over zeros and over ones tell its leaves from its padding.
 use Rattle.std.specs.Prelude.{replicate, cond, ◌&&◌, ◌||◌, ◌==◌, nat_le, nat_lt}
-use Rattle.std.proofs.Common.{◌≡◌, ℕ, zero, suc, ◌+◌, ◌-◌, ◌<◌, ◌≤◌, inl, inr, Bool, true, false, List, [], ◌∷◌, get_or, length, refl, ap, sym, ◌∙◌, subst, arith}
+use Rattle.std.proofs.Common.{◌≡◌, ℕ, ◌+◌, ◌-◌, ◌<◌, ◌≤◌, inl, inr, Bool, true, false, List, [], ◌∷◌, get_or, length, refl, ap, sym, ◌∙◌, subst, arith}
 use Rattle.std.specs.Int.{w64, from_le_bytes}
 use Rattle.std.specs.List.{AllByRecursion}
 use Rattle.std.proofs.lemmas.Bool.Decides.{nat_tests}
+use Rattle.std.proofs.lemmas.List.{length-replicate, get_or-replicate}
 use Rattle.std.proofs.lemmas.List.Elements.{All-from_recursion}
 use Rattle.ffi3_type_spec.specs.Tree.{Tree}
 use Rattle.ffi3_type_spec.specs.Layout.{Leaf, leaves_of, size_of, scalar_size}
@@ -48,15 +49,6 @@ in_no_leaf (l ∷ ls) o e =
     let both = neither (nat_le l.at o && nat_lt o (l.at + scalar_size l.kind)) (in_leaf ls o) e in
     (outside l.at (scalar_size l.kind) o both.0, in_no_leaf ls o both.1)
 
-length-replicate : (n x : ℕ) → length (replicate n x) ≡ n
-length-replicate zero x = refl
-length-replicate (suc n) x = ap suc (length-replicate n x)
-
-get_or-replicate : (n o x : ℕ) → o < n → get_or (replicate n x) o 0 ≡ x
-get_or-replicate zero o x h = absurd (omega (arith, h))
-get_or-replicate (suc n) zero x h = refl
-get_or-replicate (suc n) (suc o) x h = get_or-replicate n o x (omega (arith, h))
-
 module _ (m : Image) (base : ℕ) (t : Tree) (pieces : List Piece) (v : ValueTree) (is : v ≡ value_in_pieces m base t pieces) where
   leaf_written : (old new : List ℕ) → IsWritten t v old new → (o : ℕ) → o < size_of t → in_leaf (leaves_of t) o ≡ true → get_or new o 0 ≡ first_byte m base pieces o
   leaf_written old new written o h leaf =
@@ -74,7 +66,7 @@ module _ (m : Image) (base : ℕ) (t : Tree) (pieces : List Piece) (v : ValueTre
     low_sized = a;
     high_sized = b;
     leaf = λ o h e. (leaf_written (replicate (size_of t) 0) low first o h e, leaf_written (replicate (size_of t) 255) high second o h e);
-    padding = λ o h e. (padding_kept (replicate (size_of t) 0) low first o (omega (arith, h, length-replicate (size_of t) 0)) e ∙ get_or-replicate (size_of t) o 0 h, padding_kept (replicate (size_of t) 255) high second o (omega (arith, h, length-replicate (size_of t) 255)) e ∙ get_or-replicate (size_of t) o 255 h);
+    padding = λ o h e. (padding_kept (replicate (size_of t) 0) low first o (omega (arith, h, length-replicate {A = ℕ} (size_of t) 0)) e ∙ get_or-replicate (size_of t) o 0 0 h, padding_kept (replicate (size_of t) 255) high second o (omega (arith, h, length-replicate {A = ℕ} (size_of t) 255)) e ∙ get_or-replicate (size_of t) o 255 0 h);
   }
 
 -- ---- what is wanted of a place, by the marks

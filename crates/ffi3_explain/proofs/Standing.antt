@@ -1,7 +1,6 @@
 -- What the loop over the arguments keeps, as they are read by the standard alone; and what is told at its end.
-use Rattle.std.specs.Prelude.{slice_get, nat_le, ◌-◌, ◌&&◌, cond, Bool, Option, Some, None, true, false}
+use Rattle.std.specs.Prelude.{slice_get, ◌-◌, cond, Bool, Option, Some, None, true, false}
 use Rattle.std.proofs.Common.{◌≡◌, ℕ, suc, ◌+◌, ◌<◌, ◌≤◌, List, [], ◌∷◌, ◌++◌, drop, length, refl, ap, sym, ◌∙◌, subst, arith, append_assoc, append-nil, length-append}
-use Rattle.std.proofs.lemmas.Bool.Decides.{nat_tests}
 use Rattle.std.proofs.lemmas.Option.{get_or_from_slice_get, slice_get_within}
 use Rattle.ffi3_type_spec.specs.Tree.{Tree, tree_at, trees_of}
 use Rattle.ffi3_type_spec.specs.Signature.{Signature, SignatureHasNoFault}
@@ -14,54 +13,22 @@ use Rattle.ffi3_place_spec.specs.Holds.{Own}
 use Rattle.ffi3_place_spec.proofs.Elements.{drop_read, argument_read}
 use Rattle.ffi3_explain_spec.specs.declared.Outside.{Outside}
 use Rattle.ffi3_explain_spec.specs.Arguments.{are_values, points_outside, arguments_by, first_outside, held_by_standard, is_in_image, offset_in, or_later, outside_of, value_by_standard, values_by_standard}
-use Rattle.ffi3_explain_spec.proofs.Arguments.{are_read, bytes_within}
+use Rattle.ffi3_explain_spec.proofs.Arguments.{are_read}
 use Rattle.ffi3_explain.specs.declared.reading.Unread.{Unread}
 use Rattle.ffi3_explain.specs.declared.reading.Unread.TheVariants.{PointsOutside, NoMemory}
 use Rattle.ffi3_explain.specs.Places.{ArgumentIsThere, ArgumentsAreReady}
 use Rattle.ffi3_explain.specs.Told.{TellsFirstOutside, TellsOutside}
-use Rattle.ffi3_explain.proofs.Loops.{drop_all}
+use Rattle.std.proofs.lemmas.List.{drop_all}
 
 -- ---- where an address points
 
-and_false : (a : Bool) → (a && false) ≡ false
-and_false true = refl
-and_false false = refl
-
 module _ (m : Image) (address size : ℕ) where
-  pub points_below : address < m.sp → None ≡ offset_in m address size
-  points_below h =
-      let below : nat_le m.sp address ≡ false = grind (arith, nat_tests, h) in
-      ap (λ b. cond (b && nat_le (address + size) (m.sp + length m.stack)) (Some (address - m.sp)) None) (sym below)
-
-  pub points_above : m.sp + length m.stack < address + size → None ≡ offset_in m address size
-  points_above h =
-      let above : nat_le (address + size) (m.sp + length m.stack) ≡ false = grind (arith, nat_tests, h) in
-      ap (λ b. cond b (Some (address - m.sp)) None) (sym (and_false (nat_le m.sp address)) ∙ ap (λ b. nat_le m.sp address && b) (sym above))
-
-  pub points_inside : m.sp ≤ address → address + size ≤ m.sp + length m.stack → Some (address - m.sp) ≡ offset_in m address size
-  points_inside low high =
-      let above : nat_le m.sp address ≡ true = grind (arith, nat_tests, low) in
-      let below : nat_le (address + size) (m.sp + length m.stack) ≡ true = grind (arith, nat_tests, high) in
-      ap (λ b. cond (b && true) (Some (address - m.sp)) None) (sym above) ∙ ap (λ b. cond (nat_le m.sp address && b) (Some (address - m.sp)) None) (sym below)
-
   some_is : (b : Bool) (offset : ℕ) → cond b (Some (address - m.sp)) None ≡ Some offset → (b ≡ true) × (offset ≡ address - m.sp)
   some_is true offset e = (refl, cc)
   some_is false offset e = cc
 
-  none_is : (b : Bool) → cond b (Some (address - m.sp)) None ≡ None → b ≡ false
-  none_is true e = cc
-  none_is false e = refl
-
   pub found_inside : (offset : ℕ) → offset_in m address size ≡ Some offset → (is_in_image m address size ≡ true) × (offset ≡ address - m.sp)
   found_inside offset e = some_is (is_in_image m address size) offset e
-
-  pub found_within : (offset : ℕ) → offset_in m address size ≡ Some offset → offset + size ≤ length m.stack
-  found_within offset e =
-      let found = found_inside offset e in
-      omega (arith, found.1, bytes_within m address size found.0)
-
-  pub found_outside : offset_in m address size ≡ None → is_in_image m address size ≡ false
-  found_outside e = none_is (is_in_image m address size) e
 
 -- the arguments from number i on are still to be read
 pub record IsLeftToRead (m : Image) (base : ℕ) (ts : List Tree) (ps : List Place) (i : ℕ) (values : List ValueTree) : Type 0 where
@@ -124,8 +91,8 @@ none_to_read m base (p ∷ ps) = refl
 
 pub all_read : (m : Image) (base : ℕ) (ts : List Tree) (ps : List Place) (i : ℕ) (values : List ValueTree) → length ts ≤ i → IsLeftToRead m base ts ps i values → (values ≡ values_by_standard m base ts ps) × (first_outside m base 0 ts ps ≡ None)
 all_read m base ts ps i values end left = (
-  sym (left.read ∙ ap (λ us. values ++ values_by_standard m base us (drop i ps)) (drop_all ts i end) ∙ ap (λ vs. values ++ vs) (none_to_read m base (drop i ps)) ∙ append-nil values),
-  left.same ∙ ap (λ us. first_outside m base i us (drop i ps)) (drop_all ts i end) ∙ none_outside m base i (drop i ps),
+  sym (left.read ∙ ap (λ us. values ++ values_by_standard m base us (drop i ps)) (drop_all i ts end) ∙ ap (λ vs. values ++ vs) (none_to_read m base (drop i ps)) ∙ append-nil values),
+  left.same ∙ ap (λ us. first_outside m base i us (drop i ps)) (drop_all i ts end) ∙ none_outside m base i (drop i ps),
 )
 
 -- ---- what is told

@@ -16,17 +16,12 @@ loop-i-init g c =
     let sound = as_before std s (g.met.A.Abi.sound s) (faultless_is_plain s c.checked_sig-sig.ensures.faultless) in
     all_left (image_of c.args.image.now) c.args.base s.arguments (plan_of std s).places c.new-values.result c.new-values.ensures (arguments_ready std s sound (image_of c.args.image.now) c.args.base c.requires.stack c.requires.high c.checked_sig-sig.ensures.faultless)
 
-pub explain_argument-requires-clause-there : goal.explain_argument-requires-clause-there
-explain_argument-requires-clause-there g c =
+pub explain_argument-requires : goal.explain_argument-requires
+explain_argument-requires g c =
     let s = c.args.cif.now in
     let below : c.loop-i.i < length s.arguments = omega (arith, c.count-count.ensures.value, ap (λ r. length r.arguments) c.checked_sig-sig.ensures.value) in
-    (ready_here (image_of c.args.image.now) c.args.base s.arguments (plan_of g.A.Abi.standard s).places c.loop-i.i c.loop-i.values c.arg-ty.result c.place.result.now below (c.arg-ty.ensures ∙ ap (λ r. tree_at r.arguments c.loop-i.i) c.checked_sig-sig.ensures.value) c.place.ensures c.loop-i.invariant).0
-
-pub explain_argument-requires-clause-has_all : goal.explain_argument-requires-clause-has_all
-explain_argument-requires-clause-has_all g c =
-    let s = c.args.cif.now in
-    let below : c.loop-i.i < length s.arguments = omega (arith, c.count-count.ensures.value, ap (λ r. length r.arguments) c.checked_sig-sig.ensures.value) in
-    (ready_here (image_of c.args.image.now) c.args.base s.arguments (plan_of g.A.Abi.standard s).places c.loop-i.i c.loop-i.values c.arg-ty.result c.place.result.now below (c.arg-ty.ensures ∙ ap (λ r. tree_at r.arguments c.loop-i.i) c.checked_sig-sig.ensures.value) c.place.ensures c.loop-i.invariant).1
+    let ready = ready_here (image_of c.args.image.now) c.args.base s.arguments (plan_of g.A.Abi.standard s).places c.loop-i.i c.loop-i.values c.arg-ty.result c.place.result.now below (c.arg-ty.ensures ∙ ap (λ r. tree_at r.arguments c.loop-i.i) c.checked_sig-sig.ensures.value) c.place.ensures c.loop-i.invariant in
+    record { there = ready.0; has_all = ready.1 }
 
 pub loop-i-preserved : goal.loop-i-preserved
 loop-i-preserved g c =

@@ -13,16 +13,14 @@ pub place_bytes-bytes-requires : goal.place_bytes-bytes-requires
 place_bytes-bytes-requires c =
     (each_from (CanBeRead (image_of c.args.image.now) c.args.base) c.args.pieces.now c.args.j c.get-piece.result.now c.requires.below c.get-piece.ensures c.requires.there).0
 
-pub wanted_word-word-requires-clause-eight : goal.wanted_word-word-requires-clause-eight
-wanted_word-word-requires-clause-eight c = ap length c.place_bytes-bytes.ensures
-
-pub wanted_word-word-requires-clause-low : goal.wanted_word-word-requires-clause-low
-wanted_word-word-requires-clause-low c =
-    part_within (tree_of c.args.ty.now) (length c.args.low.now) c.get-piece.result.now c.requires.marks.low_sized (each_from (IsPieceOf (tree_of c.args.ty.now)) c.args.pieces.now c.args.j c.get-piece.result.now c.requires.below c.get-piece.ensures c.requires.suits)
-
-pub wanted_word-word-requires-clause-high : goal.wanted_word-word-requires-clause-high
-wanted_word-word-requires-clause-high c =
-    part_within (tree_of c.args.ty.now) (length c.args.high.now) c.get-piece.result.now c.requires.marks.high_sized (each_from (IsPieceOf (tree_of c.args.ty.now)) c.args.pieces.now c.args.j c.get-piece.result.now c.requires.below c.get-piece.ensures c.requires.suits)
+pub wanted_word-word-requires : goal.wanted_word-word-requires
+wanted_word-word-requires c =
+    let of = each_from (IsPieceOf (tree_of c.args.ty.now)) c.args.pieces.now c.args.j c.get-piece.result.now c.requires.below c.get-piece.ensures c.requires.suits in
+    record {
+      eight = ap length c.place_bytes-bytes.ensures;
+      low = part_within (tree_of c.args.ty.now) (length c.args.low.now) c.get-piece.result.now c.requires.marks.low_sized of;
+      high = part_within (tree_of c.args.ty.now) (length c.args.high.now) c.get-piece.result.now c.requires.marks.high_sized of;
+    }
 
 pub place_word-requires : goal.place_word-requires
 place_word-requires c =

@@ -5,16 +5,14 @@ use Rattle.ffi3_explain.specs.Places.{CanBeRead}
 use Rattle.ffi3_explain.proofs.Loops.{ArePiecesRead, each_from, one_more_read, all_read}
 use Rattle.ffi3_explain.proofs.pieces.read_pieces.Goals as goal
 
-pub read_piece-requires-clause-there : goal.read_piece-requires-clause-there
-read_piece-requires-clause-there c =
+pub read_piece-requires : goal.read_piece-requires
+read_piece-requires c =
     let below : c.loop-j.j - 1 < length c.args.pieces.now = omega (arith, c.loop-j.invariant.few) in
-    each_from (CanBeRead (image_of c.args.image.now) c.args.base) c.args.pieces.now (c.loop-j.j - 1) c.get.result.now below c.get.ensures c.requires.there
-
-pub read_piece-requires-clause-within : goal.read_piece-requires-clause-within
-read_piece-requires-clause-within c =
-    let below : c.loop-j.j - 1 < length c.args.pieces.now = omega (arith, c.loop-j.invariant.few) in
-    subst (λ n. IsWithin n c.get.result.now) (sym c.loop-j.invariant.sized)
-    (each_from (IsWithin (length c.args.out.now)) c.args.pieces.now (c.loop-j.j - 1) c.get.result.now below c.get.ensures c.requires.within)
+    record {
+      there = each_from (CanBeRead (image_of c.args.image.now) c.args.base) c.args.pieces.now (c.loop-j.j - 1) c.get.result.now below c.get.ensures c.requires.there;
+      within = subst (λ n. IsWithin n c.get.result.now) (sym c.loop-j.invariant.sized)
+          (each_from (IsWithin (length c.args.out.now)) c.args.pieces.now (c.loop-j.j - 1) c.get.result.now below c.get.ensures c.requires.within);
+    }
 
 pub loop-j-preserved : goal.loop-j-preserved
 loop-j-preserved c =

@@ -16,17 +16,12 @@ loop-i-init g c =
     let sound = as_before std s (g.met.A.Abi.sound s) (faultless_is_plain s c.checked_sig-sig.ensures.faultless) in
     all_to_read (image_of c.args.image.now) c.args.base s.arguments (plan_of std s).places c.new-values.result c.new-values.ensures (reached std s sound (image_of c.args.image.now) c.args.base c.requires.link c.requires.stack)
 
-pub read_argument-requires-clause-there : goal.read_argument-requires-clause-there
-read_argument-requires-clause-there g c =
+pub read_argument-requires : goal.read_argument-requires
+read_argument-requires g c =
     let s = c.args.cif.now in
     let below : c.loop-i.i < length s.arguments = omega (arith, c.count-count.ensures.value, ap (λ r. length r.arguments) c.checked_sig-sig.ensures.value) in
-    (ready_to_read (image_of c.args.image.now) c.args.base s.arguments (plan_of g.A.Abi.standard s).places c.loop-i.i c.loop-i.values c.arg-ty.result c.place.result.now below (c.arg-ty.ensures ∙ ap (λ r. tree_at r.arguments c.loop-i.i) c.checked_sig-sig.ensures.value) c.place.ensures c.loop-i.invariant).0
-
-pub read_argument-requires-clause-has_all : goal.read_argument-requires-clause-has_all
-read_argument-requires-clause-has_all g c =
-    let s = c.args.cif.now in
-    let below : c.loop-i.i < length s.arguments = omega (arith, c.count-count.ensures.value, ap (λ r. length r.arguments) c.checked_sig-sig.ensures.value) in
-    (ready_to_read (image_of c.args.image.now) c.args.base s.arguments (plan_of g.A.Abi.standard s).places c.loop-i.i c.loop-i.values c.arg-ty.result c.place.result.now below (c.arg-ty.ensures ∙ ap (λ r. tree_at r.arguments c.loop-i.i) c.checked_sig-sig.ensures.value) c.place.ensures c.loop-i.invariant).1
+    let ready = ready_to_read (image_of c.args.image.now) c.args.base s.arguments (plan_of g.A.Abi.standard s).places c.loop-i.i c.loop-i.values c.arg-ty.result c.place.result.now below (c.arg-ty.ensures ∙ ap (λ r. tree_at r.arguments c.loop-i.i) c.checked_sig-sig.ensures.value) c.place.ensures c.loop-i.invariant in
+    record { there = ready.0; has_all = ready.1 }
 
 pub loop-i-preserved : goal.loop-i-preserved
 loop-i-preserved g c =
