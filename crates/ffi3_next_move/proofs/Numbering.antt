@@ -55,10 +55,9 @@ before_more ns j n is =
 -- all of them stand before none
 pub before_all : (ns : List Native) (j : ℕ) → j ≡ length ns → signatures_before ns j ≡ length (all_signatures ns)
 before_all [] zero n = refl
-before_all [] (suc j) n = absurd (omega arith)
-before_all (x ∷ ns) zero n = absurd (omega arith)
 before_all (x ∷ ns) (suc j) n =
     omega (arith, length-append x.signatures (all_signatures (take j ns)), length-append x.signatures (all_signatures ns), before_all ns j (omega arith))
+before_all _ _ n = absurd (omega arith)
 
 native_function : (first own : ℕ) (ns : List Native) (j : ℕ) (n : Native) (d : Function) → slice_get ns j ≡ Some n → slice_index_or (functions_from first own ns) j d ≡ function_of (first + signatures_before ns j) (own + j) n
 native_function first own [] j n d is = cc
@@ -84,9 +83,7 @@ has_room n first own t (call ptr sig args) fits room small =
 has_room n first own t (make func user) fits room small =
     let below : func < 1 = fits in
     omega arith
-has_room n first own t (free ptr) fits room small = tt
-has_room n first own t (print u v) fits room small = tt
-has_room n first own t (return v) fits room small = tt
+has_room n first own t _ fits room small = tt
 
 -- ---- beside a script
 
@@ -130,18 +127,13 @@ module _ (std : Standard) (ns : List NamedNative) (s : Script) where
   script_fits n t (make func user) few fits =
       let below : func < length s.functions + n = fits in
       omega (arith, below, few, functions_count)
-  script_fits n t (free ptr) few fits = fits
-  script_fits n t (print u v) few fits = fits
-  script_fits n t (return v) few fits = fits
+  script_fits n t _ few fits = fits
 
   -- and its result has the same type
   pub script_type : (functions : ℕ) (t : Tree) (m : Move) → MoveFits s.signatures functions t m → result_type_of (program_beside std ns s).signatures m ≡ result_type_of s.signatures m
   script_type functions t (call ptr sig args) fits =
       ap (λ o. Some o.result_type) (own_of_script sig fits.0)
-  script_type functions t (make func user) fits = refl
-  script_type functions t (free ptr) fits = refl
-  script_type functions t (print u v) fits = refl
-  script_type functions t (return v) fits = refl
+  script_type functions t _ fits = refl
 
   -- native j is function k, and its signatures begin at `first`
   module _ (k first : ℕ) (n : Native) (above : length s.functions ≤ k) (is : slice_get (natives_in ns) (k - length s.functions) ≡ Some n) (begins : first ≡ length s.signatures + signatures_before (natives_in ns) (k - length s.functions)) where
@@ -176,17 +168,12 @@ module _ (std : Standard) (ns : List NamedNative) (s : Script) where
     native_fits t (make func user) fits =
         let itself : func < 1 = fits in
         omega (arith, itself, native_below)
-    native_fits t (free ptr) fits = fits
-    native_fits t (print u v) fits = fits
-    native_fits t (return v) fits = fits
+    native_fits t _ fits = fits
 
     pub native_type : (t : Tree) (m : Move) → MoveFits n.signatures 1 t m → result_type_of (program_beside std ns s).signatures (renumbered first k m) ≡ result_type_of n.signatures m
     native_type t (call ptr sig args) fits =
         ap (λ o. Some o.result_type) (own_of_native sig fits.0)
-    native_type t (make func user) fits = refl
-    native_type t (free ptr) fits = refl
-    native_type t (print u v) fits = refl
-    native_type t (return v) fits = refl
+    native_type t _ fits = refl
 
 -- signature i of native j is one of all
 pub signature_here : (ns : List NamedNative) (j i number : ℕ) (n : NamedNative) → slice_get ns j ≡ Some n → i < length n.native.signatures → i + signatures_before (natives_in ns) j ≡ number → signature_at n.native.signatures i ≡ signature_at (signatures_in ns) number

@@ -1,5 +1,5 @@
-//! Asks a function of a run for its next move, by the numbers of the run: its functions are the script's and then the
-//! natives, its signatures the script's and then those of each native.
+//! Finds out what a function of a running script does next. Numbers are those of the run: the script's functions come
+//! first and then the natives, the script's signatures first and then those of each native.
 #![tactic(auto)]
 
 mod asking;

@@ -8,15 +8,11 @@ pub native_at-native-requires : goal.native_at-native-requires
 native_at-native-requires g c =
     omega (arith, mapped_below _ c.args.natives.now.items _ _ c.requires.stands.is.is, c.functions.ensures.are)
 
-pub next_of-requires-clause-own : goal.next_of-requires-clause-own
-next_of-requires-clause-own g c =
+pub next_of-requires : goal.next_of-requires
+next_of-requires g c =
     let j : c.args.number - c.functions.result ≡ c.args.number - length (script_of c.args.script.now).functions = omega (arith, c.functions.ensures.are) in
-    (handed_inside _ c.args.script.now c.args.number c.args.first c.args.seen.now c.requires.stands _ _ j c.native_at-native.ensures).own
-
-pub next_of-requires-clause-follow : goal.next_of-requires-clause-follow
-next_of-requires-clause-follow g c =
-    let j : c.args.number - c.functions.result ≡ c.args.number - length (script_of c.args.script.now).functions = omega (arith, c.functions.ensures.are) in
-    (handed_inside _ c.args.script.now c.args.number c.args.first c.args.seen.now c.requires.stands _ _ j c.native_at-native.ensures).follow
+    let inside = handed_inside _ c.args.script.now c.args.number c.args.first c.args.seen.now c.requires.stands _ _ j c.native_at-native.ensures in
+    record { own = inside.own; follow = inside.follow }
 
 pub renumbered-requires : goal.renumbered-requires
 renumbered-requires g c =
