@@ -1,4 +1,3 @@
 pub mod Searching
 pub mod StillOwned
-pub mod Overwriting
 pub mod Poisoning

@@ -8,14 +8,11 @@ use Rattle.ffi3_type_spec.specs.Tree.{Tree}
 use Rattle.ffi3_place_spec.specs.declared.Loc.{Loc}
 use Rattle.ffi3_place_spec.specs.declared.Place.{Place}
 use Rattle.ffi3_poison.specs.Poison.{place_has, places_have}
+use Rattle.ffi3_poison.proofs.StillOwned.{or_left}
 
 pub both_false : (a b : Bool) → a ≡ false → b ≡ false → (a || b) ≡ false
 both_false true b h k = cc
 both_false false b h k = k
-
-first_true : (a b : Bool) → a ≡ true → (a || b) ≡ true
-first_true true b h = refl
-first_true false b h = cc
 
 pub not_first : (a b : Bool) → a ≡ false → (a || b) ≡ b
 not_first true b h = cc
@@ -45,7 +42,7 @@ module _ (l : Loc) (k : ℕ) where
 
     pub argument_has : place_has t l k p ≡ true → places_have l k (drop i ts) (drop i ps) ≡ true
     argument_has has =
-        opened ∙ first_true (place_has t l k p) (places_have l k (drop (i + 1) ts) (drop (i + 1) ps)) has
+        opened ∙ or_left (place_has t l k p) (places_have l k (drop (i + 1) ts) (drop (i + 1) ps)) has
 
     pub argument_has_not : place_has t l k p ≡ false → places_have l k (drop i ts) (drop i ps) ≡ places_have l k (drop (i + 1) ts) (drop (i + 1) ps)
     argument_has_not has =

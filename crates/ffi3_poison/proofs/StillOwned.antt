@@ -1,5 +1,5 @@
 -- An image in which each byte that carries something is the same still owns what it owned.
-use Rattle.std.specs.Prelude.{◌==◌, nat_lt, if◌then◌else◌, Bool, true, false, not, ◌&&◌, ◌||◌, Some, None}
+use Rattle.std.specs.Prelude.{◌==◌, nat_lt, Bool, true, false, not, ◌&&◌, ◌||◌, Some, None}
 use Rattle.std.proofs.Common.{◌≡◌, ℕ, ◌+◌, ◌-◌, ◌<◌, ◌≤◌, List, [], ◌∷◌, take, drop, get_or, length, refl, ap, sym, ◌∙◌, subst, arith, eq-eqb}
 use Rattle.std.specs.List.{AllByRecursion, list_any}
 use Rattle.std.specs.Int.{w64, from_le_bytes}
@@ -9,6 +9,7 @@ use Rattle.ffi3_type_spec.specs.Tree.{Tree}
 use Rattle.ffi3_type_spec.specs.Layout.{Leaf, leaves_of, scalar_size, size_of}
 use Rattle.ffi3_type_spec.specs.Value.{ValueTree, fits, value_in}
 use Rattle.ffi3_type_spec.proofs.Parts.{index_part, length_part}
+use Rattle.ffi3_type_spec.proofs.Tests.{both, if_true, if_false}
 use Rattle.ffi3_place_spec.specs.declared.Loc.{Loc}
 use Rattle.ffi3_place_spec.specs.declared.Loc.TheVariants.{G, F, S}
 use Rattle.ffi3_place_spec.specs.declared.Piece.{Piece}
@@ -35,18 +36,6 @@ or_left false b h = cc
 pub or_right : (a b : Bool) → b ≡ true → (a || b) ≡ true
 or_right true b h = refl
 or_right false b h = h
-
-and_both : (a b : Bool) → a ≡ true → b ≡ true → (a && b) ≡ true
-and_both true b h k = k
-and_both false b h k = h
-
-if_true : {A : Type 0} (b : Bool) (x y : A) → b ≡ true → (if b then x else y) ≡ x
-if_true true x y h = refl
-if_true false x y h = cc
-
-if_false : {A : Type 0} (b : Bool) (x y : A) → b ≡ false → (if b then x else y) ≡ y
-if_false true x y h = cc
-if_false false x y h = refl
 
 less : (a b : ℕ) → a < b → nat_lt a b ≡ true
 less a b h = grind (arith, nat_tests, h)
@@ -77,7 +66,7 @@ number_at (S n w) k =
 
 piece_at : (t : Tree) (p : Piece) (k : ℕ) → k < p.len → is_leaf_byte t (p.off + k) ≡ true → At (λ m j. piece_has t m j p ≡ true) p.loc k
 piece_at t p k h leaf =
-    at_map (λ m j. byte_number m j p.loc ≡ Some k) (λ m j. piece_has t m j p ≡ true) (λ m j is. ap (passes (λ i. nat_lt i p.len && is_leaf_byte t (p.off + i))) is ∙ and_both (nat_lt k p.len) (is_leaf_byte t (p.off + k)) (less k p.len h) leaf) p.loc k (number_at p.loc k)
+    at_map (λ m j. byte_number m j p.loc ≡ Some k) (λ m j. piece_has t m j p ≡ true) (λ m j is. ap (passes (λ i. nat_lt i p.len && is_leaf_byte t (p.off + i))) is ∙ both (nat_lt k p.len) (is_leaf_byte t (p.off + k)) (less k p.len h) leaf) p.loc k (number_at p.loc k)
 
 address_at : (at : Loc) (k : ℕ) → k < 8 → At (λ m j. address_has m j at ≡ true) at k
 address_at at k h =
@@ -88,7 +77,7 @@ copy_at t copy k leaf = ap (passes (is_leaf_byte t)) (number_at (S copy 8) k) �
 
 leaf_here : (l : Leaf) (k : ℕ) → k < scalar_size l.kind → leaf_has (l.at + k) l ≡ true
 leaf_here l k h =
-    and_both (not (nat_lt (l.at + k) l.at)) (nat_lt (l.at + k) (l.at + scalar_size l.kind)) (ap not (not_less (l.at + k) l.at (omega arith))) (less (l.at + k) (l.at + scalar_size l.kind) (omega (arith, h)))
+    both (not (nat_lt (l.at + k) l.at)) (nat_lt (l.at + k) (l.at + scalar_size l.kind)) (ap not (not_less (l.at + k) l.at (omega arith))) (less (l.at + k) (l.at + scalar_size l.kind) (omega (arith, h)))
 
 -- ---- the images
 

@@ -1,5 +1,5 @@
 -- What holds while the bytes that carry nothing are overwritten: register by register, then the frame byte by byte.
-use Rattle.std.specs.Prelude.{◌≡◌, ℕ, ◌+◌, ◌<◌, ◌⊎◌, true, false, nat_lt, ◌&&◌, take}
+use Rattle.std.specs.Prelude.{◌≡◌, ℕ, ◌+◌, ◌<◌, ◌≤◌, ◌⊎◌, true, false, take}
 use Rattle.std.specs.List.{list_any}
 use Rattle.ffi3_type_spec.specs.Signature.{Signature}
 use Rattle.ffi3_place_spec.specs.declared.Loc.{Loc}
@@ -7,7 +7,7 @@ use Rattle.ffi3_place_spec.specs.declared.Loc.TheVariants.{S}
 use Rattle.ffi3_place_spec.specs.Standard.{Standard, frame_of}
 use Rattle.ffi3_machine_spec.specs.State.{State}
 use Rattle.ffi3_machine_transfer.specs.Stored.{IsPlace, WroteOnly, WroteWithin, byte_of, stack_byte, word_in}
-use Rattle.ffi3_poison.specs.Poison.{MarkFalls, is_free, is_register}
+use Rattle.ffi3_poison.specs.Poison.{is_free, is_register}
 
 -- a register's byte stays, or it is free and becomes `byte`
 abbrev pub IsLeftOrFree : Standard → Signature → ℕ → ℕ → State → State → Loc → ℕ → Type 0
@@ -41,4 +41,7 @@ pub record IsFrameDone (std : Standard) (s : Signature) (base byte count : ℕ) 
   pub free : (n : ℕ) → n < count → is_free std s (S n 1) 0 ≡ true → stack_byte new (base + n) ≡ byte
   pub kept : (n : ℕ) → is_free std s (S n 1) 0 ≡ false → stack_byte new (base + n) ≡ stack_byte old (base + n)
   pub only : WroteOnly base (base + frame_of std s) old new
-  pub mark : MarkFalls (λ n. nat_lt n count && is_free std s (S n 1) 0) base old.mark new.mark
+  -- the mark falls to each lower byte of these that is free, and no further
+  pub falls : (n : ℕ) → n < count → is_free std s (S n 1) 0 ≡ true → new.mark ≤ base + n
+  pub no_higher : new.mark ≤ old.mark
+  pub no_lower : (new.mark ≡ old.mark) ⊎ ((n : ℕ) × (is_free std s (S n 1) 0 ≡ true) × (new.mark ≡ base + n))

@@ -5,7 +5,7 @@ use Rattle.ffi3_place_spec.specs.declared.Loc.TheVariants.{S}
 use Rattle.ffi3_place_spec.specs.Standard.{frame_of}
 use Rattle.ffi3_poison.specs.Poison.{carries}
 use Rattle.ffi3_poison.specs.Overwritten.{IsFrameDone}
-use Rattle.ffi3_poison.proofs.Overwriting.{byte_left, byte_written, carries_not_free, frame_free, no_byte_done}
+use Rattle.ffi3_poison.proofs.Poisoning.{byte_left, byte_written, carries_not_free, frame_free, no_byte_done}
 use Rattle.ffi3_poison.proofs.poison_frame.Goals.{then-not-carries, else-not-carries}
 use Rattle.ffi3_poison.proofs.poison_frame.Goals as goal
 

@@ -1,4 +1,4 @@
-use Rattle.ffi3_poison.proofs.Overwriting.{passing_done}
+use Rattle.ffi3_poison.proofs.Poisoning.{passing_done}
 use Rattle.ffi3_poison.proofs.poison_register.Goals as goal
 
 pub returns : goal.returns

@@ -1,6 +1,5 @@
 use Rattle.std.proofs.Common.{◌<◌, length, ◌∙◌, arith}
-use Rattle.ffi3_poison.proofs.Overwriting.{no_register_done, one_more_done}
-use Rattle.ffi3_poison.proofs.Poisoning.{is_passing, passing_place, passing_written}
+use Rattle.ffi3_poison.proofs.Poisoning.{no_register_done, one_more_done, is_passing, passing_place, passing_written}
 use Rattle.ffi3_poison.proofs.poison_registers.Goals as goal
 
 pub loop-k-init : goal.loop-k-init

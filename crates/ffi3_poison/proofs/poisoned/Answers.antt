@@ -1,6 +1,6 @@
 use Rattle.std.proofs.Common.{get_or, ap, ◌∙◌, arith}
 use Rattle.ffi3_poison.specs.Poison.{carries}
-use Rattle.ffi3_poison.proofs.Overwriting.{word_of_chosen}
+use Rattle.ffi3_poison.proofs.Poisoning.{word_of_chosen}
 use Rattle.ffi3_poison.proofs.poisoned.Goals as goal
 
 pub returns-clause-bytes : goal.returns-clause-bytes
