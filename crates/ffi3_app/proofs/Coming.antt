@@ -9,13 +9,7 @@ use Rattle.ffi3_cli_spec.specs.declared.words.Request.TheVariants.{OnInput, Benc
 use Rattle.ffi3_app_spec.specs.Outcome.{Outcome, refuses, tells, runs, benches, IsOutcome, IsOutcomeOn, reads_input}
 use Rattle.ffi3_app_spec.specs.Top.{ComesTo, HadBytes, IsRead, IsAtEnd, IsReadInPart, LeftInput}
 use Rattle.ffi3_app.proofs.Inputs.{none_dropped}
-use Rattle.ffi3_app.proofs.Outcomes.{IsAccepted, outcome_of_all, accepted_is_short}
-
-some_is : {X : Type 0} (x y : X) → Some x ≡ Some y → x ≡ y
-some_is x y e = cc
-
-none_is_some : {X : Type 0} (x : X) → None ≡ Some x → ⊥
-none_is_some x e = cc
+use Rattle.ffi3_app.proofs.Outcomes.{IsAccepted, laws}
 
 -- the input is ready for the work: what these bytes come to, it comes to, and it is left so; no read failed
 pub record IsReady (q : Request) (natives : List NamedNative) (input input' : SourceState) (bytes : List ℕ) : Type 0 where
@@ -27,10 +21,8 @@ pub record IsReady (q : Request) (natives : List NamedNative) (input input' : So
 
 -- the bytes that an input had: all that it told, or any
 had_by : (input : SourceState) (other : List ℕ) (left : Option (List ℕ)) → input.left ≡ left → (bytes : List ℕ) × HadBytes input bytes
-had_by input other None known =
-    (other, (λ all known'. absurd (none_is_some all (sym known ∙ known'))))
-had_by input other (Some all) known =
-    (all, (λ other known'. some_is all other (sym known ∙ known')))
+had_by input other None known = (other, (λ all known'. cc))
+had_by input other (Some all) known = (all, (λ other known'. cc))
 
 -- ---- an input that was read
 
@@ -51,21 +43,18 @@ module _ (input input' : SourceState) (bytes : List ℕ) (gives : GivesFirst 104
   module _ (command : InputCommand) (natives : List NamedNative) where
     left_as : (o : Outcome) → input'.faults ≡ input.faults → (IsAccepted o → length bytes ≤ 1048576) → LeftInput (OnInput command) o input input'
     left_as (refuses line) count short = (all_read, count)
-    left_as (tells text) count short = (all_read, at_end (short (λ line is. cc)), count)
-    left_as (runs trace std program) count short = (all_read, at_end (short (λ line is. cc)), count)
-    left_as (benches seed calls) count short = (all_read, at_end (short (λ line is. cc)), count)
+    left_as _ count short = (all_read, at_end (short (λ line is. cc)), count)
 
     comes_by : (o : Outcome) → IsOutcomeOn command natives bytes o → (left : Option (List ℕ)) → input.left ≡ left → ComesTo (OnInput command) natives input o
-    comes_by o is None known =
-        (bytes, (λ all known'. absurd (none_is_some all (sym known ∙ known'))), is)
+    comes_by o is None known = (bytes, (λ all known'. cc), is)
     comes_by o is (Some all) known =
         let P = λ (b : List ℕ). IsOutcomeOn command natives b o in
-        (all, (λ other known'. some_is all other (sym known ∙ known')), outcome_of_all natives command all o (subst P (gives all known).0 is))
+        (all, (λ other known'. cc), (laws natives command).of_all all o (subst P (gives all known).0 is))
 
     ready_read : input'.faults ≡ input.faults → IsReady (OnInput command) natives input input' bytes
     ready_read count = record {
       comes = λ o is. comes_by o is input.left refl;
-      left = λ o is. left_as o count (accepted_is_short natives command bytes o is);
+      left = λ o is. left_as o count ((laws natives command).short bytes o is);
       part = read_in_part;
       count = count;
       untouched = λ unread. absurd (true≢false unread);

@@ -23,9 +23,6 @@ front_ends ts us i n is in_first in_second other =
     omega (arith, is, none)
 
 -- one of them ends
-nothing_first : (us : List Tree) → same_front [] us ≡ 0
-nothing_first us = refl
-
 nothing_second : (ts : List Tree) → same_front ts [] ≡ 0
 nothing_second [] = refl
 nothing_second (t ∷ ts) = refl

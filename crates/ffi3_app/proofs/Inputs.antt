@@ -24,33 +24,34 @@ none_dropped all short = drop_of_length-le all {i = 1048577} (short_whole all sh
 pub all_taken : (all : List ℕ) → length (take 1048577 all) ≤ 1048576 → take 1048577 all ≡ all
 all_taken all short = take_all 1048577 all (short_whole all short)
 
+-- what short bytes come to, all of them do
+of_all : (P : List ℕ → Type 0) (all : List ℕ) → length (take 1048577 all) ≤ 1048576 → P (take 1048577 all) → P all
+of_all P all short is = subst P (all_taken all short) is
+
 -- the first bytes are read as all of them
 pub reading_of_all : (names : List (List ℕ)) (all : List ℕ) (r : Reading) → IsReading names (take 1048577 all) r → IsReading names all r
 reading_of_all names all too_long long = omega (arith, length-take 1048577 all)
 reading_of_all names all not_json (short, rest) =
-    let P = λ (bytes : List ℕ). IsReading names bytes not_json in subst P (all_taken all short) (short, rest)
+    of_all (λ b. IsReading names b not_json) all short (short, rest)
 reading_of_all names all (bad_script path reason) (d, json, is) =
-    let P = λ (bytes : List ℕ). IsReading names bytes (bad_script path reason) in subst P (all_taken all json.short) (d, json, is)
+    of_all (λ b. IsReading names b (bad_script path reason)) all json.short (d, json, is)
 reading_of_all names all (script s) (d, json, is) =
-    let P = λ (bytes : List ℕ). IsReading names bytes (script s) in subst P (all_taken all json.short) (d, json, is)
+    of_all (λ b. IsReading names b (script s)) all json.short (d, json, is)
 
-module _ (IsRead : List ℕ → Prototype → Type 0) where
-  pub input_of_all : (all : List ℕ) (i : Input) → IsInput IsRead (take 1048577 all) i → IsInput IsRead all i
-  input_of_all all too_many_bytes long = omega (arith, length-take 1048577 all)
-  input_of_all all not_utf8 (short, none) =
-      let P = λ (bytes : List ℕ). IsInput IsRead bytes not_utf8 in subst P (all_taken all short) (short, none)
-  input_of_all all (a_text p) (short, utf8, is) =
-      let P = λ (bytes : List ℕ). IsInput IsRead bytes (a_text p) in subst P (all_taken all short) (short, utf8, is)
+pub input_of_all : (IsRead : List ℕ → Prototype → Type 0) (all : List ℕ) (i : Input) → IsInput IsRead (take 1048577 all) i → IsInput IsRead all i
+input_of_all IsRead all too_many_bytes long = omega (arith, length-take 1048577 all)
+input_of_all IsRead all not_utf8 is = of_all (λ b. IsInput IsRead b not_utf8) all is.0 is
+input_of_all IsRead all (a_text p) is = of_all (λ b. IsInput IsRead b (a_text p)) all is.0 is
 
 module _ (question : Question) (all : List ℕ) where
   image_of_all : (i : image.Input) → image.IsReadAs question (take 1048577 all) i → image.IsReadAs question all i
   image_of_all image.too_long long = omega (arith, length-take 1048577 all)
   image_of_all image.not_json (short, rest) =
-      let P = λ (bytes : List ℕ). image.IsReadAs question bytes image.not_json in subst P (all_taken all short) (short, rest)
+      of_all (λ b. image.IsReadAs question b image.not_json) all short (short, rest)
   image_of_all (image.faulty path reason) (d, json, is) =
-      let P = λ (bytes : List ℕ). image.IsReadAs question bytes (image.faulty path reason) in subst P (all_taken all json.short) (d, json, is)
+      of_all (λ b. image.IsReadAs question b (image.faulty path reason)) all json.short (d, json, is)
   image_of_all (image.described s) (d, json, is) =
-      let P = λ (bytes : List ℕ). image.IsReadAs question bytes (image.described s) in subst P (all_taken all json.short) (d, json, is)
+      of_all (λ b. image.IsReadAs question b (image.described s)) all json.short (d, json, is)
 
   pub answer_of_all : (a : Answer) → IsAnswer question (take 1048577 all) a → IsAnswer question all a
   answer_of_all a (i, reads, is) = (i, image_of_all i reads, is)

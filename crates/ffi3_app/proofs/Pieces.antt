@@ -1,5 +1,5 @@
 -- What came of pieces that were written one after another.
-use Rattle.std.proofs.Common.{◌≡◌, ℕ, ◌+◌, ◌-◌, ◌≤◌, List, [], ◌++◌, map, drop, length, refl, sym, ap, ◌∙◌, subst, arith, take-append-drop}
+use Rattle.std.proofs.Common.{◌≡◌, ℕ, ◌+◌, ◌-◌, ◌≤◌, List, [], ◌∷◌, ◌++◌, map, drop, length, refl, sym, ap, ◌∙◌, subst, arith, take-append-drop}
 use Rattle.std.specs.Prelude.{Result, Ok, Err, IfOk, ◌<◌, get_or, slice_range}
 use Rattle.std.proofs.lemmas.List.{drop_more, drop-drop}
 use Rattle.std.proofs.lemmas.List.Folds.{concat-append}
@@ -8,11 +8,9 @@ use Rattle.ffi3_io.proofs.Writing.{took_nothing, took_then, cut_after, cut_at_on
 use Rattle.ffi3_type_spec.specs.Signature.{Signature, signature_at, Position, at_argument}
 use Rattle.ffi3_type_spec.specs.Tree.{Tree}
 use Rattle.ffi3_type_spec.specs.declared.Target.{Target}
-use Rattle.ffi3_place_spec.specs.Standard.{Standard}
 use Rattle.ffi3_io_spec.specs.Sink.{SinkState}
 use Rattle.ffi3_io_spec.specs.Written.{TookText}
-use Rattle.std.specs.List.{concat}
-use Rattle.ffi3_explain_spec.specs.Standards.{standard_of}
+use Rattle.std.specs.List.{concat, flat_map}
 use Rattle.ffi3_app_spec.specs.Commands.{lines_from, arguments_from}
 use Rattle.ffi3_io_spec.specs.Written as written
 use Rattle.ffi3_io_spec.specs.declared.IoError.{IoError}
@@ -67,6 +65,17 @@ module _ (whole rest : List ℕ) (start now : SinkState) (continues : Continues 
   pub continues_last : (piece : List ℕ) (after : SinkState) (r : Writing) → rest ≡ piece → Wrote piece now after r → Wrote whole start after r
   continues_last piece after r is wrote = continues after r (subst (λ t. Wrote t now after r) (sym is) wrote)
 
+-- ---- the parts of targets, one after another
+
+module _ (part : Target → List ℕ) (whole : List ℕ) (start now next : SinkState) (t : Target) (ts : List Target) (continues : Continues whole (flat_map part (t ∷ ts)) start now) where
+  pub target_on : Wrote (part t) now next (Ok tt) → Continues whole (flat_map part ts) start next
+  target_on wrote =
+      continues_on whole (flat_map part (t ∷ ts)) start now continues (part t) (flat_map part ts) next refl wrote
+
+  pub target_ended : (e : IoError) (r : Writing) → Wrote (part t) now next (Err e) → r ≡ Err e → Wrote whole start next r
+  target_ended e r wrote same =
+      continues_ended whole (flat_map part (t ∷ ts)) start now continues (part t) (flat_map part ts) next e r refl wrote same
+
 -- ---- a piece of a text
 
 pub piece_of : (text : List ℕ) (start end : ℕ) → start ≤ end → drop start text ≡ slice_range text start end ++ drop end text
@@ -107,11 +116,6 @@ module _ (line : Position → List ℕ) (ts : List Tree) (last : List (List ℕ)
 pub line_for : {E : Type 0} (text : Signature → List ℕ) (s t : Signature) (line : Result (List ℕ) E) → s ≡ t → IfOk line (λ l. l ≡ text s) → IfOk line (λ l. l ≡ text t)
 line_for text s t line is made = subst (λ v. IfOk line (λ l. l ≡ text v)) is made
 
--- what was written of a signature was written of the same signature
-pub wrote_for : (text : Signature → List ℕ) (s t : Signature) (a b : SinkState) (r : Writing) → s ≡ t → Wrote (text s) a b r → Wrote (text t) a b r
+-- what was written of a signature or by a standard was written of the same
+pub wrote_for : {X : Type 0} (text : X → List ℕ) (s t : X) (a b : SinkState) (r : Writing) → s ≡ t → Wrote (text s) a b r → Wrote (text t) a b r
 wrote_for text s t a b r is wrote = subst (λ v. Wrote (text v) a b r) is wrote
-
--- what was written by the standard of a target was written by that of the same target
-pub placed_by : (text : Standard → List ℕ) (t u : Target) (a b : SinkState) (r : Writing) → t ≡ u → Wrote (text (standard_of u)) a b r → Wrote (text (standard_of t)) a b r
-placed_by text t u a b r is wrote =
-    subst (λ v. Wrote (text (standard_of v)) a b r) (sym is) wrote

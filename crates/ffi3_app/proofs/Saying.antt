@@ -13,8 +13,7 @@ use Rattle.ffi3_cli_spec.specs.Words.{Takes, IsRefused, IsStated}
 use Rattle.ffi3_cli.specs.WordAnswers.{IsWordsRefusal as WordsRefusal}
 use Rattle.ffi3_cli.specs.declared.words.WordsFault.{WordsFault}
 use Rattle.ffi3_cli.specs.declared.words.WordsFault.TheVariants as words_fault
-use Rattle.ffi3_cli_spec.specs.WordCommands.{Addresses}
-use Rattle.ffi3_cli.proofs.Refusals.{taken_not_refused}
+use Rattle.ffi3_cli.proofs.Refusals.{one_request, taken_not_refused}
 use Rattle.ffi3_cli.proofs.Stated.{stated_is_taken}
 use Rattle.ffi3_app.specs.declared.unfinished.Unfinished.{Unfinished}
 use Rattle.ffi3_app.specs.declared.unfinished.Unfinished.TheVariants.{Refused, NoMemory, WriteFault}
@@ -22,21 +21,10 @@ use Rattle.ffi3_app_spec.specs.Outcome.{Outcome, refuses, tells, runs, benches, 
 use Rattle.ffi3_app_spec.specs.FaultLines.{ReportsFault, whole, cut, no_memory_line, read_fault_line}
 use Rattle.ffi3_app_spec.specs.Top.{ComesTo, LeftInput, refused, bad_words, read_failed, write_failed, no_memory_for_words, no_memory_to_begin, no_memory_to_end, Says, done, failed, IsReadInPart}
 use Rattle.ffi3_app.specs.Work.{IsEndTold, Works}
-use Rattle.ffi3_app.proofs.Outcomes.{one_outcome}
+use Rattle.ffi3_app.proofs.Outcomes.{laws}
 use Rattle.ffi3_app.proofs.Coming.{IsReady}
 
 -- ---- words
-
-some_is : {X : Type 0} (x y : X) → Some x ≡ Some y → x ≡ y
-some_is x y e = cc
-
-abbrev nowhere : Addresses
-nowhere n = (0, 0)
-
--- words are taken as one request alone
-pub one_request : (words : List (List ℕ)) (q r : Request) → Takes words q → Takes words r → q ≡ r
-one_request words q r takes takes' =
-    some_is q r (sym (takes.means nowhere nowhere) ∙ takes'.means nowhere nowhere)
 
 -- words are taken as what they state
 pub same_request : (words : List (List ℕ)) (q r : Request) → Takes words q → IsStated words r → q ≡ r
@@ -47,9 +35,6 @@ same_request words q r takes stated =
 pub not_refused : (words : List (List ℕ)) (r : Request) → IsRefused words → IsStated words r → ⊥
 not_refused words r refuses_words stated =
     taken_not_refused words r refuses_words (stated_is_taken words r stated)
-
-pub is_refused : (words : List (List ℕ)) (f : WordsFault) (text : _) → f ≡ words_fault.Refused text → WordsRefusal words f → IsRefused words
-is_refused words f text is refusal = (subst (WordsRefusal words) is refusal).0
 
 -- ---- work that is done
 
@@ -71,16 +56,10 @@ end_not_two (returned v) is = cc
 end_not_two (stopped stop) is = cc
 
 outcome_not_two : (o : Outcome) → outcome_status o ≡ 2 → ⊥
-outcome_not_two (refuses line) is = cc
-outcome_not_two (tells text) is = cc
 outcome_not_two (runs trace std program) is = end_not_two _ is
-outcome_not_two (benches seed calls) is = cc
+outcome_not_two _ is = cc
 
 -- ---- before the work
-
--- words that were taken as a request were taken as the same request
-pub takes_as : (words : List (List ℕ)) (q r : Request) → q ≡ r → Takes words q → Takes words r
-takes_as words q r same takes = subst (Takes words) same takes
 
 module _ (words : List (List ℕ)) (natives : List NamedNative) (input input' : SourceState) (output told told' : SinkState) (machine : State) (command : InputCommand) (takes : Takes words (OnInput command)) (part : IsReadInPart input input') where
   -- there was no memory for the bytes
@@ -117,7 +96,7 @@ module _ (words : List (List ℕ)) (natives : List NamedNative) (input input' : 
   one_comes : (r : Request) (o p : Outcome) (bytes : List ℕ) → ComesTo r natives input p → (reads_input r ≡ true → input.left ≡ Some bytes) → IsOutcome r natives bytes o → p ≡ o
   one_comes (OnInput command) o p bytes (bytes', had, is') known is =
       let P = λ (b : List ℕ). IsOutcomeOn command natives b p in
-      one_outcome natives command bytes p o (subst P (had bytes (known refl)) is') is
+      (laws natives command).one bytes p o (subst P (had bytes (known refl)) is') is
   one_comes (Bench seed calls) o p bytes (bytes', had, is') known is = is' ∙ sym is
 
   -- what the stated words surely come to is what was done
@@ -136,35 +115,16 @@ module _ (words : List (List ℕ)) (natives : List NamedNative) (input input' : 
   completes _ (failed (read_failed {command = command} takes rose part same_output same_machine) (whole took)) r stated bytes known o is no_read no_write no_tell =
       absurd (no_read (sym (ap (λ (x : Request). reads_input x) (same_request words (OnInput command) r takes stated))) rose)
   completes _ (failed (write_failed takes p comes left part rose) (whole took)) r stated bytes known o is no_read no_write no_tell = absurd (no_write rose)
-  completes _ (failed (no_memory_for_words same_input same_output same_machine) (whole took)) r stated bytes known o is no_read no_write no_tell = inr refl
-  completes _ (failed (no_memory_to_begin takes part count untouched same_output same_machine) (whole took)) r stated bytes known o is no_read no_write no_tell = inr refl
-  completes _ (failed (no_memory_to_end takes p comes left part count) (whole took)) r stated bytes known o is no_read no_write no_tell = inr refl
+  completes _ (failed _ (whole took)) r stated bytes known o is no_read no_write no_tell = inr refl
 
   -- ---- status 2 comes of words that are refused
-
-  one_not_two : ◌≡◌ {A = ℕ} 1 2 → ⊥
-  one_not_two is = cc
-
-  three_not_two : ◌≡◌ {A = ℕ} 3 2 → ⊥
-  three_not_two is = cc
-
-  four_not_two : ◌≡◌ {A = ℕ} 4 2 → ⊥
-  four_not_two is = cc
-
-  five_not_two : ◌≡◌ {A = ℕ} 5 2 → ⊥
-  five_not_two is = cc
 
   two_is_refused : (status : ℕ) → Says words natives input input' output output' told told' machine machine' status → status ≡ 2 → IsRefused words
   two_is_refused status (done takes o comes left did same) two =
       absurd (outcome_not_two o (sym (done_status output output' machine machine' o status did) ∙ two))
-  two_is_refused _ (failed wrong (cut part rose)) two = absurd (four_not_two two)
-  two_is_refused _ (failed (refused takes comes left same_output same_machine) (whole took)) two = absurd (one_not_two two)
   two_is_refused _ (failed (bad_words refuses_words same_input same_output same_machine) (whole took)) two = refuses_words
-  two_is_refused _ (failed (read_failed takes rose part same_output same_machine) (whole took)) two = absurd (three_not_two two)
-  two_is_refused _ (failed (write_failed takes o comes left part rose) (whole took)) two = absurd (four_not_two two)
-  two_is_refused _ (failed (no_memory_for_words same_input same_output same_machine) (whole took)) two = absurd (five_not_two two)
-  two_is_refused _ (failed (no_memory_to_begin takes part count untouched same_output same_machine) (whole took)) two = absurd (five_not_two two)
-  two_is_refused _ (failed (no_memory_to_end takes o comes left part count) (whole took)) two = absurd (five_not_two two)
+  two_is_refused _ (failed _ (whole took)) two = cc
+  two_is_refused _ (failed wrong (cut part rose)) two = cc
 
   pub two_asks_nothing : (status : ℕ) → Says words natives input input' output output' told told' machine machine' status → status ≡ 2 → (r : Request) → Takes words r → ⊥
   two_asks_nothing status says two r takes =
@@ -179,46 +139,39 @@ module _ (words : List (List ℕ)) (natives : List NamedNative) (input input' : 
   left_count : (q : Request) (o : Outcome) → LeftInput q o input input' → input'.faults ≡ input.faults
   left_count (Bench seed calls) o same = ap (λ (t : SourceState). t.faults) same
   left_count (OnInput command) (refuses line) left = left.1
-  left_count (OnInput command) (tells text) left = left.2
-  left_count (OnInput command) (runs trace std program) left = left.2
-  left_count (OnInput command) (benches seed calls) left = left.2
+  left_count (OnInput command) _ left = left.2
+
+  unmoved : {P : Type 0} (a b : ℕ) → b ≡ a → a < b → P
+  unmoved a b same higher = absurd (omega (arith, same, higher))
 
   pub read_count : (status : ℕ) → Says words natives input input' output output' told told' machine machine' status → input.faults < input'.faults → (status ≡ 3) ⊎ (status ≡ 4)
-  read_count _ (done {request = q} takes o comes left did same) higher =
-      let same_count : input'.faults ≡ input.faults = left_count q o left in absurd (omega (arith, same_count))
+  read_count _ (done {request = q} takes o comes left did same) higher = unmoved _ _ (left_count q o left) higher
   read_count _ (failed wrong (cut part rose)) higher = inr refl
-  read_count _ (failed (refused {request = q} takes {line = line} comes left same_output same_machine) (whole took)) higher =
-      let same_count : input'.faults ≡ input.faults = left_count q (refuses line) left in absurd (omega (arith, same_count))
-  read_count _ (failed (bad_words refuses_words same_input same_output same_machine) (whole took)) higher =
-      let same : input'.faults ≡ input.faults = ap (λ t. t.faults) same_input in absurd (omega (arith, same))
+  read_count _ (failed (refused {request = q} takes {line = line} comes left same_output same_machine) (whole took)) higher = unmoved _ _ (left_count q (refuses line) left) higher
+  read_count _ (failed (bad_words refuses_words same_input same_output same_machine) (whole took)) higher = unmoved _ _ (ap (λ t. t.faults) same_input) higher
   read_count _ (failed (read_failed takes rose part same_output same_machine) (whole took)) higher = inl refl
   read_count _ (failed (write_failed takes o comes left part rose) (whole took)) higher = inr refl
-  read_count _ (failed (no_memory_for_words same_input same_output same_machine) (whole took)) higher =
-      let same : input'.faults ≡ input.faults = ap (λ t. t.faults) same_input in absurd (omega (arith, same))
-  read_count _ (failed (no_memory_to_begin takes part count untouched same_output same_machine) (whole took)) higher = absurd (omega (arith, count))
-  read_count _ (failed (no_memory_to_end {request = q} takes o comes left part count) (whole took)) higher =
-      let same_count : input'.faults ≡ input.faults = left_count q o left in absurd (omega (arith, same_count))
+  read_count _ (failed (no_memory_for_words same_input same_output same_machine) (whole took)) higher = unmoved _ _ (ap (λ t. t.faults) same_input) higher
+  read_count _ (failed (no_memory_to_begin takes part count untouched same_output same_machine) (whole took)) higher = unmoved _ _ count higher
+  read_count _ (failed (no_memory_to_end {request = q} takes o comes left part count) (whole took)) higher = unmoved _ _ (left_count q o left) higher
+
+  -- what wrote nothing left the output as it was
+  wrote_none : {P : Type 0} → output' ≡ output → output.faults < output'.faults → P
+  wrote_none same higher = unmoved _ _ (ap (λ (t : SinkState). t.faults) same) higher
 
   pub write_count : (status : ℕ) → Says words natives input input' output output' told told' machine machine' status → output.faults < output'.faults → status ≡ 4
   write_count status (done takes o comes left did same) higher =
-      let same_count : output'.faults ≡ output.faults = done_count output output' machine machine' o status did in absurd (omega (arith, same_count))
+      unmoved _ _ (done_count output output' machine machine' o status did) higher
   write_count _ (failed wrong (cut part rose)) higher = refl
-  write_count _ (failed (refused takes comes left same_output same_machine) (whole took)) higher =
-      let same : output'.faults ≡ output.faults = ap (λ t. t.faults) same_output in absurd (omega (arith, same))
-  write_count _ (failed (bad_words refuses_words same_input same_output same_machine) (whole took)) higher =
-      let same : output'.faults ≡ output.faults = ap (λ t. t.faults) same_output in absurd (omega (arith, same))
-  write_count _ (failed (read_failed takes rose part same_output same_machine) (whole took)) higher =
-      let same : output'.faults ≡ output.faults = ap (λ t. t.faults) same_output in absurd (omega (arith, same))
+  write_count _ (failed (refused takes comes left same_output same_machine) (whole took)) higher = wrote_none same_output higher
+  write_count _ (failed (bad_words refuses_words same_input same_output same_machine) (whole took)) higher = wrote_none same_output higher
+  write_count _ (failed (read_failed takes rose part same_output same_machine) (whole took)) higher = wrote_none same_output higher
   write_count _ (failed (write_failed takes o comes left part rose) (whole took)) higher = refl
-  write_count _ (failed (no_memory_for_words same_input same_output same_machine) (whole took)) higher =
-      let same : output'.faults ≡ output.faults = ap (λ t. t.faults) same_output in absurd (omega (arith, same))
-  write_count _ (failed (no_memory_to_begin takes part count untouched same_output same_machine) (whole took)) higher =
-      let same : output'.faults ≡ output.faults = ap (λ t. t.faults) same_output in absurd (omega (arith, same))
-  write_count _ (failed (no_memory_to_end takes o comes left part count) (whole took)) higher = absurd (omega (arith, count))
+  write_count _ (failed (no_memory_for_words same_input same_output same_machine) (whole took)) higher = wrote_none same_output higher
+  write_count _ (failed (no_memory_to_begin takes part count untouched same_output same_machine) (whole took)) higher = wrote_none same_output higher
+  write_count _ (failed (no_memory_to_end takes o comes left part count) (whole took)) higher = unmoved _ _ count higher
 
   pub tell_count : (status : ℕ) → Says words natives input input' output output' told told' machine machine' status → told.faults < told'.faults → status ≡ 4
-  tell_count _ (done takes o comes left did same) higher =
-      let same_count : told'.faults ≡ told.faults = ap (λ t. t.faults) same in absurd (omega (arith, same_count))
+  tell_count _ (done takes o comes left did same) higher = unmoved _ _ (ap (λ t. t.faults) same) higher
   tell_count _ (failed wrong (cut part rose)) higher = refl
-  tell_count _ (failed wrong (whole line)) higher =
-      let same_count : told'.faults ≡ told.faults = line.count in absurd (omega (arith, same_count))
+  tell_count _ (failed wrong (whole line)) higher = unmoved _ _ line.count higher

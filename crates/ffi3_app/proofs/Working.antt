@@ -50,13 +50,19 @@ use Rattle.ffi3_image.specs.AnswerOf.{answer_of}
 use Rattle.ffi3_cli_spec.specs.declared.words.InputCommand.{InputCommand}
 use Rattle.ffi3_app.specs.declared.unfinished.Unfinished.{Unfinished}
 use Rattle.ffi3_app.specs.declared.unfinished.Unfinished.TheVariants.{Refused, NoMemory, WriteFault}
+use Rattle.ffi3_place_spec.specs.Standard.{Standard}
 use Rattle.ffi3_explain_spec.specs.Standards.{standard_of}
 use Rattle.ffi3_app_spec.specs.Declarations.{Input, a_text, IsInput, IsPrototypeEverywhere, IsReadWidely, IsWritable, offset_line, reason_line, marked_line, unexpected_line, fault_words, fault_line, sign_line}
 use Rattle.ffi3_diagnostics_spec.specs.Positions.{placed_words}
 use Rattle.ffi3_app_spec.specs.Outcome.{Outcome, refuses, tells, runs, benches, IsOfScript, IsOfDeclaration, HasNames, IsOfPrototype, IsOfImage, outcome_of_input, outcome_of_prototype, outcome_of_answer, IsOutcomeOn}
 use Rattle.ffi3_app.proofs.Called.{some_names}
 use Rattle.ffi3_app.proofs.Outcomes.{one_prototype_input}
-use Rattle.ffi3_app.specs.Work.{Works, IsToldAs, IsFaultToldAs, IsPlaceToldAs, IsNoScript, IsNoInput, IsNoDeclaration, IsNoPrototype, IsNoText, IsSignUnsaid, RefusesWith, work_of_writing}
+use Rattle.ffi3_app.specs.declared.work.ScriptTask.{ScriptTask}
+use Rattle.ffi3_app.specs.Work.{Works, script_outcome, IsToldAs, IsFaultToldAs, IsPlaceToldAs, IsNoScript, IsNoInput, IsNoDeclaration, IsNoPrototype, IsNoText, IsSignUnsaid, RefusesWith, work_of_writing}
+
+-- what holds of a value holds of one that is the same
+pub of_same : {X : Type 0} (P : X → Type 0) {x y : X} → x ≡ y → P y → P x
+of_same P same is = subst P (sym same) is
 
 -- outcomes of one kind are outcomes of another
 pub works_for : (P Q : Outcome → Type 0) (output output' : SinkState) (machine machine' : State) (r : Result ℕ Unfinished) → ((o : Outcome) → P o → Q o) → Works P output output' machine machine' r → Works Q output output' machine machine' r
@@ -102,24 +108,9 @@ pub refused_no_script : (names : List (List ℕ)) (bytes : List ℕ) (f : Script
 refused_no_script names bytes fault.TooLong (Refused line) is told = λ outcome. (too_long, is.0, ap (λ (l : List ℕ). refuses l) told)
 refused_no_script names bytes fault.BadJson (Refused line) is told = λ outcome. (not_json, is.0, ap (λ (l : List ℕ). refuses l) told)
 refused_no_script names bytes (fault.BadScript path why) (Refused line) is told = λ outcome. (bad_script path (reason_of why), is.0, ap (λ (l : List ℕ). refuses l) told)
-refused_no_script names bytes fault.NoMemory (Refused line) is told = cc
-refused_no_script names bytes fault.TooLong NoMemory is told = tt
-refused_no_script names bytes fault.BadJson NoMemory is told = tt
-refused_no_script names bytes (fault.BadScript path why) NoMemory is told = tt
-refused_no_script names bytes fault.NoMemory NoMemory is told = tt
-refused_no_script names bytes fault.TooLong WriteFault is told = absurd told
-refused_no_script names bytes fault.BadJson WriteFault is told = absurd told
-refused_no_script names bytes (fault.BadScript path why) WriteFault is told = absurd told
-refused_no_script names bytes fault.NoMemory WriteFault is told = cc
-
--- beside the same names
-pub refused_beside : (names names' : List (List ℕ)) (bytes : List ℕ) (f : ScriptFault) → names ≡ names' → IsScriptRefusal names bytes f → IsScriptRefusal names' bytes f
-refused_beside names names' bytes f same is =
-    let P = λ (ns : List (List ℕ)). IsScriptRefusal ns bytes f in subst P same is
-
-pub told_as : (f g : ScriptFault) (e : Unfinished) → f ≡ g → IsToldAs g e → IsToldAs f e
-told_as f g e same told =
-    let P = λ (x : ScriptFault). IsToldAs x e in subst P (sym same) told
+refused_no_script names bytes _ NoMemory is told = tt
+refused_no_script names bytes fault.NoMemory _ is told = cc
+refused_no_script names bytes _ WriteFault is told = absurd told
 
 -- there is no script to work on
 pub no_script_works : (names : List (List ℕ)) (outcome : Script → Outcome) (bytes : List ℕ) (output : SinkState) (machine : State) (e : Unfinished) → IsNoScript names bytes e → Works (IsOfScript names outcome bytes) output output machine machine (Err e)
@@ -174,18 +165,12 @@ told_text text decl.NoMemory e tells_it told =
     let P = λ (x : Unfinished). IsNoText text x in subst P (sym told) tt
 
 signed_fault : (text : List ℕ) (f : DeclFault) → Tells (IsReadingEverywhere signed text) f → Tells (λ o. IsPrototypeEverywhere text (read_as o)) f
-signed_fault text (decl.BadToken at) is = has_fault is (λ d e. cc)
-signed_fault text (decl.Unexpected at) is = has_fault is (λ d e. cc)
-signed_fault text (decl.BadNumber at) is = has_fault is (λ d e. cc)
-signed_fault text (decl.Sig f) is = has_fault is (λ d e. cc)
 signed_fault text decl.NoMemory is = tt
+signed_fault text _ is = has_fault is (λ d e. cc)
 
 unsigned_fault : (text : List ℕ) (d : Declaration) (f : DeclFault) → IsReadingEverywhere signed text (declaration.reads d) → Tells (IsReadingEverywhere unsigned text) f → Tells (λ o. IsPrototypeEverywhere text (read_as o)) f
-unsigned_fault text d (decl.BadToken at) reads is = has_fault_unsigned reads is (λ d e. cc)
-unsigned_fault text d (decl.Unexpected at) reads is = has_fault_unsigned reads is (λ d e. cc)
-unsigned_fault text d (decl.BadNumber at) reads is = has_fault_unsigned reads is (λ d e. cc)
-unsigned_fault text d (decl.Sig f) reads is = has_fault_unsigned reads is (λ d e. cc)
 unsigned_fault text d decl.NoMemory reads is = tt
+unsigned_fault text d _ reads is = has_fault_unsigned reads is (λ d e. cc)
 
 -- the fault of the reading where `char` is signed, or of the other
 pub refused_signed : (text : List ℕ) (f : DeclFault) (e : Unfinished) → Tells (IsReadingEverywhere signed text) f → IsPlaceToldAs text f e → IsNoText text e
@@ -247,24 +232,11 @@ some_are_fixed s right (suc n) e =
     by_cases (inr within) =
         subst (λ k. suc n ≤ k) (length-resolved Double s.arguments) within
 
-pub fault_told_as : (f g : DeclFault) (e : Unfinished) → f ≡ g → IsFaultToldAs g e → IsFaultToldAs f e
-fault_told_as f g e same told =
-    let P = λ (x : DeclFault). IsFaultToldAs x e in subst P (sym same) told
-
-pub place_told_as : (text : List ℕ) (f g : DeclFault) (e : Unfinished) → f ≡ g → IsPlaceToldAs text g e → IsPlaceToldAs text f e
-place_told_as text f g e same told =
-    let P = λ (x : DeclFault). IsPlaceToldAs text x e in subst P (sym same) told
-
--- the words are these
-pub marked_as : {E : Type 0} (text : List ℕ) (at : ℕ) (words said : List ℕ) (r : Result (List ℕ) E) → words ≡ said → IfOk r (λ l. l ≡ marked_line text at words) → IfOk r (λ l. l ≡ marked_line text at said)
-marked_as text at words said r same is =
-    let P = λ (w : List ℕ). IfOk r (λ l. l ≡ marked_line text at w) in subst P same is
-
 -- the fault of a signature, by its reason
 pub reason_told : (f : DeclFault) (s : SigFault) (r : Reason) (e : Unfinished) → f ≡ decl.Sig s → reason_of r ≡ reason_of_fault (signature_fault_of s) → RefusesWith (reason_line (text_of_reason (reason_of r))) e → IsFaultToldAs f e
 reason_told f s r e same is told =
     let P = λ (x : language.Reason). RefusesWith (reason_line (text_of_reason x)) e in
-    fault_told_as f (decl.Sig s) e same (subst P is told)
+    of_same (λ (x : DeclFault). IsFaultToldAs x e) same (subst P is told)
 
 -- the words of a fault, by its reason, behind the name of the value that has it
 pub fault_named : (f : SignatureFault) (r : Reason) (said told : List ℕ) → reason_of r ≡ reason_of_fault f → said ≡ text_of_reason (reason_of r) → told ≡ placed_words f said → told ≡ fault_words f
@@ -278,11 +250,6 @@ read_is_writable bytes d is = record {
   all_fixed = all_fixed_read bytes d is;
   identifier = identifier_read bytes d is;
 }
-
--- of the text that was lent
-pub tells_lent : (bytes lent : List ℕ) (f : DeclFault) → lent ≡ bytes → Tells (declaration.IsReading lent) f → Tells (declaration.IsReading bytes) f
-tells_lent bytes lent f same is =
-    let P = λ (b : List ℕ). Tells (declaration.IsReading b) f in subst P same is
 
 -- there is no declaration to work on
 pub no_declaration_works : (outcome : Declaration → Outcome) (bytes : List ℕ) (output : SinkState) (machine : State) (e : Unfinished) → IsNoDeclaration bytes e → Works (IsOfDeclaration outcome bytes) output output machine machine (Err e)
@@ -307,13 +274,18 @@ no_prototype_works outcome bytes output machine WriteFault is = absurd is
 
 -- what was done for a command was done for the same command
 pub works_as : (q r : InputCommand) (natives : List NamedNative) (bytes : List ℕ) (output output' : SinkState) (machine machine' : State) (result : Result ℕ Unfinished) → q ≡ r → Works (IsOutcomeOn r natives bytes) output output' machine machine' result → Works (IsOutcomeOn q natives bytes) output output' machine machine' result
-works_as q r natives bytes output output' machine machine' result same works =
-    let P = λ (x : InputCommand). Works (IsOutcomeOn x natives bytes) output output' machine machine' result in subst P (sym same) works
+works_as q r natives bytes output output' machine machine' result =
+    of_same (λ (x : InputCommand). Works (IsOutcomeOn x natives bytes) output output' machine machine' result)
 
--- and by the standard of the same target
-pub works_by : (natives : List NamedNative) (s : Script) (trace : Bool) (output output' : SinkState) (machine machine' : State) (t u : Target) (r : Result ℕ Unfinished) → t ≡ u → Works (λ o. o ≡ runs trace (standard_of u) (program_beside (standard_of u) natives s)) output output' machine machine' r → Works (λ o. o ≡ runs trace (standard_of t) (program_beside (standard_of t) natives s)) output output' machine machine' r
-works_by natives s trace output output' machine machine' t u r same works =
-    let P = λ (x : Target). Works (λ o. o ≡ runs trace (standard_of x) (program_beside (standard_of x) natives s)) output output' machine machine' r in subst P (sym same) works
+-- and with a script by the standard of the same target, and for the same task
+module _ (natives : List NamedNative) (s : Script) (output output' : SinkState) (machine machine' : State) (r : Result ℕ Unfinished) where
+  pub works_by : (task : ScriptTask) (t u : Target) → t ≡ u → Works (λ o. o ≡ script_outcome task natives (standard_of u) s) output output' machine machine' r → Works (λ o. o ≡ script_outcome task natives (standard_of t) s) output output' machine machine' r
+  works_by task t u =
+      of_same (λ (x : Target). Works (λ o. o ≡ script_outcome task natives (standard_of x) s) output output' machine machine' r)
+
+  pub works_at : (std : Standard) (t u : ScriptTask) → t ≡ u → Works (λ o. o ≡ script_outcome u natives std s) output output' machine machine' r → Works (λ o. o ≡ script_outcome t natives std s) output output' machine machine' r
+  works_at std t u =
+      of_same (λ (x : ScriptTask). Works (λ o. o ≡ script_outcome x natives std s) output output' machine machine' r)
 
 -- ---- descriptions of images
 

@@ -14,7 +14,9 @@ use Rattle.ffi3_machine_spec.specs.State.{State}
 use Rattle.ffi3_semantics_spec.specs.Lines.{a_line}
 use Rattle.ffi3_script_spec.specs.Language.{reason_of_fault}
 use Rattle.ffi3_script_spec.specs.ReasonText.{text_of_reason}
+use Rattle.ffi3_script_spec.specs.Natives.{NamedNative, program_beside}
 use Rattle.ffi3_script_spec.specs.Script.{Script}
+use Rattle.ffi3_place_spec.specs.Standard.{Standard}
 use Rattle.ffi3_app_spec.specs.FaultLines.{ReportsFault, no_memory_line, write_fault_line}
 use Rattle.ffi3_types.specs.SignatureFaultOf.{signature_fault_of}
 use Rattle.ffi3_app_spec.specs.Declarations.{Input, a_text, IsInput, IsReadPlainly, IsPrototypeEverywhere}
@@ -22,8 +24,16 @@ use Rattle.ffi3_app_spec.specs.Declarations.{offset_line, reason_line, marked_li
 use Rattle.ffi3_app_spec.specs.Declarations.{unexpected_line, fault_line, sign_line}
 use Rattle.ffi3_app.specs.declared.unfinished.Unfinished.{Unfinished}
 use Rattle.ffi3_app.specs.declared.unfinished.Unfinished.TheVariants.{Refused, NoMemory, WriteFault}
-use Rattle.ffi3_app_spec.specs.Outcome.{Outcome, refuses, located_line, outcome_of_input, outcome_of_prototype, IsOfScript}
+use Rattle.ffi3_app.specs.declared.work.ScriptTask.{ScriptTask}
+use Rattle.ffi3_app.specs.declared.work.ScriptTask.TheVariants.{Place, Run}
+use Rattle.ffi3_app_spec.specs.Commands.{place_text}
+use Rattle.ffi3_app_spec.specs.Outcome.{Outcome, refuses, tells, runs, located_line, outcome_of_input, outcome_of_prototype, IsOfScript}
 use Rattle.ffi3_app_spec.specs.Outcome.{IsDone, IsDoneInPart}
+
+-- WHAT A SCRIPT COMES TO by a calling standard, beside natives
+abbrev pub script_outcome : ScriptTask → List NamedNative → Standard → Script → Outcome
+script_outcome Place natives std s = tells (place_text std s)
+script_outcome (Run trace) natives std s = runs trace std (program_beside std natives s)
 
 -- WHAT CAME OF WORK whose outcomes are these: one of them is done; or the input is refused by one of them; or one is done in part
 abbrev pub Works : (Outcome → Type 0) → SinkState → SinkState → State → State → Result ℕ Unfinished → Type 0

@@ -7,7 +7,7 @@ ghost use Rattle.ffi3_cdecl_spec.specs.Canonical.{declaration_text};
 ghost use Rattle.ffi3_app_spec.specs.Declarations.{IsWritable, cdecl_text};
 ghost use Rattle.ffi3_io_spec.specs.Written.{Wrote};
 
-use crate::write::write_made_line;
+use crate::write::write_two_lines;
 use ffi3_cdecl::{Declaration, decl_text};
 use ffi3_io::{IoError, Sink};
 use ffi3_types::{Bytes, NoMemory, sig_text};
@@ -22,8 +22,8 @@ pub fn cdecl<O: Sink>(
     requires { IsWritable declaration.now }
     ensures { Wrote (cdecl_text declaration.now) (O.state output.old) (O.state output.new) result }
 {
-    write_made_line(output, signature_line(alloc, declaration))?;
-    write_made_line(output, canonical_line(alloc, declaration))
+    let signature = signature_line(alloc, declaration);
+    write_two_lines(output, signature, canonical_line(alloc, declaration))
 }
 
 // The line of the signature.

@@ -1,4 +1,4 @@
-//! The top call: words, an input, and what a command does with it.
+//! The whole program over any input and output: reads the command line and does what it asks.
 #![tactic(auto)]
 
 mod cdecl;

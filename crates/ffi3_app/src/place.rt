@@ -3,70 +3,24 @@ ghost use Rattle.ffi3_script.specs.ScriptOf.{script_of};
 ghost use Rattle.std.specs.Prelude.{◌≡◌, ◌<◌, ◌≤◌, ◌++◌, IfOk, codes, drop, length};
 ghost use Rattle.std.specs.List.{concat};
 ghost use Rattle.ffi3_type_spec.specs.Signature.{SignatureIsPlaced};
-ghost use Rattle.ffi3_explain_spec.specs.Standards.{standard_of};
 ghost use Rattle.ffi3_app_spec.specs.Commands.{place_text};
 ghost use Rattle.ffi3_app_spec.specs.Declarations.{argument_line, named_lines};
 ghost use Rattle.ffi3_names.specs.NamesOf.{names_of};
 ghost use Rattle.ffi3_io_spec.specs.Written.{Wrote};
 
 use crate::write::write_made_line;
-use ffi3_aapcs64::Aapcs64;
-use ffi3_amd64::Amd64;
-use ffi3_apple::Apple;
-use ffi3_cif::{Cif, Placed};
+use ffi3_cif::Placed;
 use ffi3_diagnostics::argument_name;
 use ffi3_io::{IoError, Sink};
 use ffi3_names::{Name, name_at};
 use ffi3_place::Abi;
-use ffi3_riscv::Riscv;
 use ffi3_script::Script;
 use ffi3_text::{place_line, sig_line};
-use ffi3_types::{At, Bytes, CheckedSig, NoMemory, Sig, Target};
-use ffi3_win64::Win64;
+use ffi3_types::{At, Bytes, CheckedSig, NoMemory, Sig};
 use std::alloc::Global;
 
-/// Writes the frame of each signature and the places of its arguments and result, by the target's
-/// calling standard.
-pub fn place<O: Sink>(
-    alloc: Global,
-    target: Target,
-    script: &Script,
-    output: &mut O,
-) -> Result<(), IoError>
-    ensures { Wrote (place_text (standard_of target) (script_of script.now)) (O.state output.old) (O.state output.new) result }
-{
-    match target {
-        Target::Amd64 => place_by::<Amd64, O>(alloc, script, output),
-        Target::Aapcs64 => place_by::<Aapcs64, O>(alloc, script, output),
-        Target::Riscv => place_by::<Riscv, O>(alloc, script, output),
-        Target::Win64 => place_by::<Win64, O>(alloc, script, output),
-        Target::Apple => place_by::<Apple, O>(alloc, script, output),
-    }
-}
-
-/// Writes the same of one signature, as the one of this number, with names of its arguments.
-pub fn place_signature<O: Sink>(
-    alloc: Global,
-    target: Target,
-    number: u32,
-    sig: Sig,
-    names: &Vec<Name<'_>>,
-    output: &mut O,
-) -> Result<(), IoError>
-    requires { SignatureIsPlaced sig }
-    ensures { Wrote (concat (named_lines (names_of names.now.items) (standard_of target) number sig)) (O.state output.old) (O.state output.new) result }
-{
-    match target {
-        Target::Amd64 => place_planned::<Amd64, O>(alloc, number, sig, names, output),
-        Target::Aapcs64 => place_planned::<Aapcs64, O>(alloc, number, sig, names, output),
-        Target::Riscv => place_planned::<Riscv, O>(alloc, number, sig, names, output),
-        Target::Win64 => place_planned::<Win64, O>(alloc, number, sig, names, output),
-        Target::Apple => place_planned::<Apple, O>(alloc, number, sig, names, output),
-    }
-}
-
-// The signatures of a script, by a calling standard.
-fn place_by<A: Abi, O: Sink>(alloc: Global, script: &Script, output: &mut O) -> Result<(), IoError>
+/// Writes the frame of each signature and the places of its arguments and result, by a calling standard.
+pub fn place<A: Abi, O: Sink>(alloc: Global, script: &Script, output: &mut O) -> Result<(), IoError>
     ensures { Wrote (place_text A.standard (script_of script.now)) (O.state output.old) (O.state output.new) result }
 {
     let sigs = script.sigs();
@@ -78,8 +32,22 @@ fn place_by<A: Abi, O: Sink>(alloc: Global, script: &Script, output: &mut O) -> 
     Ok(())
 }
 
-// One signature that can be placed, by a calling standard.
-fn place_planned<A: Abi, O: Sink>(
+// The same of one signature without fault, as the one of this number.
+fn place_one<A: Abi, O: Sink>(
+    alloc: Global,
+    number: u32,
+    sig: &CheckedSig<'_>,
+    names: &Vec<Name<'_>>,
+    output: &mut O,
+) -> Result<(), IoError>
+    ensures { Wrote (concat (named_lines (names_of names.now.items) A.standard number sig.now)) (O.state output.old) (O.state output.new) result }
+{
+    let copy = sig.placed().as_sig().copy(alloc)?;
+    place_signature::<A, O>(alloc, number, copy, names, output)
+}
+
+/// The same of one signature that can be placed, with names of its arguments.
+pub fn place_signature<A: Abi, O: Sink>(
     alloc: Global,
     number: u32,
     sig: Sig,
@@ -91,20 +59,6 @@ fn place_planned<A: Abi, O: Sink>(
 {
     let placed: Placed<A> = Placed::prepare(alloc, sig)?;
     place_of(alloc, number, &placed, names, output)
-}
-
-// One signature without fault, by a calling standard.
-fn place_one<A: Abi, O: Sink>(
-    alloc: Global,
-    number: u32,
-    sig: &CheckedSig<'_>,
-    names: &Vec<Name<'_>>,
-    output: &mut O,
-) -> Result<(), IoError>
-    ensures { Wrote (concat (named_lines (names_of names.now.items) A.standard number sig.now)) (O.state output.old) (O.state output.new) result }
-{
-    let cif: Cif<A> = Cif::prepare_copy(alloc, sig)?;
-    place_of(alloc, number, cif.placed(), names, output)
 }
 
 // The lines of one signature: its frame, the arguments, then the result.

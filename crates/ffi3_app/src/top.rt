@@ -55,7 +55,7 @@ pub fn ffi3<I: Source, O: Sink, E: Sink>(
         (E.state faults.old) (E.state faults.new)
         machine.old machine.new result }
 
-    // Where nothing fails, the status is that of what the stated words come to; want of memory alone is free.
+    // If no read or write fails, the status is that of what the words ask for; only memory may be refused at any time.
     ensures complete { (r : Request) → IsStated (map string_bytes words.items) r → (bytes : List ℕ) → (reads_input r ≡ true → (I.state input.old).left ≡ Some bytes) →
         (o : Outcome) → IsOutcome r (handed title meaning signatures natives.now.items) bytes o →
         (reads_input r ≡ true → Rose (I.state input.old).faults (I.state input.new).faults → ⊥) → (Rose (O.state output.old).faults (O.state output.new).faults → ⊥) →

@@ -6,10 +6,10 @@ ghost use Rattle.ffi3_script_spec.specs.Handed.{AreFew, handed};
 ghost use Rattle.ffi3_machine_spec.specs.State.{State};
 ghost use Rattle.ffi3_type_spec.specs.declared.limits.TheConstants.{MOST_CALLS};
 ghost use Rattle.ffi3_explain_spec.specs.Standards.{standard_of};
-ghost use Rattle.ffi3_app_spec.specs.Commands.{layout_text, place_text};
+ghost use Rattle.ffi3_app_spec.specs.Commands.{layout_text};
 ghost use Rattle.ffi3_app_spec.specs.Declarations.{cdecl_text, cplace_text};
 ghost use Rattle.ffi3_app_spec.specs.Outcome.{IsOfDeclaration, IsOfImage, IsOfPrototype, IsOfScript, IsOutcomeOn, benches, runs, tells};
-ghost use Rattle.ffi3_app.specs.Work.{Works, work_of_writing};
+ghost use Rattle.ffi3_app.specs.Work.{Works, script_outcome, work_of_writing};
 
 use crate::cdecl::cdecl;
 use crate::cplace::cplace;
@@ -52,9 +52,13 @@ pub fn work<O: Sink>(
 {
     match command {
         InputCommand::Layout => tell_layout(alloc, bytes, natives, output),
-        InputCommand::Place { target } => tell_place(alloc, target, bytes, natives, output),
+        InputCommand::Place { target } => {
+            let task = ScriptTask::Place;
+            on_script(alloc, target, task, bytes, natives, machine, output)
+        }
         InputCommand::Run { target, trace } => {
-            run(alloc, target, trace, bytes, natives, machine, output)
+            let task = ScriptTask::Run { trace };
+            on_script(alloc, target, task, bytes, natives, machine, output)
         }
         InputCommand::Cdecl => tell_cdecl(alloc, bytes, output),
         InputCommand::Cplace => tell_cplace(alloc, bytes, output),
@@ -71,7 +75,7 @@ fn written(text: Result<(), IoError>) -> Result<u8, Unfinished>
     Ok(0)
 }
 
-// ---- layout and place
+// ---- layout
 
 fn tell_layout<O: Sink>(
     alloc: Global,
@@ -84,22 +88,6 @@ fn tell_layout<O: Sink>(
 {
     match script_in(alloc, bytes, natives) {
         Ok(script) => written(layout(alloc, &script, output)),
-        Err(end) => Err(end),
-    }
-}
-
-fn tell_place<O: Sink>(
-    alloc: Global,
-    target: Target,
-    bytes: &[u8],
-    natives: &Vec<Box<dyn Native>>,
-    output: &mut O,
-) -> Result<u8, Unfinished>
-    requires { length natives.now.items < 2 ^ 31 }
-    ensures { (m : State) → Works (IsOfScript (names_of (handed title meaning signatures natives.now.items)) (λ s. tells (place_text (standard_of target) s)) bytes.now) (O.state output.old) (O.state output.new) m m result }
-{
-    match script_in(alloc, bytes, natives) {
-        Ok(script) => written(place(alloc, target, &script, output)),
         Err(end) => Err(end),
     }
 }
@@ -141,32 +129,41 @@ fn tell_answer<O: Sink>(
     }
 }
 
-// ---- run
+// ---- place and run
 
-// On the machine of a target.
-fn run<O: Sink>(
+/// What is done with a script by the calling standard of a target.
+#[derive(Clone, Copy)]
+pub enum ScriptTask {
+    /// The places of each signature are written.
+    Place,
+    /// The script is run, with the lines of a trace or without.
+    Run { trace: bool },
+}
+
+fn on_script<O: Sink>(
     alloc: Global,
     target: Target,
-    trace: bool,
+    task: ScriptTask,
     bytes: &[u8],
     natives: &Vec<Box<dyn Native>>,
     machine: &mut Machine,
     output: &mut O,
 ) -> Result<u8, Unfinished>
     requires { AreFew title meaning signatures natives.now.items }
-    ensures { Works (IsOfScript (names_of (handed title meaning signatures natives.now.items)) (λ s. runs trace (standard_of target) (program_beside (standard_of target) (handed title meaning signatures natives.now.items) s)) bytes.now)
+    ensures { Works (IsOfScript (names_of (handed title meaning signatures natives.now.items)) (script_outcome task (handed title meaning signatures natives.now.items) (standard_of target)) bytes.now)
         (O.state output.old) (O.state output.new) machine.old machine.new result }
 {
     match script_in(alloc, bytes, natives) {
-        Ok(script) => run_on(alloc, target, trace, &script, natives, machine, output),
+        Ok(script) => on_target(alloc, target, task, &script, natives, machine, output),
         Err(end) => Err(end),
     }
 }
 
-fn run_on<O: Sink>(
+// By the target's standard. No other function of this crate chooses by the target.
+fn on_target<O: Sink>(
     alloc: Global,
     target: Target,
-    trace: bool,
+    task: ScriptTask,
     script: &Script,
     natives: &Vec<Box<dyn Native>>,
     machine: &mut Machine,
@@ -174,19 +171,41 @@ fn run_on<O: Sink>(
 ) -> Result<u8, Unfinished>
     requires beside { natives_of script.now ≤ length natives.now.items }
     requires few { AreFew title meaning signatures natives.now.items }
-    ensures { Works (λ o. o ≡ runs trace (standard_of target) (program_beside (standard_of target) (handed title meaning signatures natives.now.items) (script_of script.now)))
+    ensures { Works (λ o. o ≡ script_outcome task (handed title meaning signatures natives.now.items) (standard_of target) (script_of script.now))
         (O.state output.old) (O.state output.new) machine.old machine.new result }
 {
     match target {
-        Target::Amd64 => run_by::<Amd64, O>(alloc, trace, script, natives, machine, output),
-        Target::Aapcs64 => run_by::<Aapcs64, O>(alloc, trace, script, natives, machine, output),
-        Target::Riscv => run_by::<Riscv, O>(alloc, trace, script, natives, machine, output),
-        Target::Win64 => run_by::<Win64, O>(alloc, trace, script, natives, machine, output),
-        Target::Apple => run_by::<Apple, O>(alloc, trace, script, natives, machine, output),
+        Target::Amd64 => by_standard::<Amd64, O>(alloc, task, script, natives, machine, output),
+        Target::Aapcs64 => by_standard::<Aapcs64, O>(alloc, task, script, natives, machine, output),
+        Target::Riscv => by_standard::<Riscv, O>(alloc, task, script, natives, machine, output),
+        Target::Win64 => by_standard::<Win64, O>(alloc, task, script, natives, machine, output),
+        Target::Apple => by_standard::<Apple, O>(alloc, task, script, natives, machine, output),
     }
 }
 
 // By a calling standard.
+fn by_standard<A: Abi, O: Sink>(
+    alloc: Global,
+    task: ScriptTask,
+    script: &Script,
+    natives: &Vec<Box<dyn Native>>,
+    machine: &mut Machine,
+    output: &mut O,
+) -> Result<u8, Unfinished>
+    requires beside { natives_of script.now ≤ length natives.now.items }
+    requires few { AreFew title meaning signatures natives.now.items }
+    ensures { Works (λ o. o ≡ script_outcome task (handed title meaning signatures natives.now.items) A.standard (script_of script.now))
+        (O.state output.old) (O.state output.new) machine.old machine.new result }
+{
+    match task {
+        ScriptTask::Place => written(place::<A, O>(alloc, script, output)),
+        ScriptTask::Run { trace } => {
+            run_by::<A, O>(alloc, trace, script, natives, machine, output)
+        }
+    }
+}
+
+// On the machine of a standard's target.
 fn run_by<A: Abi, O: Sink>(
     alloc: Global,
     trace: bool,

@@ -1,5 +1,5 @@
 //! Lines to the output.
-ghost use Rattle.std.specs.Prelude.{◌≡◌, ◌+◌, ◌<◌, ◌≤◌, ℕ, List, IfOk, drop, length, slice_range};
+ghost use Rattle.std.specs.Prelude.{◌≡◌, ◌++◌, ◌+◌, ◌<◌, ◌≤◌, ℕ, List, IfOk, drop, length, slice_range};
 ghost use Rattle.ffi3_io_spec.specs.Written.{Wrote};
 ghost use Rattle.ffi3_app.specs.LineEnds.{line_length};
 
@@ -17,6 +17,18 @@ pub fn write_made_line<O: Sink>(
         return Err(IoError::NoMemory);
     };
     write_line(output, line.as_slice())
+}
+
+/// Writes two lines, each in one piece, where there was memory to make them.
+pub fn write_two_lines<O: Sink>(
+    output: &mut O,
+    first: Result<Bytes, NoMemory>,
+    second: Result<Bytes, NoMemory>,
+) -> Result<(), IoError>
+    ensures { (one two : List ℕ) → IfOk first (λ l. l ≡ one) → IfOk second (λ l. l ≡ two) → Wrote (one ++ two) (O.state output.old) (O.state output.new) result }
+{
+    write_made_line(output, first)?;
+    write_made_line(output, second)
 }
 
 /// Writes a text of lines, each in one piece.

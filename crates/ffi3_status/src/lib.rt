@@ -1,4 +1,4 @@
-//! The exit status where a write decides it: lines to the sink of faults, and the end of the output.
+//! The line of a fault, and the exit status when a write fails.
 #![tactic(auto)]
 
 mod ending;

@@ -22,7 +22,7 @@ pub place_signature-requires : goal.place_signature-requires
 place_signature-requires g c =
     let t = c.args.target in
     let same : c.in_ok-here.here ≡ resolved_signature (format_of t) c.args.sig.now = c.in_ok-here.ensures ∙ ap (λ f. resolved_signature f c.in_ok-copy.field-0) c.format_of.ensures ∙ ap (resolved_signature (format_of t)) c.in_ok-copy.ensures in
-    subst SignatureIsPlaced (sym same) (c.requires (format_of t))
+    subst SignatureIsPlaced (sym same) (c.requires.placed (format_of t))
 
 pub returns : goal.returns
 returns g c =
@@ -33,5 +33,6 @@ returns g c =
     let whole = placed_on names c.args.sig.now t in
     let lines = concat (named_lines names (standard_of t) 0 s) in
     let went = continues_on whole whole _ _ (continues_from whole (g.O.Sink.state c.args.output.now)) (target_line t) lines _ refl (c.in_ok-write_made_line.ensures (target_line t) c.target_line.ensures) in
-    let wrote = wrote_for (λ u. concat (named_lines names (standard_of t) 0 u)) c.in_ok-here.here s _ _ _ same c.place_signature.ensures in
-    continues_last whole lines _ _ went lines _ _ refl wrote
+    let wrote = wrote_for (λ u. concat (named_lines names g.A.Abi.standard 0 u)) c.in_ok-here.here s _ _ _ same c.place_signature.ensures in
+    let by_target = wrote_for (λ std. concat (named_lines names std 0 s)) g.A.Abi.standard (standard_of t) _ _ _ (sym c.requires.standard) wrote in
+    continues_last whole lines _ _ went lines _ _ refl by_target

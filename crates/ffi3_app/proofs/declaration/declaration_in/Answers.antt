@@ -1,10 +1,12 @@
-use Rattle.std.proofs.Common.{rules, ◌≤◌, ◌<◌, length, refl}
+use Rattle.std.proofs.Common.{rules, ◌≤◌, ◌<◌, length, refl, subst}
+use Rattle.ffi3_cdecl.specs.Tells.{Tells}
+use Rattle.ffi3_cdecl_spec.specs.Reading.{IsReading}
 use Rattle.std.specs.Prelude.{codes}
 use Rattle.ffi3_semantics_spec.specs.Lines.{a_line}
 use Rattle.ffi3_script_spec.specs.Reading.{max_length}
 use Rattle.ffi3_app_spec.specs.Declarations.{too_many_bytes, not_utf8, IsReadPlainly}
 use Rattle.ffi3_app_spec.specs.Outcome.{outcome_of_input}
-use Rattle.ffi3_app.proofs.Working.{refused_input, refused_fault, read_is_writable, tells_lent}
+use Rattle.ffi3_app.proofs.Working.{refused_input, refused_fault, read_is_writable}
 use Rattle.ffi3_app.proofs.declaration.declaration_in.Goals as goal
 
 pub returns-then-bytes-gt-MAX_LENGTH-clause-refused : goal.returns-then-bytes-gt-MAX_LENGTH-clause-refused
@@ -24,4 +26,4 @@ returns-in-Ok-read_decl-clause-writable c =
 pub returns-in-Err-clause-refused : goal.returns-in-Err-clause-refused
 returns-in-Err-clause-refused c =
     let short : length c.args.bytes.now ≤ max_length = search rules in
-    refused_fault IsReadPlainly c.args.bytes.now c.in-Err.fault c.refusal.result short c.in-Ok.ensures.cases.1 (tells_lent c.args.bytes.now c.in-Ok.text.now c.in-Err.fault c.in-Ok.ensures.cases.0 c.in-Err.ensures.err) c.refusal.ensures
+    refused_fault IsReadPlainly c.args.bytes.now c.in-Err.fault c.refusal.result short c.in-Ok.ensures.cases.1 (subst (λ b. Tells (IsReading b) c.in-Err.fault) c.in-Ok.ensures.cases.0 c.in-Err.ensures.err) c.refusal.ensures

@@ -35,26 +35,22 @@ pub returns-in_err-write_made_line-2 : goal.returns-in_err-write_made_line-2
 returns-in_err-write_made_line-2 g c =
     let std = g.A.Abi.standard in
     let s = c.args.placed.now in
-    let n = c.args.number in
     let names = names_of c.args.names.now.items in
     let j = c.loop-j.j in
     let ended : c.from_residual-in_err-write_made_line-2.result ≡ Err c.in_err-write_made_line-2.field-0.0 = search rules in
-    continues_ended (concat (named_lines names std n s)) _ _ _ c.loop-j.invariant (named_text_of names std s (at_argument j)) _ _ _ _ (argument_at (named_text_of names std s) s.arguments (place_text_of std s at_result ∷ []) j void (search rules)) (c.in_err-write_made_line-2.ensures (named_text_of names std s (at_argument j)) (line_named std s j c.name_at-name.result.now (get_or names j []) c.argument_line.result c.name_at-name.ensures c.argument_line.ensures)) ended
+    continues_ended _ _ _ _ c.loop-j.invariant (named_text_of names std s (at_argument j)) _ _ _ _ (argument_at (named_text_of names std s) s.arguments (place_text_of std s at_result ∷ []) j void (search rules)) (c.in_err-write_made_line-2.ensures (named_text_of names std s (at_argument j)) (line_named std s j c.name_at-name.result.now (get_or names j []) c.argument_line.result c.name_at-name.ensures c.argument_line.ensures)) ended
 
 pub loop-j-preserved : goal.loop-j-preserved
 loop-j-preserved g c =
     let std = g.A.Abi.standard in
     let s = c.args.placed.now in
-    let n = c.args.number in
     let names = names_of c.args.names.now.items in
     let j = c.loop-j.j in
-    continues_on (concat (named_lines names std n s)) _ _ _ c.loop-j.invariant (named_text_of names std s (at_argument j)) _ _ (argument_at (named_text_of names std s) s.arguments (place_text_of std s at_result ∷ []) j void (search rules)) (c.in_ok-write_made_line-2.ensures (named_text_of names std s (at_argument j)) (line_named std s j c.name_at-name.result.now (get_or names j []) c.argument_line.result c.name_at-name.ensures c.argument_line.ensures))
+    continues_on _ _ _ _ c.loop-j.invariant (named_text_of names std s (at_argument j)) _ _ (argument_at (named_text_of names std s) s.arguments (place_text_of std s at_result ∷ []) j void (search rules)) (c.in_ok-write_made_line-2.ensures (named_text_of names std s (at_argument j)) (line_named std s j c.name_at-name.result.now (get_or names j []) c.argument_line.result c.name_at-name.ensures c.argument_line.ensures))
 
 pub returns : goal.returns
 returns g c =
     let std = g.A.Abi.standard in
     let s = c.args.placed.now in
-    let n = c.args.number in
     let names = names_of c.args.names.now.items in
-    let j = c.loop-j.j in
-    continues_last (concat (named_lines names std n s)) _ _ _ c.loop-j.invariant (place_text_of std s at_result) _ _ (arguments_end (named_text_of names std s) s.arguments (place_text_of std s at_result ∷ []) j (search rules) ∙ append-nil (place_text_of std s at_result)) (c.write_made_line-2.ensures (place_text_of std s at_result) c.place_line.ensures)
+    continues_last _ _ _ _ c.loop-j.invariant (place_text_of std s at_result) _ _ (arguments_end (named_text_of names std s) s.arguments (place_text_of std s at_result ∷ []) c.loop-j.j (search rules) ∙ append-nil (place_text_of std s at_result)) (c.write_made_line-2.ensures (place_text_of std s at_result) c.place_line.ensures)

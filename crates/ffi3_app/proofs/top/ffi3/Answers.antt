@@ -1,4 +1,5 @@
-use Rattle.ffi3_app.proofs.Saying.{completes, one_request, two_asks_nothing, knows_words, read_count, write_count, tell_count}
+use Rattle.ffi3_cli.proofs.Refusals.{one_request}
+use Rattle.ffi3_app.proofs.Saying.{completes, two_asks_nothing, knows_words, read_count, write_count, tell_count}
 use Rattle.ffi3_app.proofs.top.ffi3.Goals as goal
 
 pub returns-clause-complete : goal.returns-clause-complete

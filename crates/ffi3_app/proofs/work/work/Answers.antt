@@ -1,4 +1,4 @@
-use Rattle.ffi3_cli_spec.specs.declared.words.InputCommand.TheVariants.{Layout, Place, Cdecl, Cplace, Explain, Arguments}
+use Rattle.ffi3_cli_spec.specs.declared.words.InputCommand.TheVariants.{Layout, Place, Run, Cdecl, Cplace, Explain, Arguments}
 use Rattle.ffi3_script_spec.specs.Handed.{handed}
 use Rattle.ffi3_app.proofs.Working.{works_as}
 use Rattle.ffi3_app.proofs.work.work.Goals as goal
@@ -9,7 +9,11 @@ returns-in-Layout g c =
 
 pub returns-in-Place : goal.returns-in-Place
 returns-in-Place g c =
-    works_as c.args.command (Place c.in-Place.target) (handed _ _ _ c.args.natives.now.items) c.args.bytes.now (g.O.Sink.state c.args.output.now) (g.O.Sink.state c.tell_place.new.output) c.args.machine.now c.args.machine.now c.tell_place.result c.in-Place.is (c.tell_place.ensures c.args.machine.now)
+    works_as c.args.command (Place c.in-Place.target) (handed _ _ _ c.args.natives.now.items) c.args.bytes.now (g.O.Sink.state c.args.output.now) (g.O.Sink.state c.on_script.new.output) c.args.machine.now c.on_script.new.machine c.on_script.result c.in-Place.is c.on_script.ensures
+
+pub returns-in-Run : goal.returns-in-Run
+returns-in-Run g c =
+    works_as c.args.command (Run c.in-Run.target c.in-Run.trace) (handed _ _ _ c.args.natives.now.items) c.args.bytes.now (g.O.Sink.state c.args.output.now) (g.O.Sink.state c.on_script-in-Run.new.output) c.args.machine.now c.on_script-in-Run.new.machine c.on_script-in-Run.result c.in-Run.is c.on_script-in-Run.ensures
 
 pub returns-in-Cdecl : goal.returns-in-Cdecl
 returns-in-Cdecl g c =

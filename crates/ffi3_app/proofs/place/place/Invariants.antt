@@ -3,7 +3,7 @@ use Rattle.ffi3_script.specs.ScriptOf.{script_of}
 use Rattle.std.specs.List.{concat}
 use Rattle.ffi3_app_spec.specs.Commands.{lines_from, place_lines, place_text}
 use Rattle.ffi3_app.proofs.Pieces.{Continues}
-use Rattle.ffi3_app.proofs.place.place_by.Given as goal
+use Rattle.ffi3_app.proofs.place.place.Given as goal
 
 abbrev pub invariant-loop-i : goal.invariant-loop-i
 invariant-loop-i g l =
