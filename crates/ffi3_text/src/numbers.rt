@@ -9,6 +9,9 @@ use itoa::Buffer;
 pub(crate) fn write_number(number: u64, text: &mut Bytes) -> Result<(), NoMemory>
     ensures { OnOk result (text.new ≡ text.old ++ decimal number) }
 {
+    if number < 10 {
+        return text.push(b'0' + number as u8);
+    }
     let mut buffer = Buffer::new();
     text.extend(buffer.format(number).as_bytes())
 }

@@ -249,6 +249,9 @@ fn write_piece(isa: Isa, at: Loc, off: u32, len: u128, text: &mut Bytes) -> Resu
 fn write_length(len: u128, text: &mut Bytes) -> Result<(), NoMemory>
     ensures { OnOk result (text.new ≡ text.old ++ decimal len) }
 {
+    if len < 10 {
+        return text.push(b'0' + len as u8);
+    }
     let mut buffer = Buffer::new();
     text.extend(buffer.format(len).as_bytes())
 }

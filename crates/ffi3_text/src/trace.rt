@@ -1,5 +1,6 @@
 // Lines of a trace.
-ghost use Rattle.std.specs.Prelude.{◌≡◌, ℕ, ◌++◌, List, IfOk, OnOk, codes, map, true};
+ghost use Rattle.std.specs.Prelude.{◌≡◌, ℕ, ◌%◌, ◌++◌, List, IfOk, OnOk, codes, map, true, false};
+ghost use Rattle.std.specs.Fmt.{digit_glyph};
 ghost use Rattle.std.specs.List.{concat, join_with_byte};
 ghost use Rattle.ffi3_type_spec.specs.Tree.{trees_of};
 ghost use Rattle.ffi3_type_spec.specs.Value.{fits, all_fit, values_of};
@@ -18,6 +19,12 @@ use ffi3_types::{Bytes, FfiType, Fields, NoMemory};
 use ffi3_values::{Value, Values, value_text};
 use std::alloc::Global;
 
+// Most lines of an entry or a return fit, so that none grows piece by piece.
+const LINE_ROOM: usize = 96;
+
+// The line of the registers that a standard has preserved fits: it has at most 24 of them.
+const KEEP_ROOM: usize = 448;
+
 /// The line of an entry, as `enter 0x10000 sp 0x7ffefff8 (20,-7)` with a newline: the closure's
 /// address, the stack pointer, and the arguments, which are those of a call by `cif`. The stack's
 /// bytes that were recorded with the event have no part in it.
@@ -30,7 +37,8 @@ pub fn enter_line<A: Abi>(
     requires { all_fit (trees_of cif.now.arguments) (values_of args.now) ≡ true }
     ensures { (stack : List ℕ) → IfOk result (λ text. text ≡ enter_text_of cif.now (event_of event.now stack) args.now) }
 {
-    let mut text = Bytes::from_slice(alloc, "enter ".as_bytes())?;
+    let mut text = Bytes::with_capacity(alloc, LINE_ROOM)?;
+    text.extend("enter ".as_bytes())?;
     write_address(alloc, event.closure, &mut text)?;
     text.extend(" sp ".as_bytes())?;
     write_address(alloc, event.sp, &mut text)?;
@@ -52,7 +60,8 @@ pub fn leave_line<A: Abi>(
     requires { fits cif.now.result_type (value_of value.now) ≡ true }
     ensures { (stack : List ℕ) → IfOk result (λ text. text ≡ leave_text_of cif.now (event_of event.now stack) (value_of value.now)) }
 {
-    let mut text = Bytes::from_slice(alloc, "leave sp ".as_bytes())?;
+    let mut text = Bytes::with_capacity(alloc, LINE_ROOM)?;
+    text.extend("leave sp ".as_bytes())?;
     write_address(alloc, event.sp, &mut text)?;
     text.push(b' ')?;
     write_value(alloc, cif.sig().ret(), value, &mut text)?;
@@ -66,8 +75,9 @@ pub fn leave_line<A: Abi>(
 pub fn keep_line<A: Abi>(alloc: Global, event: &Event) -> Result<Bytes, NoMemory>
     ensures { (stack : List ℕ) → IfOk result (λ text. text ≡ keep_text_of A.standard (event_of event.now stack)) }
 {
-    let mut text = Bytes::from_slice(alloc, "keep".as_bytes())?;
-    write_kept::<A>(alloc, event, &mut text)?;
+    let mut text = Bytes::with_capacity(alloc, KEEP_ROOM)?;
+    text.extend("keep".as_bytes())?;
+    write_kept::<A>(event, &mut text)?;
     text.push(b'\n')?;
     Ok(text)
 }
@@ -106,20 +116,20 @@ fn write_value(alloc: Global, ty: &FfiType, value: &Value, text: &mut Bytes) -> 
 }
 
 /// The registers that a callee preserves, in the standard's order.
-fn write_kept<A: Abi>(alloc: Global, event: &Event, text: &mut Bytes) -> Result<(), NoMemory>
+fn write_kept<A: Abi>(event: &Event, text: &mut Bytes) -> Result<(), NoMemory>
     ensures { (stack : List ℕ) → OnOk result (text.new ≡ text.old ++ concat (map (register_text (event_of event.now stack)) A.standard.callee_saved)) }
 {
     for k in 0..A::KEPT {
-        write_register(alloc, event, A::callee_saved(k), text)?;
+        write_register(event, A::callee_saved(k), text)?;
     }
     Ok(())
 }
 
-fn write_register(alloc: Global, event: &Event, at: Loc, text: &mut Bytes) -> Result<(), NoMemory>
+fn write_register(event: &Event, at: Loc, text: &mut Bytes) -> Result<(), NoMemory>
     requires { IsRegister at }
     ensures { (stack : List ℕ) → OnOk result (text.new ≡ text.old ++ register_text (event_of event.now stack) at) }
 {
-    write_word(alloc, register(event, at), text)
+    write_word(register(event, at), text)
 }
 
 /// What a register held.
@@ -135,8 +145,45 @@ fn register(event: &Event, at: Loc) -> u64
 }
 
 /// A word as 16 hexadecimal digits after a space.
-fn write_word(alloc: Global, word: u64, text: &mut Bytes) -> Result<(), NoMemory>
+fn write_word(word: u64, text: &mut Bytes) -> Result<(), NoMemory>
     ensures { OnOk result (text.new ≡ text.old ++ (codes " " ++ word_text word)) }
 {
-    text.extend(format!(in alloc; " {word:016x}")?.as_bytes())
+    text.extend(&spelled(word))
+}
+
+/// A space, and the 16 hexadecimal digits of a word, the highest first.
+fn spelled(word: u64) -> [u8; 17]
+    ensures { result ≡ codes " " ++ word_text word }
+{
+    [
+        b' ',
+        last_digit(word >> 60),
+        last_digit(word >> 56),
+        last_digit(word >> 52),
+        last_digit(word >> 48),
+        last_digit(word >> 44),
+        last_digit(word >> 40),
+        last_digit(word >> 36),
+        last_digit(word >> 32),
+        last_digit(word >> 28),
+        last_digit(word >> 24),
+        last_digit(word >> 20),
+        last_digit(word >> 16),
+        last_digit(word >> 12),
+        last_digit(word >> 8),
+        last_digit(word >> 4),
+        last_digit(word),
+    ]
+}
+
+/// The last hexadecimal digit of a number.
+fn last_digit(number: u64) -> u8
+    ensures { result ≡ digit_glyph false (number % 16) }
+{
+    let digit = (number % 16) as u8;
+    if digit < 10 {
+        b'0' + digit
+    } else {
+        b'a' + (digit - 10)
+    }
 }
