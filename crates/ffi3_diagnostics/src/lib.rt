@@ -1,5 +1,5 @@
-//! What a person is told of a text that is no declaration: what stands at the place, what could, why, and the line;
-//! and at which value of a signature a fault is.
+//! Explains why a text is not a C declaration: it shows the line, marks the place, and says what was expected there.
+//! Of a signature with a fault it says which of its values has it.
 #![tactic(auto)]
 
 mod expected;
