@@ -4,38 +4,12 @@
 --     boxed, tested              the memory of what is kept; its pointer may be compared with null
 --     either                     what a handle owns beside its fields, by whether something is kept
 --     handle_out, handle_in      a handle by value is [the memory, if something is kept; the allocator]
-use Rattle.std.proofs.Common.{◌≡◌, ℕ, List, [], ◌∷◌, ◌++◌, refl, subst}
-use seplogic.Ra.Ura.{Ura}
-use mir.Syntax.{impl, tnil, dnil}
-use mir.Raw.{raw as bare}
-use mathlib.Core.Bool.{true, ◌&&◌}
-use lib.Dec.{T, lit<}
-use mir.Val.{Val, vptr, vnull, vstruct, of_list, has_ty, WT}
-use base.Fraction.{full_share}
-use base.Logic.{ent, guard, guard_i, never, via, fst∗, snd∗}
-use base.Fml.{Fml}
-use types.Logic.{Logic, sem}
-use types.Kit.{Item, Goal, Seq, Step, step, ‵, given, ◌$◌, move, drop, learn, use1, fsplit, fjoin, fpick, fpack, feq_i, feq_l}
-use contract.Monad.{fact_use}
-use denote.RattleType.{RattleType, Valss}
-use denote.Memory.{lone}
-use denote.RawPtr.{Ptr, block_ptr, null_ptr, ptr_val, lies_at, in_a_block, Testable}
-use denote.Steps.{nothing}
-use denote.Param.{layout}
-use denote.Param.Laws.{Laws}
-use denote.Struct.Struct.{within}
-use denote.Struct.Owning.{shape, fields, to}
-use Rattle.std.proofs.alloc.Calls.{Al, handle_tells}
-use Rattle.std.proofs.cell.Inside.{Good}
-use Rattle.std.specs.declared.option.Option.{Option}
-use Rattle.std.specs.declared.option.Option.TheVariants.{None, Some}
-use Rattle.std.specs.declared.alloc.Global.{Global}
+use Rattle.ffi3_handle.proofs.Words.{◌≡◌, ℕ, List, [], ◌∷◌, ◌++◌, refl, subst, Ura, impl, tnil, dnil, bare, ◌&&◌, T, Val, vptr, vnull, vstruct, of_list, has_ty, WT, full_share, ent, guard, guard_i, never, via, fst∗, snd∗, Fml, Logic, sem, Item, Goal, Seq, Step, step, ‵, given, ◌$◌, move, drop, learn, use1, fsplit, fjoin, fpick, fpack, feq_i, feq_l, fact_use, RattleType, Valss, lone, Ptr, block_ptr, null_ptr, ptr_val, lies_at, in_a_block, Testable, nothing, layout, Laws, within, shape, fields, to, Al, handle_tells, Good, Option, None, Some, Global, ghosts, box_owns, and_tt}
+use mathlib.Core.Bool.{true}
+use lib.Dec.{lit<}
 use Rattle.std.specs.contracts.alloc.Global as heap
 use Rattle.std.proofs.alloc.Global.TheLaws as heap_laws
-use Rattle.std.specs.contracts.impls.GlobalAllocator.TheImpl.{ghosts}
 use Rattle.std.proofs.GlobalToken.{dealloc_token-Testable}
-use Rattle.std_alloc.specs.Box.Ownership.{box_owns}
-use Rattle.std_alloc.proofs.ResultValues.{and_tt}
 use Rattle.ffi3_handle.specs.Owned.{kept_owns}
 use Rattle.ffi3_handle.specs.contracts.kept.Kept as kept
 use Rattle.ffi3_handle.specs.contracts.Handle as handle

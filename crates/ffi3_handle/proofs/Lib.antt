@@ -1,3 +1,4 @@
+pub mod Words
 mod Fields
 mod Values
 mod Crosses

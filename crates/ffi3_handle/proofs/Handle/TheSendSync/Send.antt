@@ -1,17 +1,9 @@
 -- A handle may go to another thread, since what is kept may.
+use Rattle.ffi3_handle.proofs.Words.{lone, IsSend, owning_send, struct_send, sendable, RawPtr, Ptr, exits_of, shape, fields, to, Option, None, Some, Global}
 use mir.Raw.{raw}
 use base.Shift.{Keyless}
-use denote.Memory.{lone}
-use denote.Param.Send.{IsSend, owning_send, struct_send, sendable}
-use denote.Builtin.{RawPtr}
-use denote.RawPtr.{Ptr}
-use denote.Struct.Struct.{exits_of}
-use denote.Struct.Owning.{shape, fields, to}
 use Rattle.std.proofs.Crossing.{frees}
 use Rattle.std.proofs.alloc.Global.TheSendSync as heap
-use Rattle.std.specs.declared.option.Option.{Option}
-use Rattle.std.specs.declared.option.Option.TheVariants.{None, Some}
-use Rattle.std.specs.declared.alloc.Global.{Global}
 use Rattle.std_alloc.proofs.SendSync.{quiet, lies}
 use Rattle.ffi3_handle.specs.Owned.{kept_owns}
 use Rattle.ffi3_handle.specs.contracts.kept.Kept.{the_row as kept_row}

@@ -1,31 +1,9 @@
 -- `into_loose` reads the pointer, and has the box's memory by what is kept.
-use Rattle.std.proofs.Common.{◌≡◌, List, [], ◌∷◌, ◌++◌, refl, sym, subst, lit<}
-use mir.Val.{Val, vptr, vnull, vcons, vnil}
-use base.Logic.{SProp, ent, emp, id⊢}
-use base.Fml.{ftrue}
-use prog.Wp.{WpFn}
-use types.Kit.{‵, raw, ◌⊛◌, at_ret, ◌$◌, ◌∵◌, !, qed, by, keep, drop, split, fsplit, fjoin, suffices, use0, use1}
-use types.Run.{stop, fld, lit, of_opd, bin, no_more, and_then, first, branches, exec, returns, enter}
-use types.ByLocal.{alloc_all, pass_all, free_all, look_at, get, get_in, sets, sets_last, env}
-use types.Part.{agg, sub, whole}
+use Rattle.ffi3_handle.proofs.Words.{◌≡◌, List, [], ◌∷◌, ◌++◌, refl, sym, subst, Val, vptr, vnull, vcons, vnil, SProp, ent, emp, id⊢, ftrue, WpFn, ‵, ◌⊛◌, at_ret, ◌$◌, ◌∵◌, !, qed, by, keep, drop, split, fsplit, fjoin, suffices, use0, use1, stop, fld, lit, of_opd, bin, no_more, and_then, first, branches, exec, returns, enter, alloc_all, pass_all, free_all, look_at, get, get_in, sets, sets_last, env, agg, sub, whole, fact, fact_i, tables, yes, RattleType, owns, type_at, plain, block_ptr, null_ptr, tests_null, layout, nothing, Stays, stay_dropped, walk_of, Goes-blank, after, Good, proved_at, leaves, None, Some, ghosts, and_tt}
+use Rattle.std.proofs.Common.{lit<}
+use types.Kit.{raw}
 use types.Match.{live}
-use contract.Monad.{fact, fact_i}
-use contract.Running.{tables}
-use denote.Exit.{yes}
-use denote.RattleType.{RattleType, owns}
-use denote.Signature.{type_at, plain}
-use denote.RawPtr.{block_ptr, null_ptr, tests_null}
-use denote.Param.{layout}
-use denote.Steps.{nothing}
-use denote.Triple.Walked.{Stays, stay_dropped, walk_of}
-use Rattle.std.proofs.alloc.Calls.{Goes-blank}
-use Rattle.std.proofs.alloc.Shapes.{after}
-use Rattle.std.proofs.cell.Inside.{Good}
 use Rattle.std.proofs.option.Made.{Some-of, none_of}
-use Rattle.std.proofs.raw_atomic.Walks.{proved_at, leaves}
-use Rattle.std.specs.declared.option.Option.TheVariants.{None, Some}
-use Rattle.std.specs.contracts.impls.GlobalAllocator.TheImpl.{ghosts}
-use Rattle.std_alloc.proofs.ResultValues.{and_tt}
 use Rattle.ffi3_handle.proofs.Values.{both, Loose, loose_in as loose_made}
 use Rattle.ffi3_handle.proofs.Fields.{R, Z, LZ, Hd, both_good, handle_out}
 use Rattle.ffi3_handle.specs.contracts.Handle.into_loose as f

@@ -1,25 +1,8 @@
 -- `is_kept` compares the handle's pointer with null.
-use Rattle.std.proofs.Common.{◌≡◌, lit<, List, [], ◌∷◌, refl, sym, ap, true, false}
-use mir.Syntax.{named}
-use mir.Val.{Val, vptr, vnull, vbool}
-use base.Fraction.{full_share}
-use base.Fml.{ftrue, flft}
-use types.Kit.{‵, ◌⊛◌, ◌$◌, ◌∵◌, !, qed, done, move, keep, split, join, fsplit3, fpack, rewrite, suffices, frame, group}
-use types.Run.{enter, of_opd, lit, bin, un, load, stop, fld, returns}
-use types.ByLocal.{alloc_all, pass_all, free_all, look_at, get, through, sets}
-use types.Part.{whole, sub, look_in}
-use contract.Running.{tables}
-use denote.Builtin.{bool}
-use denote.Memory.{cell_at}
+use Rattle.ffi3_handle.proofs.Words.{◌≡◌, List, [], ◌∷◌, refl, sym, ap, false, named, Val, vptr, vnull, vbool, full_share, ftrue, flft, ‵, ◌⊛◌, ◌$◌, ◌∵◌, !, qed, done, move, keep, split, join, fsplit3, fpack, rewrite, suffices, frame, group, enter, of_opd, lit, bin, un, load, stop, fld, returns, alloc_all, pass_all, free_all, look_at, get, through, sets, whole, sub, look_in, tables, bool, cell_at, block_ptr, null_ptr, tests_null, MutRef, mut_vals, mut_Tells, plain, nothing, owned, opens, closes, Stays, walk_of, stay_ref, Goes-ref, ends_at, proved, None, Some}
+use Rattle.std.proofs.Common.{lit<, true}
 use denote.Plain.{bool_Makes}
-use denote.RawPtr.{block_ptr, null_ptr, tests_null}
-use denote.Ref.{MutRef, mut_vals, mut_Tells}
-use denote.Signature.{plain}
-use denote.Steps.{nothing, owned, opens, closes}
-use denote.Triple.Walked.{Stays, walk_of, stay_ref, Goes-ref, ends_at}
-use Rattle.std.proofs.raw_atomic.Walks.{proved}
 use Rattle.std.proofs.mem.Facts.{says_two}
-use Rattle.std.specs.declared.option.Option.TheVariants.{None, Some}
 use Rattle.ffi3_handle.proofs.Values.{both}
 use Rattle.ffi3_handle.proofs.Fields.{Hd, handle_in, handle_out}
 use Rattle.ffi3_handle.specs.Kept.{is_kept}

@@ -1,34 +1,11 @@
 -- `value_mut` lends what is kept, and the handle follows it.
-use Rattle.std.proofs.Common.{◌≡◌, ℕ, List, [], ◌∷◌, refl, sym, ap, ◌∙◌, Bool, true, false, subst}
-use seplogic.Ra.Ura.{Ura}
-use mir.Syntax.{named}
-use mir.Val.{Val, vptr}
-use base.Fraction.{full_share}
-use base.Logic.{SProp, ent, sep}
-use base.Fml.{Lft, GName, Share, Fml, ftrue, fsep, flft}
+use Rattle.ffi3_handle.proofs.Words.{◌≡◌, ℕ, List, [], ◌∷◌, refl, sym, ap, ◌∙◌, Bool, false, subst, Ura, named, Val, vptr, full_share, SProp, ent, sep, Lft, GName, Share, Fml, ftrue, fsep, flft, Logic, sem, ‵, ◌⊛◌, some, later, at_ret, ◌$◌, ◌∵◌, !, qed, by, move, keep, use1, split, join, pick, fsplit, fsplit3, fjoin, fjoin3, fpack, rewrite, suffices, frame, done, await, group, enter, of_opd, load, addr, stop, fld, first, blocks, exec, returns, alloc_all, pass_all, free_all, look_at, get, through, sets, sets_last, env, whole, sub, look_in, Fun, fact, tables, no, cell_at, Ptr, block_ptr, MutRef, mut_vals, mut_Tells, plain, mut_ref_to, nothing, heard, opens, Stays, walk_of, says, stay_dropped, Goes-spent_ref, ends_at, bare, lone, proved, after, Some, ghosts}
+use denote.Memory.{part_at, mem, part_of}
+use Rattle.std.proofs.Common.{true}
 use prog.Memory.{Memory}
 use prog.Routine.{Routine}
-use types.Logic.{Logic, sem}
-use types.Kit.{‵, raw, ◌⊛◌, some, later, at_ret, ◌$◌, ◌∵◌, !, qed, by, move, keep, use1, split, join, pick, fsplit, fsplit3, fjoin, fjoin3, fpack, rewrite, suffices, frame, done, await, group}
-use types.Run.{enter, of_opd, load, addr, stop, fld, first, blocks, exec, returns}
-use types.ByLocal.{alloc_all, pass_all, free_all, look_at, get, through, sets, sets_last, env}
-use types.Part.{whole, sub, look_in}
-use contract.Monad.{Fun, fact}
-use contract.Running.{tables}
-use denote.Exit.{no}
+use types.Kit.{raw}
 use denote.Follow.{follows, Part, lends_Part}
-use denote.Memory.{part_at, mem, cell_at, part_of}
-use denote.RawPtr.{Ptr, block_ptr}
-use denote.Ref.{MutRef, mut_vals, mut_Tells}
-use denote.Signature.{plain, mut_ref_to}
-use denote.Steps.{nothing, heard, opens}
-use denote.Triple.Walked.{Stays, walk_of, says, stay_dropped, Goes-spent_ref, ends_at}
-use mir.Raw.{raw as bare}
-use denote.Memory.{lone}
-use Rattle.std.proofs.raw_atomic.Walks.{proved}
-use Rattle.std.proofs.alloc.Shapes.{after}
-use Rattle.std.specs.declared.option.Option.TheVariants.{Some}
-use Rattle.std.specs.contracts.impls.GlobalAllocator.TheImpl.{ghosts}
 use Rattle.ffi3_handle.proofs.Values.{both}
 use Rattle.ffi3_handle.proofs.Fields.{R, Z, Hd, handle_in, handle_out}
 use Rattle.ffi3_handle.specs.Kept.{is_kept}

@@ -1,4 +1,4 @@
-use denote.Param.Send.{sendable}
+use Rattle.ffi3_handle.proofs.Words.{sendable}
 use Rattle.ffi3_handle.proofs.Crosses.{kept_send, kept_sync}
 use Rattle.ffi3_handle.proofs.kept.Kept.share.Goals as goal
 
