@@ -23,12 +23,11 @@ use Rattle.ffi3_transfer.proofs.Packing.{packed_open, behind_drop}
 
 pub all_stay : (base : ℕ) (target : Target) (room : ℕ) (ls : List Loc) (a b : Image) (ts : List Tree) (ps : List Place) (bytes : List ℕ) → AreReadyIn floating_words target room ts ps → AllByRecursion (IsNoneOf ls) (all_uses ts ps) → Stays base ls a b → AllStand base a ts ps bytes → AllStand base b ts ps bytes
 all_stay base target room ls a b [] [] bytes ready none s stand = tt
-all_stay base target room ls a b [] (p ∷ ps) bytes ready none s stand = absurd ready
-all_stay base target room ls a b (t ∷ ts) [] bytes ready none s stand = absurd ready
 all_stay base target room ls a b (t ∷ ts) (p ∷ ps) bytes ready none s stand = (
   place_stays base t (first_in t bytes) p ls a b ready.0.has_all (each_first (IsNoneOf ls) (place_uses t p) (all_uses ts ps) none) s stand.0,
   all_stay base target room ls a b ts ps (behind t bytes) ready.1 (each_rest (IsNoneOf ls) (place_uses t p) (all_uses ts ps) none) s stand.1,
 )
+all_stay base target room ls a b _ _ bytes ready none s stand = absurd ready
 
 module _ (base : ℕ) (target : Target) (room : ℕ) (ts : List Tree) (ps : List Place) (bytes : List ℕ) where
   -- what is so before the argument at j - 1 is stored, whose values end at `at` in the buffer

@@ -24,11 +24,10 @@ register_apart (F r) at (suc n) h = (tt, register_apart (F r) (at + 8) n h)
 register_apart (S k w) at (suc n) h = absurd (omega (arith, h.0, h.1))
 
 register_apart_copies : (l : Loc) (ts : List Tree) (ps : List Place) → IsPlace 0 l → AllByRecursion (Apart l) (copy_locs ts ps)
-register_apart_copies l [] ps h = tt
-register_apart_copies l (t ∷ ts) [] h = tt
 register_apart_copies l (t ∷ ts) (Direct pieces ∷ ps) h = register_apart_copies l ts ps h
 register_apart_copies l (t ∷ ts) (ByRef at copy ∷ ps) h =
     each_join (Apart l) (stack_words_for copy t) (copy_locs ts ps) (register_apart l copy _ h) (register_apart_copies l ts ps h)
+register_apart_copies l _ _ h = tt
 
 module _ (std : Standard) (s : Signature) (sound : IsSound std s) where
   abbrev places : List Place

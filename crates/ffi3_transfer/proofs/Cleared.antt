@@ -20,10 +20,9 @@ no_leaf = record { at = 0; kind = u8 }
 -- bytes that agree at each leaf
 leaves_same : (a b : List ℕ) (ls : List Leaf) (bs : List (List ℕ)) → ((j : ℕ) → j < length ls → (k : ℕ) → k < scalar_size (slice_index_or ls j no_leaf).kind → get_or b ((slice_index_or ls j no_leaf).at + k) 0 ≡ get_or a ((slice_index_or ls j no_leaf).at + k) 0) → LeavesRead a ls bs → LeavesRead b ls bs
 leaves_same a b [] [] same r = tt
-leaves_same a b [] (c ∷ cs) same r = absurd r
-leaves_same a b (l ∷ ls) [] same r = absurd r
 leaves_same a b (l ∷ ls) (c ∷ cs) same r =
     (λ k h. same 0 (omega arith) k h ∙ r.0 k h, leaves_same a b ls cs (λ j below. same (suc j) (omega (arith, below))) r.1)
+leaves_same a b _ _ same r = absurd r
 
 module _ (t : Tree) (old : List ℕ) where
   abbrev count : ℕ

@@ -14,7 +14,7 @@ use Rattle.ffi3_type_spec.specs.TargetIsa.{isa_of}
 use Rattle.ffi3_type_spec.proofs.Fitting.{value_fits}
 use Rattle.ffi3_type_spec.proofs.Placed.{placed_result_is_laid_out}
 use Rattle.ffi3_place_spec.specs.declared.Loc.{Loc}
-use Rattle.ffi3_place_spec.specs.declared.Loc.TheVariants.{G, F, S}
+use Rattle.ffi3_place_spec.specs.declared.Loc.TheVariants.{S}
 use Rattle.ffi3_place_spec.specs.declared.Piece.{Piece}
 use Rattle.ffi3_place_spec.specs.declared.Res.{Res}
 use Rattle.ffi3_place_spec.specs.declared.Res.TheVariants.{Nothing, Direct as DirectRes, Hidden}
@@ -37,9 +37,8 @@ use Rattle.ffi3_transfer.specs.Calls.{IsBeside, IsGiven, IsGivenBy, ResultKeeps,
 
 none_of_registers : (ls : List Loc) (n w : ℕ) → AllByRecursion (IsPlace 0) ls → IsNoneOf ls (S n w)
 none_of_registers [] n w h = tt
-none_of_registers (G r ∷ ls) n w h = (tt, none_of_registers ls n w h.1)
-none_of_registers (F r ∷ ls) n w h = (tt, none_of_registers ls n w h.1)
 none_of_registers (S k v ∷ ls) n w h = absurd (omega (arith, h.0.0, h.0.1))
+none_of_registers (_ ∷ ls) n w h = (tt, none_of_registers ls n w h.1)
 
 -- where registers alone are written the stack stays
 pub stack_same : (base : ℕ) (ls : List Loc) (a b : Image) → AllByRecursion (IsPlace 0) ls → Stays base ls a b → b.stack ≡ a.stack
@@ -57,19 +56,16 @@ stack_same base ls a b registers s =
 
 -- a register is the same whatever the stack's places count from
 register_same : (base : ℕ) (l : Loc) (a b : Image) → IsPlace 0 l → SameAt base l a b → SameAt 0 l a b
-register_same base (G r) a b h same = same
-register_same base (F r) a b h same = same
 register_same base (S n w) a b h same = absurd (omega (arith, h.0, h.1))
+register_same base _ a b h same = same
 
 byte_moved : (std : Standard) (base : ℕ) (l : Loc) (m : Image) (k : ℕ) → IsPlace 0 l → byte_at (at_return std m) 0 l k ≡ byte_at m base l k
-byte_moved std base (G r) m k h = refl
-byte_moved std base (F r) m k h = refl
 byte_moved std base (S n w) m k h = absurd (omega (arith, h.0, h.1))
+byte_moved std base _ m k h = refl
 
 word_moved : (std : Standard) (base : ℕ) (l : Loc) (m : Image) → IsPlace 0 l → word_at (at_return std m) 0 l ≡ word_at m base l
-word_moved std base (G r) m h = refl
-word_moved std base (F r) m h = refl
 word_moved std base (S n w) m h = absurd (omega (arith, h.0, h.1))
+word_moved std base _ m h = refl
 
 pieces_moved : (std : Standard) (base : ℕ) (t : Tree) (bytes : List ℕ) (m : Image) (ps : List Piece) → AllByRecursion (IsPlace 0) (piece_locs ps) → AllByRecursion (PieceStands base m t bytes) ps → AllByRecursion (PieceStands 0 (at_return std m) t bytes) ps
 pieces_moved std base t bytes m [] lie stand = tt
@@ -83,9 +79,8 @@ pieces_moved std base t bytes m (p ∷ ps) lie stand = (
 
 -- what a register keeps, whatever the stack's places count from
 from_base : (base : ℕ) (l : Loc) (m : Image) (k : ℕ) → IsPlace 0 l → byte_at m 0 l k ≡ byte_at m base l k
-from_base base (G r) m k h = refl
-from_base base (F r) m k h = refl
 from_base base (S n w) m k h = absurd (omega (arith, h.0, h.1))
+from_base base _ m k h = refl
 
 keeps_moved : (base : ℕ) (old new : Image) (ps : List Piece) → AllByRecursion (IsPlace 0) (piece_locs ps) → AllByRecursion (KeepsAbove base old new) ps → AllByRecursion (KeepsAbove 0 old new) ps
 keeps_moved base old new [] lie keep = tt
@@ -146,9 +141,8 @@ module _ (std : Standard) (s : Signature) (sound : IsSound std s) (right : Signa
   -- ---- no result
 
   same_at : (l : Loc) → SameAt 0 l old old
-  same_at (G r) = refl
-  same_at (F r) = refl
   same_at (S n w) = λ k few. refl
+  same_at _ = refl
 
   pub nothing_given : giving_bytes std s ≤ length old.stack → old.sp + length old.stack < 2 ^ 64 → (plan_of std s).res ≡ Nothing → IsGiven std s bytes old old
   nothing_given room low is = record {
@@ -247,9 +241,8 @@ module _ (std : Standard) (s : Signature) (sound : IsSound std s) (right : Signa
         }
       where
         register_back : (l : Loc) → IsPlace 0 l → SameAt 0 l (record old { stack = mid }) new → SameAt 0 l old new
-        register_back (G r) h same = same
-        register_back (F r) h same = same
         register_back (S n w) h same = absurd (omega (arith, h.0, h.1))
+        register_back _ h same = same
 
         apart : (i : ℕ) → (old.sp + i < word_at old std.link at) ⊎ (word_at old std.link at + size_of s.result_type ≤ old.sp + i) → (i < from) ⊎ (from + length bytes ≤ i)
         apart i (inl below) = inl (omega (arith, below, address_is, from_is))

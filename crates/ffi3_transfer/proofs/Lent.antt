@@ -3,10 +3,10 @@ use Rattle.std.specs.Prelude.{⊤}
 use Rattle.std.proofs.Common.{◌≡◌, ℕ, ◌-◌, List, length, sym, subst}
 use Rattle.std.specs.List.{AllByRecursion}
 use Rattle.ffi3_place_spec.specs.declared.Loc.{Loc}
-use Rattle.ffi3_place_spec.specs.declared.Loc.TheVariants.{G, F, S}
+use Rattle.ffi3_place_spec.specs.declared.Loc.TheVariants.{G}
 use Rattle.ffi3_place_spec.specs.declared.Piece.{Piece}
 use Rattle.ffi3_place_spec.specs.declared.Res.{Res}
-use Rattle.ffi3_place_spec.specs.declared.Res.TheVariants.{Nothing, Direct as DirectRes, Hidden}
+use Rattle.ffi3_place_spec.specs.declared.Res.TheVariants.{Hidden}
 use Rattle.ffi3_place_spec.specs.Sound.{hidden_locs}
 use Rattle.ffi3_place_spec.specs.Image.{Image}
 use Rattle.ffi3_explain.specs.Places.{IsPieceRead}
@@ -20,8 +20,7 @@ use Rattle.ffi3_transfer.specs.Stored.{floating_words, image_in}
 -- no register drops a write
 pub one_takes : (l : Loc) → TakesAt (λ k. ⊤) l
 one_takes (G r) = tt
-one_takes (F r) = tt
-one_takes (S n w) = tt
+one_takes _ = tt
 
 pub each_takes : (ls : List Loc) → AllByRecursion (TakesAt (λ k. ⊤)) ls
 each_takes ls = all_take (λ k. ⊤) (λ k. tt) ls
@@ -35,6 +34,5 @@ gave_back P r s xs ys registers stack h =
     subst (λ q. P (image_in q xs)) (sym registers) (subst (λ zs. P (image_in s zs)) (sym stack) h)
 
 pub hidden_places : (base : ℕ) (m : Image) (res : Res) → HiddenLiesIn floating_words base m res → AllByRecursion (IsPlace (length m.stack - base)) (hidden_locs res)
-hidden_places base m Nothing h = tt
-hidden_places base m (DirectRes pieces) h = tt
 hidden_places base m (Hidden at buffer) h = (h.0, tt)
+hidden_places base m _ h = tt

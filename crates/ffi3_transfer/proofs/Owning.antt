@@ -28,15 +28,13 @@ owned_values std s m right sound vs own v is =
 module _ (base : ℕ) (m : Image) where
   pub owned : (ts : List Tree) (ps : List Place) (bytes : List ℕ) → ((i : ℕ) → i < length ts → IsLaidOut (tree_at ts i)) → packed_size ts ≤ length bytes → AllStand base m ts ps bytes → OwnsArguments m base ts ps (values_packed ts bytes)
   owned [] [] bytes laid long stand = tt
-  owned [] (p ∷ ps) bytes laid long stand = absurd stand
-  owned (t ∷ ts) [] bytes laid long stand = absurd stand
   owned (t ∷ ts) (p ∷ ps) bytes laid long stand =
       let sized : length (first_in t bytes) ≡ size_of t = length-take-le (size_of t) bytes (omega (arith, long, in_room t)) in
       let rest : packed_size ts ≤ length (behind t bytes) = omega (arith, long, length-drop (round8 (size_of t)) bytes) in
       (argument_owned base m t (first_in t bytes) p (value_fits t (first_in t bytes) (laid 0 (omega arith)) sized) stand.0, owned ts ps (behind t bytes) (λ i h. laid (suc i) (omega (arith, h))) rest stand.1)
+  owned _ _ bytes laid long stand = absurd stand
 
   pub filled : (ts : List Tree) (ps : List Place) (bytes : List ℕ) → AllStand base m ts ps bytes → FillArguments m base ts ps (values_packed ts bytes)
   filled [] [] bytes stand = tt
-  filled [] (p ∷ ps) bytes stand = absurd stand
-  filled (t ∷ ts) [] bytes stand = absurd stand
   filled (t ∷ ts) (p ∷ ps) bytes stand = (argument_filled base m t (first_in t bytes) p stand.0, filled ts ps (behind t bytes) stand.1)
+  filled _ _ bytes stand = absurd stand

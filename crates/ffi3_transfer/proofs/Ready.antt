@@ -8,12 +8,12 @@ use Rattle.ffi3_type_spec.specs.Tree.{Tree}
 use Rattle.ffi3_type_spec.specs.Signature.{Signature}
 use Rattle.ffi3_type_spec.proofs.Layouts.{least_multiple-above}
 use Rattle.ffi3_place_spec.specs.declared.Loc.{Loc}
-use Rattle.ffi3_place_spec.specs.declared.Loc.TheVariants.{G, F, S}
+use Rattle.ffi3_place_spec.specs.declared.Loc.TheVariants.{G, S}
 use Rattle.ffi3_place_spec.specs.declared.Piece.{Piece}
 use Rattle.ffi3_place_spec.specs.declared.Place.{Place}
 use Rattle.ffi3_place_spec.specs.declared.Place.TheVariants.{Direct, ByRef}
 use Rattle.ffi3_place_spec.specs.Image.{Image}
-use Rattle.ffi3_place_spec.specs.Standard.{Standard, plan_of, frame_of, ResultSpot, no_result, in_result_pieces, in_buffer, result_at, buffer_end, frame_copies_end}
+use Rattle.ffi3_place_spec.specs.Standard.{Standard, plan_of, frame_of, ResultSpot, in_buffer, result_at, buffer_end, frame_copies_end}
 use Rattle.ffi3_place_spec.specs.Sound.{IsSound, IsWhole, LiesIn, StandsIn, IsPieceOf, PlacesHaveAll, place_locs, piece_locs, copy_locs, argument_locs, hidden_locs, buffer_locs}
 use Rattle.ffi3_place_spec.proofs.Further.{each_stands}
 use Rattle.ffi3_marshal.proofs.Lawful.{any_place, any_places, each_first, each_rest}
@@ -26,15 +26,13 @@ registers_lie isa ls lie = any_places isa 0 ls (each_stands isa 0 ls lie)
 
 -- a register or a further word has eight bytes
 pub register_is_whole : (l : Loc) → IsPlace 0 l → IsWhole l
-register_is_whole (G r) h = refl
-register_is_whole (F r) h = refl
 register_is_whole (S n w) h = absurd (omega (arith, h.0, h.1))
+register_is_whole _ h = refl
 
 module _ (m : Image) (base : ℕ) where
   is_there : (stack : ℕ) (l : Loc) → IsPlace stack l → base + stack ≤ length m.stack → HasPlace m base l
-  is_there stack (G r) h room = h
-  is_there stack (F r) h room = h
   is_there stack (S n w) h room = (omega (arith, h.0, room), h.2)
+  is_there stack _ h room = h
 
   -- places that stand in so much of the stack
   pub places_there : (isa : Isa) (stack : ℕ) (ls : List Loc) → base + stack ≤ length m.stack → AllByRecursion (StandsIn isa stack) ls → AllByRecursion (HasPlace m base) ls
@@ -43,14 +41,12 @@ module _ (m : Image) (base : ℕ) where
       (is_there stack l (any_place isa stack l stand.0) room, places_there isa stack ls room stand.1)
 
   stands_lower : (stack : ℕ) (l : Loc) (ls : List Loc) → IsPlace stack l → IsPlace (stack_end (l ∷ ls)) l
-  stands_lower stack (G r) ls lies = lies
-  stands_lower stack (F r) ls lies = lies
   stands_lower stack (S n w) ls lies = (omega arith, lies.1, lies.2)
+  stands_lower stack _ ls lies = lies
 
   less_later : (l : Loc) (ls : List Loc) → stack_end ls ≤ stack_end (l ∷ ls)
   less_later (G r) ls = omega arith
-  less_later (F r) ls = omega arith
-  less_later (S n w) ls = omega arith
+  less_later _ ls = omega arith
 
   -- places of which the highest is there
   pub places_reached : (isa : Isa) (stack : ℕ) (ls : List Loc) → base + stack_end ls ≤ length m.stack → AllByRecursion (StandsIn isa stack) ls → AllByRecursion (HasPlace m base) ls
@@ -67,8 +63,6 @@ module _ (m : Image) (base : ℕ) where
 
   arguments_there : (ts : List Tree) (ps : List Place) → PlacesHaveAll ts ps → AllByRecursion (HasPlace m base) (flat_map place_locs ps) → ArgumentsAreReady m base ts ps
   arguments_there [] [] have there = tt
-  arguments_there [] (p ∷ ps) have there = absurd have
-  arguments_there (t ∷ ts) [] have there = absurd have
   arguments_there (t ∷ ts) (Direct pieces ∷ ps) have there = (
     pieces_there t pieces have.0.each (each_first (HasPlace m base) (piece_locs pieces) (flat_map place_locs ps) there),
     have.0,
@@ -76,11 +70,11 @@ module _ (m : Image) (base : ℕ) where
   )
   arguments_there (t ∷ ts) (ByRef at copy ∷ ps) have there =
       (there.0, have.0, arguments_there ts ps have.1 there.1)
+  arguments_there _ _ have there = absurd have
 
   hidden_ready : (frame : ℕ) → m.sp + base + frame < 2 ^ 64 → (start : ℕ → Tree → ℕ) (end : ℕ) (t : Tree) (spot : ResultSpot) → buffer_end start end t spot ≤ frame → AllByRecursion (HasPlace m base) (hidden_locs (result_at start end t spot)) → HiddenIsThere m base (result_at start end t spot)
-  hidden_ready frame high start end t no_result fit there = tt
-  hidden_ready frame high start end t (in_result_pieces pieces) fit there = tt
   hidden_ready frame high start end t (in_buffer at) fit there = (there.0, omega (arith, fit, high))
+  hidden_ready frame high start end t _ fit there = tt
 
 module _ (std : Standard) (s : Signature) (sound : IsSound std s) where
   abbrev Stands : Loc → Type 0

@@ -5,7 +5,7 @@ use Rattle.std.specs.List.{AllByRecursion}
 use Rattle.ffi3_type_spec.specs.Tree.{Tree, void}
 use Rattle.ffi3_type_spec.specs.Layout.{size_of}
 use Rattle.ffi3_type_spec.specs.Signature.{Signature}
-use Rattle.ffi3_type_spec.specs.Value.{ValueTree, void_value, leaf_value, struct_value, value_in, fits, part}
+use Rattle.ffi3_type_spec.specs.Value.{ValueTree, void_value, value_in, fits, part}
 use Rattle.ffi3_type_spec.specs.TargetIsa.{isa_of}
 use Rattle.ffi3_type_spec.proofs.Layouts.{least_multiple-above}
 use Rattle.ffi3_place_spec.specs.declared.Loc.{Loc}
@@ -13,7 +13,7 @@ use Rattle.ffi3_place_spec.specs.declared.Piece.{Piece}
 use Rattle.ffi3_place_spec.specs.declared.Res.{Res}
 use Rattle.ffi3_place_spec.specs.declared.Res.TheVariants.{Nothing, Direct as DirectRes, Hidden}
 use Rattle.ffi3_place_spec.specs.Image.{Image}
-use Rattle.ffi3_place_spec.specs.Standard.{Standard, ResultSpot, no_result, in_result_pieces, in_buffer, plan_of, frame_of, result_at, buffer_end, frame_copies_end, round8}
+use Rattle.ffi3_place_spec.specs.Standard.{Standard, ResultSpot, in_buffer, plan_of, frame_of, result_at, buffer_end, frame_copies_end, round8}
 use Rattle.ffi3_place_spec.specs.Holds.{OwnsResult}
 use Rattle.ffi3_place_spec.specs.Sound.{IsSound, IsWithin, StandsIn, ResultHasAll, piece_locs, result_locs}
 use Rattle.ffi3_explain_spec.proofs.Pieces.{stood_is_read}
@@ -23,11 +23,10 @@ use Rattle.ffi3_explain.proofs.Loops.{all_within}
 use Rattle.ffi3_transfer.specs.Calls.{IsLoaded, result_bytes}
 
 buffer_is : (start : ℕ → Tree → ℕ) (end : ℕ) (t : Tree) (spot : ResultSpot) (at : Loc) (buffer : ℕ) → result_at start end t spot ≡ Hidden at buffer → buffer_end start end t spot ≡ buffer + round8 (size_of t)
-buffer_is start end t no_result at buffer is = cc
-buffer_is start end t (in_result_pieces pieces) at buffer is = cc
 buffer_is start end t (in_buffer here) at buffer is =
     let same : start end t ≡ buffer = cc in
     ap (λ n. n + round8 (size_of t)) same
+buffer_is start end t _ at buffer is = cc
 
 -- its buffer lies in the frame
 pub buffer_within : (std : Standard) (s : Signature) (at : Loc) (buffer : ℕ) → (plan_of std s).res ≡ Hidden at buffer → buffer + size_of s.result_type ≤ frame_of std s
@@ -51,8 +50,7 @@ module _ (std : Standard) (s : Signature) (sound : IsSound std s) (pieces : List
 
 void_fits : (v : ValueTree) → fits void v ≡ true → value_in void [] ≡ v
 void_fits void_value fit = refl
-void_fits (leaf_value b) fit = cc
-void_fits (struct_value vs) fit = cc
+void_fits _ fit = cc
 
 result_loaded : (std : Standard) (s : Signature) (m : Image) (r : Res) → ResultHasAll s.result_type r → (v : ValueTree) → fits s.result_type v ≡ true → OwnsResult m s.result_type r v → value_in s.result_type (result_bytes m s.result_type r) ≡ v
 result_loaded std s m Nothing all v fit owns =

@@ -1,7 +1,7 @@
 -- What the loops over the arguments keep, as they are collected.
 use Rattle.std.specs.Prelude.{slice_get, Option, Some, None, true, false, cond}
 use Rattle.std.proofs.Common.{◌≡◌, Bool, ℕ, suc, zero, ◌+◌, ◌<◌, ◌≤◌, List, [], ◌∷◌, ◌++◌, take, drop, get_or, length, refl, ap, sym, ◌∙◌, subst, arith, length-drop}
-use Rattle.std.proofs.lemmas.List.{drop_all, ext_get_or, get_or-drop, get_or-take, length-append, length-take-le}
+use Rattle.std.proofs.lemmas.List.{ext_get_or, get_or-drop, get_or-take, length-append, length-take-le}
 use Rattle.ffi3_type_spec.specs.Tree.{Tree, tree_at}
 use Rattle.ffi3_type_spec.specs.Layout.{size_of}
 use Rattle.ffi3_type_spec.specs.Value.{part, value_in}
@@ -31,9 +31,8 @@ same_outside m base i j t (ByRef at copy) e = by_test (is_in_image m (word_at m 
 ready_drop : (m : Image) (base j : ℕ) (ts : List Tree) (ps : List Place) → ArgumentsAreReady m base ts ps → ArgumentsAreReady m base (drop j ts) (drop j ps)
 ready_drop m base zero ts ps h = h
 ready_drop m base (suc j) [] [] h = tt
-ready_drop m base (suc j) [] (p ∷ ps) h = absurd h
-ready_drop m base (suc j) (t ∷ ts) [] h = absurd h
 ready_drop m base (suc j) (t ∷ ts) (p ∷ ps) h = ready_drop m base j ts ps h.2
+ready_drop m base (suc j) _ _ h = absurd h
 
 pub ready_at : (m : Image) (base j : ℕ) (ts : List Tree) (ps : List Place) (t : Tree) (p : Place) → drop j ts ≡ t ∷ drop (j + 1) ts → drop j ps ≡ p ∷ drop (j + 1) ps → ArgumentsAreReady m base ts ps → ArgumentIsThere m base p × PlaceHasAll t p × ArgumentsAreReady m base (drop (j + 1) ts) (drop (j + 1) ps)
 ready_at m base j ts ps t p types places h =
@@ -79,14 +78,6 @@ module _ (m : Image) (base : ℕ) (ts : List Tree) (ps : List Place) (i : ℕ) (
         same = here ∙ ap (λ x. or_later x later) none ∙ ap (λ n. first_outside m base n (drop (i + 1) ts) (drop (i + 1) ps)) next;
         ready = ready_here.2;
       }
-
-none_outside : (m : Image) (base i : ℕ) (ps : List Place) → first_outside m base i [] ps ≡ None
-none_outside m base i [] = refl
-none_outside m base i (p ∷ ps) = refl
-
-pub all_inside : (m : Image) (base : ℕ) (ts : List Tree) (ps : List Place) (i : ℕ) → length ts ≤ i → AreInside m base ts ps i → None ≡ first_outside m base 0 ts ps
-all_inside m base ts ps i end left =
-    sym (left.same ∙ ap (λ us. first_outside m base i us (drop i ps)) (drop_all i ts end) ∙ none_outside m base i (drop i ps))
 
 -- where none points outside, no one does
 split : (x y : Option Outside) → or_later x y ≡ None → (x ≡ None) × (y ≡ None)
@@ -140,21 +131,6 @@ module _ (m : Image) (base : ℕ) (ts : List Tree) (ps : List Place) (total : �
     pub left : at + packed_size (drop j ts) ≡ total
     pub sized : length out ≡ total
     pub padding : HaveZeroPadding (drop j ts) (drop at out)
-
-  none_by_standard : (qs : List Place) → values_by_standard m base [] qs ≡ []
-  none_by_standard [] = refl
-  none_by_standard (q ∷ qs) = refl
-
-  pub none_collected : (j at : ℕ) (out : List ℕ) → j ≡ length ts → at ≡ total → length out ≡ total → AreCollected j at out
-  none_collected j at out last all sized =
-      let no_type = drop_all j ts (omega (arith, last)) in
-      let none : at + 0 ≡ total = omega (arith, all) in
-      record {
-        read = rw no_type (sym (none_by_standard (drop j ps)));
-        left = rw no_type none;
-        sized = sized;
-        padding = rw no_type tt;
-      }
 
   pub one_more : (j : ℕ) (t : Tree) (p : Place) (at end : ℕ) (bytes out : List ℕ) → drop j ts ≡ t ∷ drop (j + 1) ts → drop j ps ≡ p ∷ drop (j + 1) ps → end ≡ at + round8 (size_of t) → length bytes ≡ round8 (size_of t) → size_of t ≤ round8 (size_of t) → end ≤ total → value_in t (first_in t bytes) ≡ value_by_standard m base t p → HasZeroPadding t bytes → AreCollected (j + 1) end out → AreCollected j at (written at bytes out)
   one_more j t p at end bytes out types places next many room high value zeros before =

@@ -6,7 +6,7 @@ use Rattle.ffi3_type_spec.specs.Signature.{Signature, SignatureIsPlaced}
 use Rattle.ffi3_type_spec.proofs.Placed.{placed_argument_is_laid_out}
 use Rattle.ffi3_place_spec.specs.declared.Loc.{Loc}
 use Rattle.ffi3_place_spec.specs.declared.Res.{Res}
-use Rattle.ffi3_place_spec.specs.declared.Res.TheVariants.{Nothing, Direct as DirectRes, Hidden}
+use Rattle.ffi3_place_spec.specs.declared.Res.TheVariants.{Hidden}
 use Rattle.ffi3_place_spec.specs.MachineRegisters.{to_list}
 use Rattle.ffi3_place_spec.specs.Image.{Image}
 use Rattle.ffi3_place_spec.specs.Agrees.{AgreesWithMachine}
@@ -28,8 +28,7 @@ hidden_stays : (base : ℕ) (r : Res) (ls : List Loc) (a b : Image) → AllByRec
 hidden_stays base (Hidden at buffer) ls a b none s stands =
     let same_sp : a.sp + base + buffer ≡ b.sp + base + buffer = omega (arith, s.sp) in
     same_word_at base at a b (s.others at none.0) ∙ stands ∙ same_sp
-hidden_stays base Nothing ls a b none s stands = tt
-hidden_stays base (DirectRes pieces) ls a b none s stands = tt
+hidden_stays base _ ls a b none s stands = tt
 
 module _ (std : Standard) (s : Signature) (sound : IsSound std s) (right : SignatureIsPlaced s) (agrees : AgreesWithMachine std) (bytes : List ℕ) (o a b d : Image) where
   stored : length bytes ≡ packed_size s.arguments → std.link + frame_of std s ≤ length o.stack → o.sp + length o.stack < 2 ^ 64 → AllStand std.link a s.arguments (plan_of std s).places bytes → PlacesKeep std.link o a s.arguments (plan_of std s).places → Stays std.link (all_uses s.arguments (plan_of std s).places) o a → OwnsHidden b std.link (plan_of std s).res → Stays std.link (hidden_locs (plan_of std s).res) a b → RegisterHolds d std.vector_count (plan_of std s).vectors → Stays std.link (to_list std.vector_count) b d → IsCallStored std s bytes o d

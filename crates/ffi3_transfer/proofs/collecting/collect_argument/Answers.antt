@@ -23,18 +23,12 @@ clear_padding-requires c =
     let many : length (c.read_argument.new.out ++ drop c.size-size.result c.args.out.now) ≡ length c.args.out.now = front_size c.size-size.result c.read_argument.new.out c.args.out.now (c.read_argument.ensures.sized ∙ sym c.size-size.ensures.value) room in
     subst (λ n. size_of c.args.ty.now ≤ n) (sym (many ∙ c.requires.sized)) (in_room c.args.ty.now)
 
-pub returns-clause-value : goal.returns-clause-value
-returns-clause-value c =
-    c.clear_padding.ensures.value ∙ ap (value_in c.args.ty.now) (front (size_of c.args.ty.now) c.read_argument.new.out (drop c.size-size.result c.args.out.now) c.read_argument.ensures.sized) ∙ c.read_argument.ensures.value
-
-pub returns-clause-padding : goal.returns-clause-padding
-returns-clause-padding c =
+pub returns : goal.returns
+returns c =
     let room : c.size-size.result ≤ length c.args.out.now = omega (arith, in_room c.args.ty.now, c.size-size.ensures.value, c.requires.sized) in
     let many : length (c.read_argument.new.out ++ drop c.size-size.result c.args.out.now) ≡ length c.args.out.now = front_size c.size-size.result c.read_argument.new.out c.args.out.now (c.read_argument.ensures.sized ∙ sym c.size-size.ensures.value) room in
-    λ i h padding. c.clear_padding.ensures.clear i (subst (λ n. i < n) (sym (many ∙ c.requires.sized)) h) padding
-
-pub returns-clause-sized : goal.returns-clause-sized
-returns-clause-sized c =
-    let room : c.size-size.result ≤ length c.args.out.now = omega (arith, in_room c.args.ty.now, c.size-size.ensures.value, c.requires.sized) in
-    let many : length (c.read_argument.new.out ++ drop c.size-size.result c.args.out.now) ≡ length c.args.out.now = front_size c.size-size.result c.read_argument.new.out c.args.out.now (c.read_argument.ensures.sized ∙ sym c.size-size.ensures.value) room in
-    c.clear_padding.ensures.sized ∙ many ∙ c.requires.sized
+    record {
+      value = c.clear_padding.ensures.value ∙ ap (value_in c.args.ty.now) (front (size_of c.args.ty.now) c.read_argument.new.out (drop c.size-size.result c.args.out.now) c.read_argument.ensures.sized) ∙ c.read_argument.ensures.value;
+      padding = λ i h padding. c.clear_padding.ensures.clear i (subst (λ n. i < n) (sym (many ∙ c.requires.sized)) h) padding;
+      sized = c.clear_padding.ensures.sized ∙ many ∙ c.requires.sized;
+    }

@@ -9,16 +9,14 @@ use Rattle.ffi3_transfer.proofs.reading.read_pieces.Goals as goal
 pub loop-j-init : goal.loop-j-init
 loop-j-init c = none_read (image_in c.args.registers.now c.args.stack.now) c.args.base c.args.pieces.now (length c.args.out.now) c.len-j.result c.fill.new.self (search rules) (search rules)
 
-pub read_piece-requires-clause-there : goal.read_piece-requires-clause-there
-read_piece-requires-clause-there c =
+pub read_piece-requires : goal.read_piece-requires
+read_piece-requires c =
     let below : c.loop-j.j - 1 < length c.args.pieces.now = omega (arith, c.loop-j.invariant.few) in
-    (each_from (CanBeRead (image_in c.args.registers.now c.args.stack.now) c.args.base) c.args.pieces.now (c.loop-j.j - 1) c.get.result.now below c.get.ensures c.requires.there).0
-
-pub read_piece-requires-clause-within : goal.read_piece-requires-clause-within
-read_piece-requires-clause-within c =
-    let below : c.loop-j.j - 1 < length c.args.pieces.now = omega (arith, c.loop-j.invariant.few) in
-    subst (λ n. IsWithin n c.get.result.now) (sym c.loop-j.invariant.sized)
-    (each_from (IsWithin (length c.args.out.now)) c.args.pieces.now (c.loop-j.j - 1) c.get.result.now below c.get.ensures c.requires.within)
+    record {
+      there = (each_from (CanBeRead (image_in c.args.registers.now c.args.stack.now) c.args.base) c.args.pieces.now (c.loop-j.j - 1) c.get.result.now below c.get.ensures c.requires.there).0;
+      within = subst (λ n. IsWithin n c.get.result.now) (sym c.loop-j.invariant.sized)
+          (each_from (IsWithin (length c.args.out.now)) c.args.pieces.now (c.loop-j.j - 1) c.get.result.now below c.get.ensures c.requires.within);
+    }
 
 pub loop-j-preserved : goal.loop-j-preserved
 loop-j-preserved c =

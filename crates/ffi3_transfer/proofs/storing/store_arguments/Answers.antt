@@ -1,15 +1,15 @@
 use Rattle.std.proofs.Common.{◌≡◌, ◌+◌, ◌-◌, ◌<◌, take, drop, length, ap, sym, ◌∙◌, subst, arith}
+use Rattle.std.proofs.lemmas.Grind.{common_steps}
 use Rattle.ffi3_type_spec.specs.Tree.{tree_at}
 use Rattle.ffi3_type_spec.specs.Layout.{size_of, least_multiple}
 use Rattle.ffi3_place_spec.specs.Standard.{plan_of, frame_of, round8}
-use Rattle.ffi3_place_spec.proofs.Elements.{argument_read}
 use Rattle.ffi3_marshal.specs.Standing.{PlaceKeeps, PlaceStands, place_uses}
 use Rattle.ffi3_marshal.specs.Stored.{Stays}
 use Rattle.ffi3_marshal.proofs.Arguments.{any_argument, lies_more_in, any_ready_all}
 use Rattle.ffi3_marshal.proofs.Lawful.{apart_first}
-use Rattle.ffi3_transfer.specs.Packed.{packed_size, first_in}
+use Rattle.ffi3_transfer.specs.Packed.{first_in}
 use Rattle.ffi3_transfer.specs.Stored.{floating_words, image_in}
-use Rattle.ffi3_transfer.proofs.Packing.{room_before}
+use Rattle.ffi3_transfer.proofs.Packing.{room_before, room_here}
 use Rattle.ffi3_transfer.proofs.Arguments.{AllStored, none_yet, argument_step, stored_at_end}
 use Rattle.ffi3_transfer.proofs.storing.store_arguments.Goals as goal
 
@@ -24,30 +24,18 @@ loop-i-init g c =
 
 pub overflow_sub-at : goal.overflow_sub-at
 overflow_sub-at g c =
-    let ts = c.args.placed.now.arguments in
-    let t = c.arg-ty.result in
-    let j = c.loop-i.i - 1 in
     let below : c.loop-i.i - 1 < length c.args.placed.now.arguments = omega (arith, c.count-i.ensures.value, ap (λ r. length r.arguments) c.placed_sig-sig.ensures) in
-    let type_is = c.arg-ty.ensures ∙ ap (λ r. tree_at r.arguments (c.loop-i.i - 1)) c.placed_sig-sig.ensures in
-    let back : c.loop-i.i ≡ c.loop-i.i - 1 + 1 = omega arith in
-    let left = subst (λ i. c.loop-i.at + packed_size (drop i c.args.placed.now.arguments) ≡ length c.args.values.now) back c.loop-i.invariant.left in
-    let room = room_before ts j t c.loop-i.at (length c.args.values.now) (argument_read ts j t below type_is) c.requires.sized left in
+    let room = room_here c.args.placed.now.arguments _ c.loop-i.i c.arg-ty.result c.loop-i.at (length c.args.values.now) (ap (λ r. r.arguments) c.placed_sig-sig.ensures) below (omega arith) c.arg-ty.ensures c.requires.sized c.loop-i.invariant.left in
     omega (arith, room, c.round_up.ensures.value, ap (least_multiple 8) c.size-size.ensures.value)
 
 pub slice_bounds-store_place-end : goal.slice_bounds-store_place-end
 slice_bounds-store_place-end g c =
-    let ts = c.args.placed.now.arguments in
-    let t = c.arg-ty.result in
-    let j = c.loop-i.i - 1 in
     let below : c.loop-i.i - 1 < length c.args.placed.now.arguments = omega (arith, c.count-i.ensures.value, ap (λ r. length r.arguments) c.placed_sig-sig.ensures) in
-    let type_is = c.arg-ty.ensures ∙ ap (λ r. tree_at r.arguments (c.loop-i.i - 1)) c.placed_sig-sig.ensures in
-    let back : c.loop-i.i ≡ c.loop-i.i - 1 + 1 = omega arith in
-    let left = subst (λ i. c.loop-i.at + packed_size (drop i c.args.placed.now.arguments) ≡ length c.args.values.now) back c.loop-i.invariant.left in
-    let room = room_before ts j t c.loop-i.at (length c.args.values.now) (argument_read ts j t below type_is) c.requires.sized left in
-    omega (arith, room, c.round_up.ensures.value, ap (least_multiple 8) c.size-size.ensures.value, c.round_up.ensures.least.not_below, left)
+    let room = room_here c.args.placed.now.arguments _ c.loop-i.i c.arg-ty.result c.loop-i.at (length c.args.values.now) (ap (λ r. r.arguments) c.placed_sig-sig.ensures) below (omega arith) c.arg-ty.ensures c.requires.sized c.loop-i.invariant.left in
+    omega (arith, room, c.round_up.ensures.value, ap (least_multiple 8) c.size-size.ensures.value, c.round_up.ensures.least.not_below, c.loop-i.invariant.left)
 
-pub store_place-requires-clause-lies : goal.store_place-requires-clause-lies
-store_place-requires-clause-lies g c =
+pub store_place-requires : goal.store_place-requires
+store_place-requires g c =
     let std = g.A.Abi.standard in
     let s = c.args.placed.now in
     let t = c.arg-ty.result in
@@ -55,27 +43,14 @@ store_place-requires-clause-lies g c =
     let type_is = c.arg-ty.ensures ∙ ap (λ r. tree_at r.arguments (c.loop-i.i - 1)) c.placed_sig-sig.ensures in
     let here = any_argument std s (g.met.A.Abi.sound s) g.met.A.Abi.agrees c.sig-sig.ensures.can_be (c.loop-i.i - 1) t c.place.result.now below type_is c.place.ensures in
     let base_is : c.LINK-base.result ≡ std.link = c.LINK-base.ensures ∙ sym g.met.A.Abi.link_is in
-    lies_more_in floating_words (frame_of std s) (length c.loop-i.stack - c.LINK-base.result) t c.place.result.now (omega (arith, c.requires.frame, c.loop-i.invariant.stays.size, base_is)) here.ready.lies
-
-pub store_place-requires-clause-apart : goal.store_place-requires-clause-apart
-store_place-requires-clause-apart g c =
-    let std = g.A.Abi.standard in
-    let s = c.args.placed.now in
-    let t = c.arg-ty.result in
-    let below : c.loop-i.i - 1 < length c.args.placed.now.arguments = omega (arith, c.count-i.ensures.value, ap (λ r. length r.arguments) c.placed_sig-sig.ensures) in
-    let type_is = c.arg-ty.ensures ∙ ap (λ r. tree_at r.arguments (c.loop-i.i - 1)) c.placed_sig-sig.ensures in
-    let here = any_argument std s (g.met.A.Abi.sound s) g.met.A.Abi.agrees c.sig-sig.ensures.can_be (c.loop-i.i - 1) t c.place.result.now below type_is c.place.ensures in
-    apart_first (place_uses t c.place.result.now) _ here.apart
-
-pub store_place-requires-clause-has_all : goal.store_place-requires-clause-has_all
-store_place-requires-clause-has_all g c =
-    let std = g.A.Abi.standard in
-    let s = c.args.placed.now in
-    let t = c.arg-ty.result in
-    let below : c.loop-i.i - 1 < length c.args.placed.now.arguments = omega (arith, c.count-i.ensures.value, ap (λ r. length r.arguments) c.placed_sig-sig.ensures) in
-    let type_is = c.arg-ty.ensures ∙ ap (λ r. tree_at r.arguments (c.loop-i.i - 1)) c.placed_sig-sig.ensures in
-    let here = any_argument std s (g.met.A.Abi.sound s) g.met.A.Abi.agrees c.sig-sig.ensures.can_be (c.loop-i.i - 1) t c.place.result.now below type_is c.place.ensures in
-    here.ready.has_all
+    record {
+      base = omega (arith, c.requires.frame, c.loop-i.invariant.stays.size, base_is);
+      lies = lies_more_in floating_words (frame_of std s) (length c.loop-i.stack - c.LINK-base.result) t c.place.result.now (omega (arith, c.requires.frame, c.loop-i.invariant.stays.size, base_is)) here.ready.lies;
+      high = omega (arith, c.requires.high, c.loop-i.invariant.stays.size, c.loop-i.invariant.stays.sp);
+      apart = apart_first (place_uses t c.place.result.now) _ here.apart;
+      has_all = here.ready.has_all;
+      sized = grind (arith, common_steps);
+    }
 
 pub loop-i-preserved : goal.loop-i-preserved
 loop-i-preserved g c =
@@ -99,20 +74,9 @@ loop-i-preserved g c =
     let stands = subst (λ n. PlaceStands c.LINK-base.result b t (take n (drop (c.loop-i.at - c.round_up.result) c.args.values.now)) p) many c.store_place.ensures.stands in
     argument_step std.link std.target (frame_of std s) ts (plan_of std s).places c.args.values.now (c.loop-i.i - 1) t p here (c.loop-i.at - c.round_up.result) c.loop-i.at first a b next (subst (λ n. PlaceStands n b t (first_in t (drop (c.loop-i.at - c.round_up.result) c.args.values.now)) p) base_is stands) (subst (λ n. PlaceKeeps n a b t p) base_is c.store_place.ensures.kept) (subst (λ n. Stays n (place_uses t p) a b) base_is c.store_place.ensures.stays) before
 
-pub returns-clause-stand : goal.returns-clause-stand
-returns-clause-stand g c =
+pub returns : goal.returns
+returns g c =
     let std = g.A.Abi.standard in
     let s = c.args.placed.now in
-    (stored_at_end std.link std.target (frame_of std s) s.arguments (plan_of std s).places c.args.values.now c.loop-i.i c.loop-i.at (image_in c.args.registers.now c.args.stack.now) (image_in c.loop-i.registers c.loop-i.stack) (omega arith) c.requires.sized c.loop-i.invariant).0
-
-pub returns-clause-stays : goal.returns-clause-stays
-returns-clause-stays g c =
-    let std = g.A.Abi.standard in
-    let s = c.args.placed.now in
-    (stored_at_end std.link std.target (frame_of std s) s.arguments (plan_of std s).places c.args.values.now c.loop-i.i c.loop-i.at (image_in c.args.registers.now c.args.stack.now) (image_in c.loop-i.registers c.loop-i.stack) (omega arith) c.requires.sized c.loop-i.invariant).1
-
-pub returns-clause-kept : goal.returns-clause-kept
-returns-clause-kept g c =
-    let std = g.A.Abi.standard in
-    let s = c.args.placed.now in
-    (stored_at_end std.link std.target (frame_of std s) s.arguments (plan_of std s).places c.args.values.now c.loop-i.i c.loop-i.at (image_in c.args.registers.now c.args.stack.now) (image_in c.loop-i.registers c.loop-i.stack) (omega arith) c.requires.sized c.loop-i.invariant).2
+    let all = stored_at_end std.link std.target (frame_of std s) s.arguments (plan_of std s).places c.args.values.now c.loop-i.i c.loop-i.at (image_in c.args.registers.now c.args.stack.now) (image_in c.loop-i.registers c.loop-i.stack) (omega arith) c.requires.sized c.loop-i.invariant in
+    record { stand = all.0; kept = all.2; stays = all.1 }
