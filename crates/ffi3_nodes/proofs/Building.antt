@@ -25,11 +25,10 @@ total [] = 0
 total (k ∷ ks) = k + total ks
 
 closed_total : (ks : List ℕ) → total (closed ks) ≡ total ks
-closed_total [] = refl
 closed_total (zero ∷ ks) =
     let same : total ks ≡ 0 + total ks = omega arith in
     closed_total ks ∙ same
-closed_total (suc k ∷ ks) = refl
+closed_total _ = refl
 
 begun_total : (ks : List ℕ) → total ks ≤ total (begun ks) + 1
 begun_total [] = omega arith
@@ -179,8 +178,7 @@ first_array n ts ns e h (one_more t us ls ks all w ws f) =
 
 some_nodes : (t : Tree) (ns : List Node) → IsWritten t ns → 1 ≤ length ns
 some_nodes t ns (leaf k t' h) = omega arith
-some_nodes t ns (structure ts ls w) = omega arith
-some_nodes t ns (array v n ls w) = omega arith
+some_nodes t ns _ = omega arith
 
 pub few_types : (ts : List Tree) (ns : List Node) → AreWritten ts ns → length ts ≤ length ns
 few_types ts ns none = omega arith
@@ -208,8 +206,7 @@ deep_if n ns (is_deep i e) =
 
 pub no_types : (t : Tree) (ts : List Tree) → AreWritten (t ∷ ts) [] → ⊥
 no_types t ts (one_more t' ts' ls ks all (leaf k u h) ws e) = cc
-no_types t ts (one_more t' ts' ls ks all (structure us ms w) ws e) = cc
-no_types t ts (one_more t' ts' ls ks all (array u n ms w) ws e) = cc
+no_types t ts (one_more t' ts' ls ks all _ ws e) = cc
 
 pub deep_alone : (t : Tree) (ts : List Tree) (ns : List Node) → AreWritten (t ∷ ts) ns → IsDeep (first_node_fault ns)
 deep_alone t ts [] w = absurd (no_types t ts w)
@@ -224,31 +221,18 @@ same_signature s u e f =
 deep_of : (ns : List Node) (f : NodeFault) → first_node_fault ns ≡ Some f → (fixed : Option ℕ) (s : Signature) → IsSignatureOf ns fixed s → IsDeep (Some f)
 deep_of ns f e fixed s is = subst IsDeep e (deep_alone s.result_type s.arguments ns is.written)
 
-not_ended : IsDeep (Some ended) → ⊥
-not_ended h = shape (Some ended) h refl
+-- no other fault is one of depth
+not_other : (f : NodeFault) → ((i : ℕ) → f ≡ too_deep i → ⊥) → IsDeep (Some f) → ⊥
+not_other f other h = shape (Some f) h refl
   where
-    shape : (o : Option NodeFault) → IsDeep o → o ≡ Some ended → ⊥
+    shape : (o : Option NodeFault) → IsDeep o → o ≡ Some f → ⊥
     shape o no_fault e = cc
-    shape o (deep i) e = cc
-
-not_unknown : (at : ℕ) → IsDeep (Some (unknown_kind at)) → ⊥
-not_unknown at h = shape (Some (unknown_kind at)) h refl
-  where
-    shape : (o : Option NodeFault) → IsDeep o → o ≡ Some (unknown_kind at) → ⊥
-    shape o no_fault e = cc
-    shape o (deep i) e = cc
-
-not_counted : (at : ℕ) → IsDeep (Some (bad_count at)) → ⊥
-not_counted at h = shape (Some (bad_count at)) h refl
-  where
-    shape : (o : Option NodeFault) → IsDeep o → o ≡ Some (bad_count at) → ⊥
-    shape o no_fault e = cc
-    shape o (deep i) e = cc
+    shape o (deep i) e = let same : f ≡ too_deep i = cc in other i same
 
 pub of_none : (ns : List Node) (f : code.NodeFault) → first_node_fault ns ≡ Some (node_fault_of f) → IsOfNone ns (Nodes f)
-of_none ns Ended e = λ fixed s is. not_ended (deep_of ns ended e fixed s is)
-of_none ns (UnknownKind at) e = λ fixed s is. not_unknown at (deep_of ns (unknown_kind at) e fixed s is)
-of_none ns (BadCount at) e = λ fixed s is. not_counted at (deep_of ns (bad_count at) e fixed s is)
+of_none ns Ended e = λ fixed s is. not_other ended (λ i e. cc) (deep_of ns ended e fixed s is)
+of_none ns (UnknownKind at) e = λ fixed s is. not_other (unknown_kind at) (λ i e. cc) (deep_of ns (unknown_kind at) e fixed s is)
+of_none ns (BadCount at) e = λ fixed s is. not_other (bad_count at) (λ i e. cc) (deep_of ns (bad_count at) e fixed s is)
 of_none ns (TooDeep at) e = tt
 
 pub one_signature : (ns : List Node) (fixed : Option ℕ) (s u : Signature) → IsSignatureOf ns fixed s → IsSignatureOf ns fixed u → u ≡ s

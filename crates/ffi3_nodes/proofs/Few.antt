@@ -106,12 +106,10 @@ mutual
       omega (arith, first, inside)
 
   array_has_bytes : (outer : ℕ) (role : Role) (ts : Trees) (n : ℕ) → HasNoFault outer role (array ts n) → 1 ≤ size_of (array ts n)
-  array_has_bytes outer role no_trees n right = absurd (right [] bad_typedef (misshapen refl refl))
-  array_has_bytes outer role (tree t no_trees) zero right = absurd (right [] bad_typedef (misshapen refl refl))
   array_has_bytes outer role (tree t no_trees) (suc n) right =
       let first = has_bytes (outer + 1) t (λ path f fault. right (0 ∷ path) f (fault_outside (array (tree t no_trees) (suc n)) 0 path f (omega arith) fault)) in
       omega (arith, first, array_above t n)
-  array_has_bytes outer role (tree t (tree u us)) n right = absurd (right [] bad_typedef (misshapen refl refl))
+  array_has_bytes outer role _ _ right = absurd (right [] bad_typedef (misshapen refl refl))
 
 element_within : (outer : ℕ) (role : Role) (t : Tree) (n : ℕ) → HasNoFault outer role (array_of t n) → size_of t ≤ size_of (array_of t n)
 element_within outer role t zero right = absurd (right [] bad_typedef (misshapen refl refl))

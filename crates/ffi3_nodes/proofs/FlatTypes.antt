@@ -30,11 +30,8 @@ IsPlain t = has_long_double t ≡ false
 
 -- a scalar has no fault, wherever it stands
 scalar_right : {outer : ℕ} (role : Role) (t : Tree) → IsScalar t → HasNoFault outer role t
-scalar_right role void some = absurd (omega (arith, some))
 scalar_right role (scalar s) some = scalar_faults s
-scalar_right role (left_out k) some = absurd (omega (arith, some))
-scalar_right role (structure ts) some = absurd (omega (arith, some))
-scalar_right role (array ts n) some = absurd (omega (arith, some))
+scalar_right role _ some = absurd (omega (arith, some))
 
 pub void_right : IsResultType void
 void_right = λ path f fault. let taken = (void_faults path f fault).2 in cc taken
@@ -92,11 +89,8 @@ more_members t ts more nodes i d below e so_far w is plain =
 
 -- how large it is at most
 scalar_small : (t : Tree) → IsScalar t → size_of t ≤ 16
-scalar_small void some = absurd (omega (arith, some))
 scalar_small (scalar s) some = (scalar_room-bounds s).1
-scalar_small (left_out k) some = absurd (omega (arith, some))
-scalar_small (structure ts) some = absurd (omega (arith, some))
-scalar_small (array ts n) some = absurd (omega (arith, some))
+scalar_small _ some = absurd (omega (arith, some))
 
 small_at : (ts : List Tree) (k : ℕ) → AllByRecursion IsScalar ts → size_of (tree_at ts k) ≤ 16
 small_at [] k all = omega arith
@@ -229,8 +223,3 @@ no_fault ret args right rights plain plains few f (promoted e low below is) = cc
 pub flat_right : (ret : Tree) (args : List Tree) (nodes : List Node) (i : ℕ) (s : Signature) → AreReadSoFar ret args nodes i → s ≡ record { result_type = ret; arguments = args; fixed = None } → SignatureHasNoFault s
 flat_right ret args nodes i s so_far is =
     subst SignatureHasNoFault (sym is) (no_fault ret args so_far.right_result so_far.right so_far.plain_result so_far.plain so_far.few)
-
-pub flat_written : (ret : Tree) (args : List Tree) (nodes : List Node) (i : ℕ) (s : Signature) (fixed : Option ℕ) → length nodes ≤ i → fixed ≡ None → AreReadSoFar ret args nodes i → s ≡ record { result_type = ret; arguments = args; fixed = None } → IsSignatureOf nodes fixed s
-flat_written ret args nodes i s fixed all e so_far is =
-    subst (IsSignatureOf nodes fixed) (sym is)
-    (record { written = subst (AreWritten (ret ∷ args)) (take_all i nodes all) so_far.written; fixed_is = sym e })

@@ -24,16 +24,14 @@ use Rattle.ffi3_nodes.proofs.Shallow.{faultless_nodes, uncallable_nodes, unplace
 
 module _ (ns : List Node) (fixed : Option ℕ) where
   pub unread_none : (r : Refused) → IsUnread ns r → IsOfNone ns r
-  unread_none TooLong h = tt
   unread_none (Nodes f) h = of_none ns f h.1
   unread_none (Sig f) h = absurd h
-  unread_none NoMemory h = tt
+  unread_none _ h = tt
 
   pub unread_refused : (r : Refused) → IsUnread ns r → IsRefused ns fixed r
-  unread_refused TooLong h = h
-  unread_refused (Nodes f) h = h
   unread_refused (Sig f) h = absurd h
   unread_refused NoMemory h = tt
+  unread_refused _ h = h
 
   pub unread_uncallable : (r : Refused) → IsUnread ns r → IsUncallable ns fixed r
   unread_uncallable TooLong h = too_long ns fixed h
@@ -115,33 +113,28 @@ module _ (format : Format) (ns : List Node) (fixed : Option ℕ) (t s : Signatur
   -- ---- it has a first fault
 
   pub fault_refused : AreNodesOfTypes ns → (r : Refused) → IsFaultOf s r → IsRefusedFor format ns fixed r
-  fault_refused types TooLong h = absurd h
-  fault_refused types (Nodes f) h = absurd h
   fault_refused types (Sig f) h = (types, (s, record { told = t; written = is; by_format = by_format }, h))
   fault_refused types NoMemory h = tt
+  fault_refused types _ h = absurd h
 
   pub fault_of_none : (r : Refused) → IsFaultOf s r → IsOfNone ns r
-  fault_of_none TooLong h = tt
   fault_of_none (Nodes f) h = absurd h
-  fault_of_none (Sig f) h = tt
-  fault_of_none NoMemory h = tt
+  fault_of_none _ h = tt
 
   pub fault_unplaceable : (r : Refused) → IsFaultOf s r → IsUnplaceable format ns fixed r
-  fault_unplaceable TooLong h = absurd h
-  fault_unplaceable (Nodes f) h = absurd h
   fault_unplaceable (Sig f) h =
       λ other o. subst (λ x. IsFirstFaultFor for_places x (signature_fault_of f)) (sym (one_signature_for other o)) h
   fault_unplaceable NoMemory h = tt
+  fault_unplaceable _ h = absurd h
 
   pub fault_without : AreNodesOfTypes ns → (r : Refused) → IsFaultOf s r → IsRefusedWithout ns fixed r
-  fault_without types TooLong h without = absurd h
-  fault_without types (Nodes f) h without = absurd h
   fault_without types (Sig f) h without =
       let first : IsFirstSignatureFault t (signature_fault_of f) = same_first t (told_is_plain ns fixed t is) (signature_fault_of f) (subst (λ x. IsFirstFaultFor for_places x (signature_fault_of f)) (same without) h) in (
         (types, (t, is, first)),
         λ other o. subst (λ x. IsFirstSignatureFault x (signature_fault_of f)) (sym (one_signature ns fixed t other is o)) first,
       )
   fault_without types NoMemory h without = (tt, tt)
+  fault_without types _ h without = absurd h
 
 -- ---- nodes that are scalars and structs of them, whose signature has no fault
 

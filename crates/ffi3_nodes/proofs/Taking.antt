@@ -17,15 +17,6 @@ length_more (y ∷ xs) x =
     let more = length_more xs x in
     omega (arith, more)
 
-pub one_taken : (start left rest taken more : List Tree) (i : ℕ) (t : Tree) → IsTakenSoFar start left i taken → left ≡ rest ++ t ∷ [] → more ≡ taken ++ t ∷ [] → IsTakenSoFar start rest (i + 1) more
-one_taken start left rest taken more i t so_far popped pushed = record {
-  whole = so_far.whole ∙ ap (λ l. taken ++ l) (last_first rest left t popped) ∙ sym (append_assoc taken (t ∷ []) (reverse rest)) ∙ ap (λ l. l ++ reverse rest) (sym pushed);
-  count =
-      let was = so_far.count in
-      let longer = length_more taken t in
-      ap length pushed ∙ omega (arith, was, longer);
-}
-
 take_front : (xs ys : List Tree) (n : ℕ) → length xs ≡ n → take n (xs ++ ys) ≡ xs
 take_front [] ys n e =
     let none : n ≡ 0 = omega (arith, e) in

@@ -64,20 +64,18 @@ mutual
 
   pub as_many : (ts us : List Tree) (ns ms a b : List Node) → AreWritten ts ns → AreWritten us ms → length ts ≡ length us → ns ++ a ≡ ms ++ b → (ts ≡ us) × (a ≡ b)
   as_many ts us ns ms a b none none count e = (refl, e)
-  as_many ts us ns ms a b none (one_more u us' ls ks all w v f) count e = absurd (omega (arith, count))
-  as_many ts us ns ms a b (one_more t ts' ls ks all w v f) none count e = absurd (omega (arith, count))
   as_many ts us ns ms a b (one_more t ts' ls ks all w v f) (one_more u us' ls' ks' all' w' v' f') count e =
       let fronts : ls ++ (ks ++ a) ≡ ls' ++ (ks' ++ b) = sym (append_assoc ls ks a) ∙ ap (λ l. l ++ a) (sym f) ∙ e ∙ ap (λ l. l ++ b) f' ∙ append_assoc ls' ks' b in
       let first = one_type t u ls ls' (ks ++ a) (ks' ++ b) w w' fronts in
       let rest = as_many ts' us' ks ks' a b v v' (omega (arith, count)) first.1 in
       (ap (λ x. x ∷ ts') first.0 ∙ ap (λ xs. u ∷ xs) rest.0, rest.1)
+  as_many ts us ns ms a b _ _ count e = absurd (omega (arith, count))
 
 -- ---- all of them
 
 no_more : (t : Tree) (ns ms : List Node) → IsWritten t ns → [] ≡ ns ++ ms → ⊥
 no_more t ns ms (leaf k t' h) e = cc
-no_more t ns ms (structure ts ls w) e = cc
-no_more t ns ms (array v n ls w) e = cc
+no_more t ns ms _ e = cc
 
 pub only_types : (ts us : List Tree) (ns ms : List Node) → AreWritten ts ns → AreWritten us ms → ns ≡ ms → ts ≡ us
 only_types ts us ns ms none none e = refl

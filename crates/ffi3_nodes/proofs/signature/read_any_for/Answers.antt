@@ -23,31 +23,14 @@ returns-in-Err-clause-without c = λ without. (
 
 -- those of others
 
-pub returns-in-Ok-resolve-clause-ok : goal.returns-in-Ok-resolve-clause-ok
-returns-in-Ok-resolve-clause-ok c =
-    let t = c.in-Ok.sig in
-    IfOk-weaker c.placed.result (λ s. (s ≡ c.in-Ok-resolve.sig) × SignatureIsPlaced s) (λ s. IsSignatureFor c.args.format c.args.nodes.now c.args.fixed s) (λ s h. record { told = t; written = c.in-Ok.ensures.ok; by_format = h.0 ∙ c.in-Ok-resolve.ensures }) c.placed.ensures.ok
-
-pub returns-in-Ok-resolve-clause-only : goal.returns-in-Ok-resolve-clause-only
-returns-in-Ok-resolve-clause-only c =
-    IfOk-weaker c.placed.result (λ s. (s ≡ c.in-Ok-resolve.sig) × SignatureIsPlaced s) (λ s. (other : Signature) → IsSignatureFor c.args.format c.args.nodes.now c.args.fixed other → other ≡ s) (λ s h. one_signature_for c.args.format c.args.nodes.now c.args.fixed c.in-Ok.sig s c.in-Ok.ensures.ok (h.0 ∙ c.in-Ok-resolve.ensures)) c.placed.ensures.ok
-
-pub returns-in-Ok-resolve-clause-callable : goal.returns-in-Ok-resolve-clause-callable
-returns-in-Ok-resolve-clause-callable c =
-    IfOk-weaker c.placed.result (λ s. (s ≡ c.in-Ok-resolve.sig) × SignatureIsPlaced s) (λ s. IsCallableWithout c.args.nodes.now c.args.fixed s) (λ s h. callable_without c.args.format c.args.nodes.now c.args.fixed c.in-Ok.sig s c.in-Ok.ensures.ok (h.0 ∙ c.in-Ok-resolve.ensures) h.1) c.placed.ensures.ok
-
-pub returns-in-Ok-resolve-clause-err : goal.returns-in-Ok-resolve-clause-err
-returns-in-Ok-resolve-clause-err c =
-    IfErr-weaker c.placed.result (λ r. IsFaultOf c.in-Ok-resolve.sig r) (λ r. IsRefusedFor c.args.format c.args.nodes.now c.args.fixed r) (λ r h. fault_refused c.args.format c.args.nodes.now c.args.fixed c.in-Ok.sig c.in-Ok-resolve.sig c.in-Ok.ensures.ok c.in-Ok-resolve.ensures c.in-Ok.ensures.types r h) c.placed.ensures.err
-
-pub returns-in-Ok-resolve-clause-none : goal.returns-in-Ok-resolve-clause-none
-returns-in-Ok-resolve-clause-none c =
-    IfErr-weaker c.placed.result (λ r. IsFaultOf c.in-Ok-resolve.sig r) (λ r. IsOfNone c.args.nodes.now r) (λ r h. fault_of_none c.args.format c.args.nodes.now c.args.fixed c.in-Ok.sig c.in-Ok-resolve.sig c.in-Ok.ensures.ok c.in-Ok-resolve.ensures r h) c.placed.ensures.err
-
-pub returns-in-Ok-resolve-clause-unplaceable : goal.returns-in-Ok-resolve-clause-unplaceable
-returns-in-Ok-resolve-clause-unplaceable c =
-    IfErr-weaker c.placed.result (λ r. IsFaultOf c.in-Ok-resolve.sig r) (λ r. IsUnplaceable c.args.format c.args.nodes.now c.args.fixed r) (λ r h. fault_unplaceable c.args.format c.args.nodes.now c.args.fixed c.in-Ok.sig c.in-Ok-resolve.sig c.in-Ok.ensures.ok c.in-Ok-resolve.ensures r h) c.placed.ensures.err
-
-pub returns-in-Ok-resolve-clause-without : goal.returns-in-Ok-resolve-clause-without
-returns-in-Ok-resolve-clause-without c =
-    IfErr-weaker c.placed.result (λ r. IsFaultOf c.in-Ok-resolve.sig r) (λ r. IsRefusedWithout c.args.nodes.now c.args.fixed r) (λ r h. fault_without c.args.format c.args.nodes.now c.args.fixed c.in-Ok.sig c.in-Ok-resolve.sig c.in-Ok.ensures.ok c.in-Ok-resolve.ensures c.in-Ok.ensures.types r h) c.placed.ensures.err
+pub returns-in-Ok-resolve : goal.returns-in-Ok-resolve
+returns-in-Ok-resolve c = record {
+  ok = IfOk-weaker c.placed.result (λ s. (s ≡ c.in-Ok-resolve.sig) × SignatureIsPlaced s) (λ s. IsSignatureFor c.args.format c.args.nodes.now c.args.fixed s) (λ s h. record { told = c.in-Ok.sig; written = c.in-Ok.ensures.ok; by_format = h.0 ∙ c.in-Ok-resolve.ensures }) c.placed.ensures.ok;
+  placed = IfOk-weaker c.placed.result (λ s. (s ≡ c.in-Ok-resolve.sig) × SignatureIsPlaced s) (λ s. SignatureIsPlaced s) (λ s h. h.1) c.placed.ensures.ok;
+  only = IfOk-weaker c.placed.result (λ s. (s ≡ c.in-Ok-resolve.sig) × SignatureIsPlaced s) (λ s. (other : Signature) → IsSignatureFor c.args.format c.args.nodes.now c.args.fixed other → other ≡ s) (λ s h. one_signature_for c.args.format c.args.nodes.now c.args.fixed c.in-Ok.sig s c.in-Ok.ensures.ok (h.0 ∙ c.in-Ok-resolve.ensures)) c.placed.ensures.ok;
+  callable = IfOk-weaker c.placed.result (λ s. (s ≡ c.in-Ok-resolve.sig) × SignatureIsPlaced s) (λ s. IsCallableWithout c.args.nodes.now c.args.fixed s) (λ s h. callable_without c.args.format c.args.nodes.now c.args.fixed c.in-Ok.sig s c.in-Ok.ensures.ok (h.0 ∙ c.in-Ok-resolve.ensures) h.1) c.placed.ensures.ok;
+  err = IfErr-weaker c.placed.result (λ r. IsFaultOf c.in-Ok-resolve.sig r) (λ r. IsRefusedFor c.args.format c.args.nodes.now c.args.fixed r) (λ r h. fault_refused c.args.format c.args.nodes.now c.args.fixed c.in-Ok.sig c.in-Ok-resolve.sig c.in-Ok.ensures.ok c.in-Ok-resolve.ensures c.in-Ok.ensures.types r h) c.placed.ensures.err;
+  none = IfErr-weaker c.placed.result (λ r. IsFaultOf c.in-Ok-resolve.sig r) (λ r. IsOfNone c.args.nodes.now r) (λ r h. fault_of_none c.args.format c.args.nodes.now c.args.fixed c.in-Ok.sig c.in-Ok-resolve.sig c.in-Ok.ensures.ok c.in-Ok-resolve.ensures r h) c.placed.ensures.err;
+  unplaceable = IfErr-weaker c.placed.result (λ r. IsFaultOf c.in-Ok-resolve.sig r) (λ r. IsUnplaceable c.args.format c.args.nodes.now c.args.fixed r) (λ r h. fault_unplaceable c.args.format c.args.nodes.now c.args.fixed c.in-Ok.sig c.in-Ok-resolve.sig c.in-Ok.ensures.ok c.in-Ok-resolve.ensures r h) c.placed.ensures.err;
+  without = IfErr-weaker c.placed.result (λ r. IsFaultOf c.in-Ok-resolve.sig r) (λ r. IsRefusedWithout c.args.nodes.now c.args.fixed r) (λ r h. fault_without c.args.format c.args.nodes.now c.args.fixed c.in-Ok.sig c.in-Ok-resolve.sig c.in-Ok.ensures.ok c.in-Ok-resolve.ensures c.in-Ok.ensures.types r h) c.placed.ensures.err;
+}
