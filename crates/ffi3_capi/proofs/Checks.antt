@@ -1,9 +1,9 @@
 -- What is told of a text that is checked.
 use Rattle.std.proofs.Common.{◌≡◌, ℕ, List, [], ◌∷◌, length, map, ap, sym, subst, refl, ◌∙◌, zero, suc}
 use Rattle.std.specs.Prelude.{IsUtf8, IsSome, Some, None, slice_get, slice_index_or}
-use Rattle.ffi3_type_spec.specs.Fault.{bad_typedef, left_out_type, too_large, too_deep}
-use Rattle.ffi3_type_spec.specs.Tree.{Tree, void, scalar, left_out, structure, array, long_double, complex, vector}
-use Rattle.ffi3_type_spec.specs.Signature.{Signature, SignatureFault, too_many, bad_type, bad_fixed, bad_argument_type}
+use Rattle.ffi3_type_spec.specs.Fault.{left_out_type}
+use Rattle.ffi3_type_spec.specs.Tree.{Tree, left_out, long_double, complex, vector}
+use Rattle.ffi3_type_spec.specs.Signature.{Signature, SignatureFault, bad_type}
 use Rattle.ffi3_cdecl_spec.specs.Tokens.{wide, Sign}
 use Rattle.ffi3_cdecl_spec.specs.Reading.{bad_token, unexpected, bad_number, bad_signature, IsReadingIn}
 use Rattle.ffi3_cdecl_spec.specs.Reasons.{Told, IsTold}
@@ -36,10 +36,9 @@ number_there (j ∷ kinds) zero k e =
 number_there (j ∷ kinds) (suc i) k e = number_there kinds i k e
 
 pub no_number_there : (kinds : List Expected) (i : ℕ) → slice_get kinds i ≡ None → 0 ≡ slice_index_or (map expected_number (kinds_of kinds)) i 0
-no_number_there [] zero e = refl
-no_number_there [] (suc i) e = refl
 no_number_there (j ∷ kinds) zero e = cc
 no_number_there (j ∷ kinds) (suc i) e = no_number_there kinds i e
+no_number_there [] _ e = refl
 
 pub unexpected_there : (c : Sign) (text : List ℕ) (at : ℕ) (t : Told) (u : CheckedText) → u ≡ told_at at t → t ≡ tell c text at → (IsReadingIn wide c text (unexpected at) → IsTold c text at t) → IsUtf8 text → IsReadingIn wide c text (unexpected at) → IsUnexpectedIn c text u
 unexpected_there c text at t u is computed told utf8 there = record {
@@ -90,22 +89,14 @@ module _ (target : ℕ) (text : List ℕ) where
       other_fault f (fault_at BadNumber at) n u same (λ is. cc) e h some (misread_in (bad_number at) (fault_at BadNumber at) utf8 is refl)
 
   left_out_is_other : (t : Tree) → kind_number (left_out_kind t) ≡ kind_number Unexpected → ⊥
-  left_out_is_other void e = cc
-  left_out_is_other (scalar s) e = cc
   left_out_is_other (left_out long_double) e = cc
   left_out_is_other (left_out complex) e = cc
   left_out_is_other (left_out vector) e = cc
-  left_out_is_other (structure ts) e = cc
-  left_out_is_other (array ts n) e = cc
+  left_out_is_other _ e = cc
 
   signature_is_other : (f : SignatureFault) → (signature_fault f).kind ≡ kind_number Unexpected → ⊥
-  signature_is_other (too_many n) e = cc
-  signature_is_other (bad_type at path bad_typedef) e = cc
   signature_is_other (bad_type at path (left_out_type t)) e = left_out_is_other t e
-  signature_is_other (bad_type at path (too_large size)) e = cc
-  signature_is_other (bad_type at path too_deep) e = cc
-  signature_is_other (bad_fixed fixed n) e = cc
-  signature_is_other (bad_argument_type i) e = cc
+  signature_is_other _ e = cc
 
   pub signature_told : (g : SignatureFault) (f : TextFault) (n : ℕ) (u : CheckedText) → f ≡ signature_fault g → n ≡ status_of (Fault f) → u ≡ nothing_beside (fault_in (Fault f)) → IsUtf8 text → IsSome (slice_get targets target) → IsReadingFor (long_double_on target) (char_sign target) text (bad_signature g) → ChecksText target text n u
   signature_told g f n u same e h utf8 some is =

@@ -1,7 +1,7 @@
 -- Where no long double is told, what is declared for a target is what is declared for none.
-use Rattle.std.proofs.Common.{◌≡◌, arith, ℕ, ◌++◌, Bool, false, List, [], ◌∷◌, None, refl, ap, ◌∙◌, sym, subst}
+use Rattle.std.proofs.Common.{◌≡◌, arith, ℕ, ◌++◌, false, List, [], ◌∷◌, None, refl, ap, ◌∙◌, sym, subst}
 use Rattle.ffi3_type_spec.specs.declared.Role.TheVariants.{AsResult, PlacedResult}
-use Rattle.ffi3_type_spec.specs.Tree.{Tree, void, scalar, left_out, structure, array}
+use Rattle.ffi3_type_spec.specs.Tree.{Tree, array}
 use Rattle.ffi3_type_spec.specs.Fault.{IsResultType, takes}
 use Rattle.ffi3_type_spec.specs.Signature.{Signature, SignatureIsPlaced, HasNoLongDouble, over_most, in_result, in_argument, fixed_outside, promoted, of_type, of_long_double}
 use Rattle.ffi3_type_spec.proofs.Faults.{right_with_more}
@@ -30,7 +30,7 @@ use Rattle.ffi3_capi.specs.ByNodes.{fixed_of, giving, AreNodesOf, AreNodesIn, Ar
 use Rattle.ffi3_capi.specs.Chars.{char_sign}
 use Rattle.ffi3_capi.specs.Faults.{IsFaultOf, not_text, misread, IsFaultIn, no_text, misread_in}
 use Rattle.ffi3_capi.specs.Formats.{long_double_on}
-use Rattle.ffi3_capi.specs.NoLongDouble.{IsDeclaredTheSame, IsTypeTheSame, NoLongDoubleLaws}
+use Rattle.ffi3_capi.specs.NoLongDouble.{IsDeclaredTheSame, NoLongDoubleLaws}
 
 -- ---- texts
 
@@ -117,11 +117,8 @@ declared_the_same target (Nodes nodes fixed) = record {
 -- ---- types
 
 placed_results : (t : Tree) → takes PlacedResult t ≡ false → takes AsResult t ≡ false
-placed_results void e = e
-placed_results (scalar s) e = e
-placed_results (left_out k) e = e
-placed_results (structure ts) e = e
 placed_results (array ts n) e = refl
+placed_results _ e = e
 
 -- a function of no arguments can be placed where its result is one
 giving_is_placed : (t : Tree) → IsResultType t → SignatureIsPlaced (giving t)

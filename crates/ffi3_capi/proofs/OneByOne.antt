@@ -1,5 +1,5 @@
 -- The arguments, each by itself, as they are read one behind another; and what is answered to C.
-use Rattle.std.specs.Prelude.{Some, None, Option, slice_get, ◌&&◌}
+use Rattle.std.specs.Prelude.{Some, None, Option, slice_get}
 use Rattle.std.proofs.Common.{◌≡◌, ℕ, suc, ◌+◌, ◌≤◌, List, [], ◌∷◌, ◌++◌, drop, length, replicate, refl, ap, sym, ◌∙◌, subst, arith, append_assoc, append-nil}
 use Rattle.std.proofs.lemmas.List.{drop_all}
 use Rattle.ffi3_type_spec.specs.declared.Target.{Target}
@@ -17,19 +17,16 @@ use Rattle.ffi3_explain_spec.specs.Standards.{standard_of}
 use Rattle.ffi3_transfer.specs.Places.{ArgumentIsThere, ArgumentsAreReady}
 use Rattle.ffi3_explain.proofs.Standing.{told_values}
 use Rattle.ffi3_capi.specs.declared.each.EachArgument.{EachArgument}
-use Rattle.ffi3_capi.specs.declared.each.Seen.{Seen}
-use Rattle.ffi3_capi.specs.declared.entry.EntryArguments.{EntryArguments}
 use Rattle.ffi3_capi.specs.declared.entry.Found.{Found}
 use Rattle.ffi3_capi.specs.declared.entry.Unread.{Unread}
-use Rattle.ffi3_capi.specs.declared.entry.Unread.TheVariants.{Call, ShortStack, NotInStack}
+use Rattle.ffi3_capi.specs.declared.entry.Unread.TheVariants.{Call, ShortStack}
 use Rattle.ffi3_capi.specs.declared.fault.TextFault.{TextFault}
 use Rattle.ffi3_capi.specs.declared.fault.FaultKind.TheVariants.{NoFault}
 use Rattle.ffi3_capi.specs.Faults.{fault_with}
-use Rattle.ffi3_capi.specs.declared.status.Refusal.TheVariants.{NoSuchTarget, NoSuchValue, Fault, NoMemory}
-use Rattle.ffi3_capi.specs.Entry.{AreBytesOf, AreFoundBy, HasOneMore, arguments_of, filler, none as no_bytes, first_and as first_bytes_and, no_arguments, unread_status}
-use Rattle.ffi3_capi.specs.Filled.{has_room, filled, room_status}
+use Rattle.ffi3_capi.specs.declared.status.Refusal.TheVariants.{NoMemory}
+use Rattle.ffi3_capi.specs.Entry.{AreBytesOf, AreFoundBy, HasOneMore, arguments_of, filler, none as no_bytes, first_and as first_bytes_and}
 use Rattle.ffi3_capi.specs.Placed.{targets}
-use Rattle.ffi3_capi.specs.Each.{AreSeen, AreSeenBy, AreSeenOf, AreUnseen, AreUnseenBy, HasArgument, IsSeen, ReadsEach, each_argument, seen, unseen}
+use Rattle.ffi3_capi.specs.Each.{AreSeen, AreUnseen, AreUnseenBy, HasArgument, IsSeen, each_argument, unseen}
 
 -- an argument whose address points outside, and one whose bytes are there
 module _ (m : Image) (base i : ℕ) (t : Tree) (p : Place) (old new : List ℕ) (one : EachArgument) (size at : ℕ) (sized : size ≡ size_of t) (counted : at ≡ length old) where
@@ -105,12 +102,6 @@ pub record Behind (ts : List Tree) (vs : List ValueTree) (old new : List ℕ) : 
 pub bytes_seen : (m : Image) (base i : ℕ) (ts : List Tree) (ps : List Place) (old new : List ℕ) (each : List EachArgument) → AreSeen m base i ts ps old new each → first_outside m base i ts ps ≡ None → Behind ts (values_by_standard m base ts ps) old new
 bytes_seen m base i [] [] old new [] all inner =
     record { bytes = []; are = no_bytes; is = all ∙ sym (append-nil old) }
-bytes_seen m base i [] [] old new (one ∷ each) all inner = absurd all
-bytes_seen m base i [] (p ∷ ps) old new [] all inner = absurd all
-bytes_seen m base i [] (p ∷ ps) old new (one ∷ each) all inner = absurd all
-bytes_seen m base i (t ∷ ts) [] old new [] all inner = absurd all
-bytes_seen m base i (t ∷ ts) [] old new (one ∷ each) all inner = absurd all
-bytes_seen m base i (t ∷ ts) (p ∷ ps) old new [] all inner = absurd all
 bytes_seen m base i (t ∷ ts) (p ∷ ps) old new (one ∷ each) all inner =
     let next = all.0 in
     let here : IsSeen m base i t p old next one = all.1.0 in
@@ -124,6 +115,7 @@ bytes_seen m base i (t ∷ ts) (p ∷ ps) old new (one ∷ each) all inner =
       are = first_bytes_and t (value_by_standard m base t p) ts (values_by_standard m base ts ps) first rest.bytes (record { bytes = value.bytes; sized = value.sized; written = value.written; is = refl }) rest.are;
       is = rest.is ∙ ap (λ (b : List ℕ). b ++ rest.bytes) value.is ∙ append_assoc old first rest.bytes;
     }
+bytes_seen m base i _ _ old new _ all inner = absurd all
 
 -- the arguments, where no address points outside
 found_same : (std : Standard) (s : Signature) (m : Image) (f : Found) (each : List EachArgument) → f.told ≡ arguments_of (length s.arguments) (length f.bytes) (least_stack std s) (fault_with NoFault) → least_stack std s ≤ length m.stack → AreSeen m std.link 0 s.arguments (plan_of std s).places [] f.bytes each → None ≡ first_outside m std.link 0 s.arguments (plan_of std s).places → AreFoundBy std s m f
@@ -144,33 +136,12 @@ found_by_each std cif s m f each same told =
 
 -- ---- what is answered
 
-pub are_seen_of : (declares : Signature → Type 0) (target : ℕ) (m : Image) (to : Target) (s : Signature) (f : Seen) → slice_get targets target ≡ Some to → declares s → AreSeenBy (standard_of to) s m f → AreSeenOf declares target m f
-are_seen_of declares target m to s f is declared found = record {
-  to = to;
-  signature = s;
-  call = record { to_is = is; declared = declared };
-  seen = found;
-}
-
 pub are_unseen : (declares : Signature → Type 0) (is_fault : TextFault → Type 0) (target : ℕ) (m : Image) (to : Target) (s : Signature) (u : Unread) → slice_get targets target ≡ Some to → declares s → AreUnseenBy (standard_of to) s m u → AreUnseen declares is_fault target m u
 are_unseen declares is_fault target m to s (Call NoMemory) is declared why = tt
-are_unseen declares is_fault target m to s (Call NoSuchTarget) is declared why = absurd why
-are_unseen declares is_fault target m to s (Call (NoSuchValue count)) is declared why = absurd why
-are_unseen declares is_fault target m to s (Call (Fault f)) is declared why = absurd why
 are_unseen declares is_fault target m to s (ShortStack count stack) is declared why = record {
   to = to;
   signature = s;
   call = record { to_is = is; declared = declared };
   unseen = why;
 }
-are_unseen declares is_fault target m to s (NotInStack count stack argument address) is declared why = absurd why
-
-pub reads_each : (declares : Signature → Type 0) (is_fault : TextFault → Type 0) (target : ℕ) (m : Image) (old now : List EachArgument) (values new : List ℕ) (f : Seen) (status : ℕ) → AreSeenOf declares target m f → status ≡ room_status (has_room f.each old && has_room f.bytes values) → now ≡ filled f.each old → new ≡ filled f.bytes values → ReadsEach declares is_fault target m old values status f.told now new
-reads_each declares is_fault target m old now values new f status is told each_is wrote =
-    subst (λ (n : ℕ). ReadsEach declares is_fault target m old values n f.told now new) (sym told)
-    (subst (λ (b : List ℕ). ReadsEach declares is_fault target m old values (room_status (has_room f.each old && has_room f.bytes values)) f.told now b) (sym wrote)
-    (subst (λ (l : List EachArgument). ReadsEach declares is_fault target m old values (room_status (has_room f.each old && has_room f.bytes values)) f.told l (filled f.bytes values)) (sym each_is) (seen f is)))
-
-pub reads_no_each : (declares : Signature → Type 0) (is_fault : TextFault → Type 0) (target : ℕ) (m : Image) (old : List EachArgument) (values : List ℕ) (u : Unread) (told : EntryArguments) (status : ℕ) → AreUnseen declares is_fault target m u → told ≡ no_arguments u → status ≡ unread_status u → ReadsEach declares is_fault target m old values status told old values
-reads_no_each declares is_fault target m old values u told status is wrote answered =
-    subst (λ (n : ℕ). ReadsEach declares is_fault target m old values n told old values) (sym answered) (subst (λ (a : EntryArguments). ReadsEach declares is_fault target m old values (unread_status u) a old values) (sym wrote) (unseen u is))
+are_unseen declares is_fault target m to s _ is declared why = absurd why

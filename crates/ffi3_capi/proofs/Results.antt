@@ -7,7 +7,7 @@ use Rattle.ffi3_type_spec.specs.Tree.{Tree, void}
 use Rattle.ffi3_type_spec.specs.Layout.{size_of}
 use Rattle.ffi3_type_spec.specs.TargetIsa.{isa_of}
 use Rattle.ffi3_type_spec.specs.Signature.{Signature}
-use Rattle.ffi3_type_spec.specs.Value.{ValueTree, void_value, leaf_value, struct_value, value_in, fits, part}
+use Rattle.ffi3_type_spec.specs.Value.{ValueTree, void_value, value_in, fits, part}
 use Rattle.ffi3_place_spec.specs.declared.Loc.{Loc}
 use Rattle.ffi3_place_spec.specs.declared.Res.{Res}
 use Rattle.ffi3_place_spec.specs.declared.Res.TheVariants.{Nothing, Direct, Hidden}
@@ -27,13 +27,11 @@ use Rattle.ffi3_capi.specs.declared.fault.TextFault.{TextFault}
 use Rattle.ffi3_capi.specs.declared.fault.FaultKind.TheVariants.{NoFault}
 use Rattle.ffi3_capi.specs.Faults.{fault_with}
 use Rattle.ffi3_capi.specs.declared.returned.FoundResult.{FoundResult}
-use Rattle.ffi3_capi.specs.declared.returned.ReturnedResult.{ReturnedResult}
 use Rattle.ffi3_capi.specs.declared.returned.Unfound.{Unfound}
-use Rattle.ffi3_capi.specs.declared.returned.Unfound.TheVariants.{Call, NotInStack, NoAddress}
-use Rattle.ffi3_capi.specs.declared.status.Refusal.TheVariants.{NoSuchTarget, NoSuchValue, Fault, NoMemory}
-use Rattle.ffi3_capi.specs.Filled.{has_room, filled, room_status}
+use Rattle.ffi3_capi.specs.declared.returned.Unfound.TheVariants.{Call}
+use Rattle.ffi3_capi.specs.declared.status.Refusal.TheVariants.{NoMemory}
 use Rattle.ffi3_capi.specs.Placed.{targets}
-use Rattle.ffi3_capi.specs.Returned.{AddressStands, are_bytes, is_outside, result_behind, result_by, returned_by_standard, IsFound, IsFoundBy, IsNotFound, IsNotFoundBy, ReadsResult, read, unread, result_of, unfound_status, no_result}
+use Rattle.ffi3_capi.specs.Returned.{AddressStands, are_bytes, is_outside, result_behind, result_by, returned_by_standard, IsFoundBy, IsNotFound, IsNotFoundBy, result_of}
 
 -- the place of the result is that of the plan
 pub by_place : (std : Standard) (s : Signature) (m : Image) (r : Res) → r ≡ (plan_of std s).res → result_by std m s.result_type r ≡ returned_by_standard std s m
@@ -45,20 +43,6 @@ address_there std m at lie is =
     subst (λ (o : Option Loc). AllByRecursion (HasPlace m 0) (to_list o)) (sym is)
     (places_there m 0 (isa_of std.target) 0 (to_list std.returned_address) (omega arith) (each_stands (isa_of std.target) 0 (to_list std.returned_address) lie))
 
--- ---- where the address points
-
--- the buffer is in the stack's bytes
-pub behind_inside : (m : Image) (t : Tree) (at : Loc) (from : ℕ) → is_in_image m (register m at) (size_of t) ≡ true → from ≡ register m at - m.sp → result_behind m t (Some at) ≡ are_bytes (part m.stack from (size_of t))
-behind_inside m t at from inside is =
-    ap (λ (b : Bool). cond b (are_bytes (part m.stack (register m at - m.sp) (size_of t))) (is_outside (register m at))) inside
-    ∙ ap (λ (n : ℕ). are_bytes (part m.stack n (size_of t))) (sym is)
-
--- or past them
-pub behind_outside : (m : Image) (t : Tree) (at : Loc) (address : ℕ) → is_in_image m (register m at) (size_of t) ≡ false → address ≡ register m at → result_behind m t (Some at) ≡ is_outside address
-behind_outside m t at address outside is =
-    ap (λ (b : Bool). cond b (are_bytes (part m.stack (register m at - m.sp) (size_of t))) (is_outside (register m at))) outside
-    ∙ ap is_outside (sym is)
-
 -- ---- the value that the image holds
 
 same_bytes : (a b : List ℕ) → are_bytes a ≡ are_bytes b → a ≡ b
@@ -66,8 +50,7 @@ same_bytes a b e = cc
 
 void_fits : (v : ValueTree) (bytes : List ℕ) → fits void v ≡ true → value_in void bytes ≡ v
 void_fits void_value bytes fit = refl
-void_fits (leaf_value b) bytes fit = cc
-void_fits (struct_value vs) bytes fit = cc
+void_fits _ bytes fit = cc
 
 module _ (m : Image) (t : Tree) (at : Loc) (buffer : ℕ) (v : ValueTree) (bytes : List ℕ) where
   by_test : (b : Bool) → cond b (are_bytes (part m.stack (register m at - m.sp) (size_of t))) (is_outside (register m at)) ≡ are_bytes bytes → bytes ≡ part m.stack (register m at - m.sp) (size_of t)
@@ -111,37 +94,12 @@ found_by std cif s m f same sound is sized told =
 
 -- ---- what is answered
 
-pub is_found : (declares : Signature → Type 0) (target : ℕ) (m : Image) (to : Target) (s : Signature) (f : FoundResult) → slice_get targets target ≡ Some to → declares s → IsFoundBy (standard_of to) s m f → IsFound declares target m f
-is_found declares target m to s f is declared found = record {
-  to = to;
-  signature = s;
-  call = record { to_is = is; declared = declared };
-  found = found;
-}
-
 pub is_not_found : (declares : Signature → Type 0) (is_fault : TextFault → Type 0) (target : ℕ) (m : Image) (to : Target) (s : Signature) (u : Unfound) → slice_get targets target ≡ Some to → declares s → IsNotFoundBy (standard_of to) s m u → IsNotFound declares is_fault target m u
 is_not_found declares is_fault target m to s (Call NoMemory) is declared why = tt
-is_not_found declares is_fault target m to s (Call NoSuchTarget) is declared why = absurd why
-is_not_found declares is_fault target m to s (Call (NoSuchValue count)) is declared why = absurd why
-is_not_found declares is_fault target m to s (Call (Fault f)) is declared why = absurd why
-is_not_found declares is_fault target m to s (NotInStack size address) is declared why = record {
+is_not_found declares is_fault target m to s (Call _) is declared why = absurd why
+is_not_found declares is_fault target m to s _ is declared why = record {
   to = to;
   signature = s;
   call = record { to_is = is; declared = declared };
   unfound = why;
 }
-is_not_found declares is_fault target m to s (NoAddress size) is declared why = record {
-  to = to;
-  signature = s;
-  call = record { to_is = is; declared = declared };
-  unfound = why;
-}
-
-pub reads_result : (declares : Signature → Type 0) (is_fault : TextFault → Type 0) (target : ℕ) (m : Image) (old new : List ℕ) (f : FoundResult) (fits : Bool) (status : ℕ) → IsFound declares target m f → fits ≡ has_room f.bytes old → status ≡ room_status fits → new ≡ filled f.bytes old → ReadsResult declares is_fault target m old status f.told new
-reads_result declares is_fault target m old new f fits status is room told wrote =
-    let answered : status ≡ room_status (has_room f.bytes old) = told ∙ ap room_status room in
-    subst (λ (n : ℕ). ReadsResult declares is_fault target m old n f.told new) (sym answered) (subst (λ (b : List ℕ). ReadsResult declares is_fault target m old (room_status (has_room f.bytes old)) f.told b) (sym wrote) (read f is))
-
-pub reads_none : (declares : Signature → Type 0) (is_fault : TextFault → Type 0) (target : ℕ) (m : Image) (old : List ℕ) (u : Unfound) (told : ReturnedResult) (status : ℕ) → IsNotFound declares is_fault target m u → told ≡ no_result u → status ≡ unfound_status u → ReadsResult declares is_fault target m old status told old
-reads_none declares is_fault target m old u told status is wrote answered =
-    subst (λ (n : ℕ). ReadsResult declares is_fault target m old n told old) (sym answered) (subst (λ (r : ReturnedResult). ReadsResult declares is_fault target m old (unfound_status u) r old) (sym wrote) (unread u is))

@@ -13,8 +13,6 @@ use Rattle.ffi3_capi.specs.Within.{EndsWithin, PlaceEndsWithin, ResultEndsWithin
 
 pub places_end : (size : ℕ) (ts : List Tree) (ps : List Place) → ((k : ℕ) → k < length ts → size_of (tree_at ts k) ≤ size) → PlacesHaveAll ts ps → AllByRecursion (PlaceEndsWithin size) ps
 places_end size [] [] small h = tt
-places_end size [] (p ∷ ps) small h = absurd h
-places_end size (t ∷ ts) [] small h = absurd h
 places_end size (t ∷ ts) (p ∷ ps) small h =
     (place_ends p h.0, places_end size ts ps (λ k below. small (suc k) (omega (arith, below))) h.1)
   where
@@ -25,9 +23,9 @@ places_end size (t ∷ ts) (p ∷ ps) small h =
     place_ends (Direct pieces) all =
         each_weaker (IsPieceOf t) (EndsWithin size) (λ p e. omega (arith, e.within, first)) pieces all.each
     place_ends (ByRef at copy) all = tt
+places_end size _ _ small h = absurd h
 
 pub result_ends : (size : ℕ) (t : Tree) (r : Res) → size_of t ≤ size → ResultHasAll t r → ResultEndsWithin size r
-result_ends size t Nothing small all = tt
 result_ends size t (DirectRes pieces) small all =
     each_weaker (IsPieceOf t) (EndsWithin size) (λ p e. omega (arith, e.within, small)) pieces all.each
-result_ends size t (Hidden at buffer) small all = tt
+result_ends size t _ small all = tt

@@ -1,5 +1,5 @@
-//! What the C library answers of a function that a C declaration or nodes declare: where its arguments and its result
-//! stand in a call, how their types are laid out, and which arguments registers and stack have where the function begins.
+//! Answers to C about a function that it declares, as C text or as nodes: where arguments and result stand in a call, how
+//! types are laid out, and which arguments registers and stack hold where the function begins.
 #![tactic(auto)]
 
 mod bytes;

@@ -14,21 +14,14 @@ loop-i-init g c =
     let m = image_in c.args.registers.now c.args.stack.now in
     none_seen m c.LINK-base.result s.arguments (plan_of std s).places c.new-bytes.result c.new-each.result c.new-bytes.ensures c.new-each.ensures (reached std s (g.met.A.Abi.sound s) m c.LINK-base.result (c.LINK-base.ensures ∙ sym g.met.A.Abi.link_is) c.requires)
 
-pub see_argument-requires-clause-there : goal.see_argument-requires-clause-there
-see_argument-requires-clause-there g c =
+pub see_argument-requires : goal.see_argument-requires
+see_argument-requires g c =
     let s = c.args.placed.now in
     let ps = (plan_of g.A.Abi.standard s).places in
     let below : c.loop-i.i < length s.arguments = omega (arith, c.loop-i-test.true, c.count-count.ensures.value, ap (λ r. length r.arguments) c.placed_sig-sig.ensures) in
     let here = at_argument s.arguments _ ps c.loop-i.i c.arg.result c.place.result.now (ap (λ r. r.arguments) c.placed_sig-sig.ensures) below c.arg.ensures c.place.ensures in
-    (ready_here (image_in c.args.registers.now c.args.stack.now) c.LINK-base.result s.arguments ps c.loop-i.i c.arg.result c.place.result.now here.types here.places c.loop-i.bytes c.loop-i.each c.loop-i.invariant).0
-
-pub see_argument-requires-clause-has_all : goal.see_argument-requires-clause-has_all
-see_argument-requires-clause-has_all g c =
-    let s = c.args.placed.now in
-    let ps = (plan_of g.A.Abi.standard s).places in
-    let below : c.loop-i.i < length s.arguments = omega (arith, c.loop-i-test.true, c.count-count.ensures.value, ap (λ r. length r.arguments) c.placed_sig-sig.ensures) in
-    let here = at_argument s.arguments _ ps c.loop-i.i c.arg.result c.place.result.now (ap (λ r. r.arguments) c.placed_sig-sig.ensures) below c.arg.ensures c.place.ensures in
-    (ready_here (image_in c.args.registers.now c.args.stack.now) c.LINK-base.result s.arguments ps c.loop-i.i c.arg.result c.place.result.now here.types here.places c.loop-i.bytes c.loop-i.each c.loop-i.invariant).1
+    let ready = ready_here (image_in c.args.registers.now c.args.stack.now) c.LINK-base.result s.arguments ps c.loop-i.i c.arg.result c.place.result.now here.types here.places c.loop-i.bytes c.loop-i.each c.loop-i.invariant in
+    record { there = ready.0; has_all = ready.1 }
 
 pub loop-i-preserved : goal.loop-i-preserved
 loop-i-preserved g c =

@@ -1,16 +1,17 @@
-use Rattle.std.proofs.Common.{List, ℕ, ap, ◌∙◌}
+use Rattle.std.proofs.Common.{List, ℕ, refl, ap, ◌∙◌}
 use Rattle.ffi3_transfer.specs.Stored.{image_in}
 use Rattle.ffi3_capi.specs.DeclaredBy.{IsDeclaredOn, IsFaultOn}
-use Rattle.ffi3_capi.specs.Filled.{has_room, filled}
-use Rattle.ffi3_capi.proofs.Answering.{reads, reads_nothing}
+use Rattle.ffi3_capi.specs.Filled.{has_room, filled, room_status}
+use Rattle.ffi3_capi.specs.Entry.{Reads, read, unread}
+use Rattle.ffi3_capi.proofs.Answering.{answered}
 use Rattle.ffi3_capi.proofs.entry.arguments.Goals as goal
 
 pub returns-in-Ok : goal.returns-in-Ok
 returns-in-Ok c =
     let fits = c.fill_bytes.ensures.fits ∙ ap (λ (b : List ℕ). has_room b c.args.values.now) c.as_slice.ensures in
     let wrote = c.fill_bytes.ensures.written ∙ ap (λ (b : List ℕ). filled b c.args.values.now) c.as_slice.ensures in
-    reads (IsDeclaredOn c.args.target c.args.declaration) (IsFaultOn c.args.target c.args.declaration) c.args.target (image_in c.args.registers.now c.args.stack.now) c.args.values.now c.fill_bytes.new.array c.in-Ok.found c.fill_bytes.result c.room_status.result c.in-Ok.ensures.found fits c.room_status.ensures wrote
+    answered (Reads (IsDeclaredOn c.args.target c.args.declaration) (IsFaultOn c.args.target c.args.declaration) c.args.target (image_in c.args.registers.now c.args.stack.now) c.args.values.now) (c.room_status.ensures ∙ ap room_status fits) refl wrote (read c.in-Ok.found c.in-Ok.ensures.found)
 
 pub returns-in-Err : goal.returns-in-Err
 returns-in-Err c =
-    reads_nothing (IsDeclaredOn c.args.target c.args.declaration) (IsFaultOn c.args.target c.args.declaration) c.args.target (image_in c.args.registers.now c.args.stack.now) c.args.values.now c.in-Err.unread c.told.result c.status.result c.in-Err.ensures.unread c.told.ensures c.status.ensures
+    answered (Reads (IsDeclaredOn c.args.target c.args.declaration) (IsFaultOn c.args.target c.args.declaration) c.args.target (image_in c.args.registers.now c.args.stack.now) c.args.values.now) c.status.ensures c.told.ensures refl (unread c.in-Err.unread c.in-Err.ensures.unread)

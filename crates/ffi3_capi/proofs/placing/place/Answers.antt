@@ -1,11 +1,14 @@
+use Rattle.std.proofs.Common.{refl, ap, ◌∙◌}
 use Rattle.ffi3_capi.specs.DeclaredBy.{IsDeclaredOn, IsFaultOn}
-use Rattle.ffi3_capi.proofs.Answering.{places, refuses_place}
+use Rattle.ffi3_capi.specs.Filled.{room_status}
+use Rattle.ffi3_capi.specs.Placed.{Places, no_call, placed, refused}
+use Rattle.ffi3_capi.proofs.Answering.{answered}
 use Rattle.ffi3_capi.proofs.placing.place.Goals as goal
 
 pub returns-in-Ok : goal.returns-in-Ok
 returns-in-Ok c =
-    places (IsDeclaredOn c.args.target c.args.declaration) (IsFaultOn c.args.target c.args.declaration) c.args.target c.args.pieces.now c.fill.new.array c.in-Ok.found c.fill.result c.room_status.result c.in-Ok.ensures.ok c.fill.ensures.fits c.room_status.ensures c.fill.ensures.written
+    answered (Places (IsDeclaredOn c.args.target c.args.declaration) (IsFaultOn c.args.target c.args.declaration) c.args.target c.args.pieces.now) (c.room_status.ensures ∙ ap room_status c.fill.ensures.fits) refl c.fill.ensures.written (placed c.in-Ok.found c.in-Ok.ensures.ok)
 
 pub returns-in-Err : goal.returns-in-Err
 returns-in-Err c =
-    refuses_place (IsDeclaredOn c.args.target c.args.declaration) (IsFaultOn c.args.target c.args.declaration) c.args.target c.args.pieces.now c.in-Err.refusal c.no_call.result c.fault.result c.status.result c.in-Err.ensures.err c.fault.ensures c.no_call.ensures c.status.ensures
+    answered (Places (IsDeclaredOn c.args.target c.args.declaration) (IsFaultOn c.args.target c.args.declaration) c.args.target c.args.pieces.now) c.status.ensures (c.no_call.ensures ∙ ap no_call c.fault.ensures) refl (refused c.in-Err.refusal c.in-Err.ensures.err)
