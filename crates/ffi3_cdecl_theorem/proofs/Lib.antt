@@ -1,0 +1,8 @@
+pub mod Cutting
+pub mod Runs
+pub mod Near
+pub mod Standing
+pub mod Keeping
+pub mod Exact
+pub mod Formats
+mod Rows
