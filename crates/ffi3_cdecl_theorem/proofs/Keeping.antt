@@ -1,4 +1,4 @@
--- The base that is kept beside the state stands before the place, with neither a star nor a comma behind it.
+-- The base that is kept beside the state stands before the place, with no comma behind it.
 use Rattle.std.proofs.Common.{◌≡◌, ◌⊎◌, inl, inr, ℕ, suc, ◌+◌, Bool, true, false, cond, ltb, List, [], ◌∷◌, ◌++◌, refl, ap, sym, subst, ◌∙◌, append_assoc, append-nil}
 use Rattle.std.specs.Prelude.{⊤}
 use Rattle.ffi3_cdecl_spec.specs.Tokens.{wide, Token, struct_word, union_word, enum_word, name, open_round}
@@ -7,7 +7,7 @@ use Rattle.ffi3_cdecl_spec.specs.Machine.{Round, unstarred, Where, at_result, at
 use Rattle.ffi3_cdecl_spec.specs.OnePass.{keeping}
 use Rattle.ffi3_cdecl_spec.specs.Reasons.{Base, a_struct_of, a_union_of, an_enum_of, base_tokens}
 use Rattle.ffi3_cdecl_spec.specs.Telling.{wants_a_type, Track, no_track, behind_struct, behind_union, behind_enum, behind_base, named_base, base_alone, tag_behind, name_behind_base, bracket_behind_base, tracked, an_int32, sized, Reached, reaching, nothing_reached}
-use Rattle.ffi3_cdecl_theorem.specs.Exactly.{IsNoStarNorComma, HasNoStarNorComma}
+use Rattle.ffi3_cdecl_theorem.specs.Exactly.{IsNoComma, HasNoComma}
 use Rattle.ffi3_cdecl_theorem.proofs.Near.{an_int, Near, tagged, based, in_round, itself, NearTag, near_tag, type_stands}
 use Rattle.ffi3_cdecl_theorem.proofs.Runs.{keeps, run, keeps_append}
 
@@ -24,7 +24,7 @@ pub record BaseStands (start : List Token) (s : State) (b : Base) : Type 0 where
   pub before : List Token
   pub behind : List Token
   pub stands : start ≡ before ++ (base_tokens b ++ behind)
-  pub nothing_between : HasNoStarNorComma behind
+  pub nothing_between : HasNoComma behind
   pub near : NearBase s (keeps begun (before ++ an_int ∷ behind))
 
 abbrev pub Stands : List Token → State → Track → Type 0
@@ -70,7 +70,7 @@ round_rounded : {k l : Kind} {o : Round} {w : Where} {t : State} → Near k (rou
 round_rounded {k = k} (in_round {n = n} {w = w}) =
     rounded k (suc n) w (ltb (depth w + n) MOST_OPEN)
 
-none_more : (xs : List Token) (x : Token) → HasNoStarNorComma xs → IsNoStarNorComma x → HasNoStarNorComma (xs ++ x ∷ [])
+none_more : (xs : List Token) (x : Token) → HasNoComma xs → IsNoComma x → HasNoComma (xs ++ x ∷ [])
 none_more [] x none q = (q, tt)
 none_more (y ∷ xs) x none q = (none.0, none_more xs x none.1 q)
 
@@ -79,7 +79,7 @@ module _ (start : List Token) (x : Token) where
   int_behind s e =
       ap (λ r. keeping wide r an_int) (sym e) ∙ sym (keeps_append begun start (an_int ∷ []))
 
-  grown : (s t : State) (b : Base) → BaseStands start s b → (sized s ≡ dead → ⊥) → IsNoStarNorComma x → ((k : Kind) (r : State) → Near k s r → NearBase t (keeping wide r x)) → BaseStands (start ++ x ∷ []) t b
+  grown : (s t : State) (b : Base) → BaseStands start s b → (sized s ≡ dead → ⊥) → IsNoComma x → ((k : Kind) (r : State) → Near k s r → NearBase t (keeping wide r x)) → BaseStands (start ++ x ∷ []) t b
   grown s t b at matters q more = record {
     before = at.before;
     behind = at.behind ++ x ∷ [];
@@ -92,7 +92,7 @@ module _ (start : List Token) (x : Token) where
       by_near (inl (k, n)) = more k (keeps begun (at.before ++ an_int ∷ at.behind)) n
       by_near (inr e) = absurd (matters e)
 
-  alone : (s t : State) (y : Track) → Stands start s y → (sized s ≡ dead → ⊥) → IsNoStarNorComma x → ((k : Kind) (r : State) → Near k s r → NearBase t (keeping wide r x)) → Stands (start ++ x ∷ []) t (base_alone y)
+  alone : (s t : State) (y : Track) → Stands start s y → (sized s ≡ dead → ⊥) → IsNoComma x → ((k : Kind) (r : State) → Near k s r → NearBase t (keeping wide r x)) → Stands (start ++ x ∷ []) t (base_alone y)
   alone s t (behind_base b) at matters q more = grown s t b at matters q more
   alone s t y at matters q more = tt
 

@@ -1,5 +1,6 @@
 pub mod Cutting
 pub mod Runs
+pub mod Starred
 pub mod Near
 pub mod Standing
 pub mod Keeping

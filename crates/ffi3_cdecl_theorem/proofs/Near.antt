@@ -8,7 +8,8 @@ use Rattle.ffi3_cdecl_spec.specs.OnePass.{keeping}
 use Rattle.ffi3_cdecl_spec.specs.Reasons.{Base, a_type_named, by_value}
 use Rattle.ffi3_cdecl_spec.specs.Telling.{lives, wants_a_type, Track, behind_base, tag_behind, tracked, an_int32, sized, reason_of_base, reason_by, Reached}
 use Rattle.ffi3_cdecl_spec.proofs.Told.{kept_count}
-use Rattle.ffi3_cdecl_theorem.specs.Exactly.{IsNoStarNorComma, HasNoStarNorComma}
+use Rattle.ffi3_cdecl_theorem.specs.Exactly.{IsNoComma, HasNoComma}
+use Rattle.ffi3_cdecl_theorem.proofs.Starred.{Deep, own_base, one_deep, without_comma, both_live}
 use Rattle.ffi3_cdecl_theorem.proofs.Runs.{keeps, run, run_state, keeps_dead}
 
 abbrev pub an_int : Token
@@ -33,14 +34,18 @@ pub data Alike (s t : State) : Type 0 where
   same : s ≡ t → Alike s t
   dead_with_base : s ≡ dead → Alike s t
   dead_with_int : t ≡ dead → Alike s t
+  behind_a_star : Deep s t → Alike s t
 
 stay_dead : (s : State) (xs : List Token) → s ≡ dead → keeps s xs ≡ dead
 stay_dead s xs e = ap (λ r. keeps r xs) e ∙ keeps_dead xs
 
-stay_alike : {s t : State} (xs : List Token) → Alike s t → Alike (keeps s xs) (keeps t xs)
-stay_alike xs (same e) = same (ap (λ r. keeps r xs) e)
-stay_alike {s = s} xs (dead_with_base e) = dead_with_base (stay_dead s xs e)
-stay_alike {t = t} xs (dead_with_int e) = dead_with_int (stay_dead t xs e)
+pub stay_alike : (s t : State) (xs : List Token) → HasNoComma xs → Alike s t → Alike (keeps s xs) (keeps t xs)
+stay_alike s t xs none (same e) = same (ap (λ r. keeps r xs) e)
+stay_alike s t xs none (dead_with_base e) = dead_with_base (stay_dead s xs e)
+stay_alike s t xs none (dead_with_int e) = dead_with_int (stay_dead t xs e)
+stay_alike s t [] none (behind_a_star d) = behind_a_star d
+stay_alike s t (x ∷ xs) none (behind_a_star d) =
+    stay_alike (keeping wide s x) (keeping wide t x) xs none.1 (behind_a_star (without_comma (one_deep d x) none.0))
 
 -- ---- one token more behind a base that is no more than a name
 
@@ -79,9 +84,11 @@ next_round : (b : Base) (n : ℕ) (w : Where) (room : Bool) → Next b (behind_b
 next_round b n w true = goes_on in_round refl
 next_round b n w false = ends (dead_with_base refl)
 
-pub next : (b : Base) {s t : State} → Near bare s t → (x : Token) → IsNoStarNorComma x → Next b (tracked s (behind_base b) x) (keeping wide s x) (keeping wide t x)
-next b n star q = absurd q
+pub next : (b : Base) {s t : State} → Near bare s t → (x : Token) → IsNoComma x → Next b (tracked s (behind_base b) x) (keeping wide s x) (keeping wide t x)
 next b n comma q = absurd q
+next b (tagged e) star q = ends (behind_a_star own_base)
+next b based star q = ends (behind_a_star own_base)
+next b in_round star q = ends (behind_a_star own_base)
 next b (tagged {w = w} e) (name called) q = next_name b w called
 next b (tagged {w = w} e) open_round q =
     next_round b 1 w (ltb (depth w + 0) MOST_OPEN)
@@ -109,7 +116,7 @@ pub data Behind (b : Base) (q : Reached) (t : State) : Type 0 where
 abbrev pub reached : State → Track → Reached
 reached s y = record { state = s; track = y }
 
-pub behind_all : (b : Base) (s t : State) → Near bare s t → (xs : List Token) → HasNoStarNorComma xs → Behind b (run (reached s (behind_base b)) xs) (keeps t xs)
+pub behind_all : (b : Base) (s t : State) → Near bare s t → (xs : List Token) → HasNoComma xs → Behind b (run (reached s (behind_base b)) xs) (keeps t xs)
 behind_all b s t n [] none = still n refl
 behind_all b s t n (x ∷ xs) none =
     by_next (next b n x none.0) (λ near. behind_all b (keeping wide s x) (keeping wide t x) near xs none.1)
@@ -118,7 +125,7 @@ behind_all b s t n (x ∷ xs) none =
     by_next (goes_on near e) more =
         subst (λ z. Behind b (run (reached (keeping wide s x) z) xs) (keeps (keeping wide t x) xs)) (sym e) (more near)
     by_next (ends a) more =
-        alike (subst (λ r. Alike r (keeps (keeping wide t x) xs)) (sym (run_state (reached (keeping wide s x) (tracked s (behind_base b) x)) xs)) (stay_alike xs a))
+        alike (subst (λ r. Alike r (keeps (keeping wide t x) xs)) (sym (run_state (reached (keeping wide s x) (tracked s (behind_base b) x)) xs)) (stay_alike (keeping wide s x) (keeping wide t x) xs none.1 a))
 
 -- a token that leads nowhere, and would lead somewhere behind int32_t: the base is the reason that is told
 pub by_this_base : (b : Base) (q : Reached) (t : State) (x : Token) → Behind b q t → is_dead q.state ≡ false → is_dead (keeping wide q.state x) ≡ true → is_dead (keeping wide t x) ≡ false → reason_by q.state q.track x ≡ Some (by_value b)
@@ -127,6 +134,8 @@ by_this_base b q t x (still n e) alive gone there =
     ap (λ y. reason_by q.state y x) e ∙ ap (λ r. reason_of_base (lives r x) b) (near_sized n) ∙ ap (λ l. reason_of_base l b) lives_there
 by_this_base b q t x (alike (same e)) alive gone there =
     absurd (true≢false (sym gone ∙ ap (λ r. is_dead (keeping wide r x)) e ∙ there))
+by_this_base b q t x (alike (behind_a_star d)) alive gone there =
+    absurd (true≢false (sym gone ∙ both_live d x ∙ there))
 by_this_base b q t x (alike (dead_with_base e)) alive gone there =
     absurd (true≢false (sym (ap is_dead e) ∙ alive))
 by_this_base b q t x (alike (dead_with_int e)) alive gone there =

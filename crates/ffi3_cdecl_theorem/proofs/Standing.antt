@@ -13,7 +13,7 @@ use Rattle.ffi3_cdecl_spec.proofs.Followed.{by_wanted, quiet_dead}
 use Rattle.ffi3_cdecl_spec.proofs.Kept.{both_whole, both_declarator, both_round, both_itself}
 use Rattle.ffi3_cdecl_spec.proofs.Told.{kept_count}
 use Rattle.ffi3_cdecl_spec.proofs.Ways.{after-append}
-use Rattle.ffi3_cdecl_theorem.specs.Exactly.{HasNoStarNorComma, StandsByValue}
+use Rattle.ffi3_cdecl_theorem.specs.Exactly.{HasNoComma, StandsByValue}
 use Rattle.ffi3_cdecl_theorem.proofs.Near.{an_int, Near, tagged, based, in_round, itself, Behind, reached, behind_all, by_this_base, NearTag, near_tag, tag_kept, TypeStands, type_stands}
 use Rattle.ffi3_cdecl_theorem.proofs.Runs.{keeps, run, run_state, run_append, keeps_append, SomeStates, some_run, begun_same, some_dead, viable_keeps, not_viable_keeps, alive_before}
 
@@ -62,7 +62,7 @@ module _ (start : List Token) (x : Token) (viable : IsViableIn wide start) (isnt
       ap (λ s. is_dead (keeping wide s x)) here_keeps ∙ ap is_dead (sym (keeps_append begun start (x ∷ []))) ∙ all_gone
 
   -- behind the tokens before the base
-  module _ (before behind : List Token) (none : HasNoStarNorComma behind) (instead : IsViableIn wide ((before ++ an_int ∷ behind) ++ x ∷ [])) where
+  module _ (before behind : List Token) (none : HasNoComma behind) (instead : IsViableIn wide ((before ++ an_int ∷ behind) ++ x ∷ [])) where
     abbrev q : Reached
     q = run nothing_reached before
 

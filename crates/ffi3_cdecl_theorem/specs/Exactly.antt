@@ -1,24 +1,22 @@
 -- All that is told of an unexpected place, and nothing else. Where no reason is told, there is none.
 use Rattle.std.specs.Prelude.{◌≡◌, ⊤, ℕ, List, [], ◌∷◌, Option, Some, None}
-use Rattle.ffi3_cdecl_spec.specs.Tokens.{Sign, Token, attribute_word, other_keyword, comma, star}
+use Rattle.ffi3_cdecl_spec.specs.Tokens.{Sign, Token, attribute_word, other_keyword, comma}
 use Rattle.ffi3_cdecl_spec.specs.Reading.{tokens_of}
 use Rattle.ffi3_cdecl_spec.specs.Reasons.{Base, Reason, an_attribute, a_keyword, by_value, IsByValue, Told, IsTold}
 
--- a token that neither makes a pointer nor begins another declarator of the same base
-abbrev pub IsNoStarNorComma : Token → Type 0
-IsNoStarNorComma star = ⊥
-IsNoStarNorComma comma = ⊥
-IsNoStarNorComma x = ⊤
+-- behind a comma another declarator of the same base may stand
+abbrev pub IsNoComma : Token → Type 0
+IsNoComma comma = ⊥
+IsNoComma x = ⊤
 
-abbrev pub HasNoStarNorComma : List Token → Type 0
-HasNoStarNorComma [] = ⊤
-HasNoStarNorComma (x ∷ xs) = IsNoStarNorComma x × HasNoStarNorComma xs
+abbrev pub HasNoComma : List Token → Type 0
+HasNoComma [] = ⊤
+HasNoComma (x ∷ xs) = IsNoComma x × HasNoComma xs
 
--- This base stands by value before the token: were it int32_t, the token could stand there, and no star or comma stands
--- between them.
+-- This base stands by value before the token: were it int32_t, the token could stand there, and no comma stands between.
 pub record StandsByValue (start : List Token) (x : Token) (b : Base) : Type 0 where
   pub would_fit : IsByValue start x b
-  pub nothing_between : HasNoStarNorComma would_fit.behind
+  pub nothing_between : HasNoComma would_fit.behind
 
 -- this is a reason why the token is unexpected behind a beginning
 abbrev pub IsTheReason : List Token → Token → Reason → Type 0

@@ -1,4 +1,4 @@
--- What `told_laws` and `format_laws` say: one thing is told of an unexpected place, and a text has one reading with each format.
+-- What `told_laws` and `format_laws` say: one thing is told of a place, and a text has one reading with each format.
 use Rattle.std.specs.Prelude.{◌≡◌, ℕ, List}
 use Rattle.ffi3_format_spec.specs.declared.Format.{Format}
 use Rattle.ffi3_cdecl_spec.specs.Tokens.{wide, Sign}
