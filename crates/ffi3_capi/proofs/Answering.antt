@@ -23,7 +23,7 @@ use Rattle.ffi3_capi.specs.Placed.{targets}
 use Rattle.ffi3_capi.specs.OnTarget.{OnTarget, unknown}
 use Rattle.ffi3_format_spec.specs.declared.Format.{Format}
 use Rattle.ffi3_capi.specs.Laid.{IsLaid, IsLayoutRefusal, no_type, LaysOut, laid_out, refused as no_layout}
-use Rattle.ffi3_capi.specs.Entry.{AreNotRead, AreNotReadBy, unread}
+use Rattle.ffi3_capi.specs.Entry.{AreNotRead, AreNotReadBy}
 
 -- the same, where the status, what is told and what is written are those of an answer that is given
 pub answered : {A B : Type 0} (P : ℕ → A → B → Type 0) {n m : ℕ} {a b : A} {x y : B} → n ≡ m → a ≡ b → x ≡ y → P m b y → P n a x

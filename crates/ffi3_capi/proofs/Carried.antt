@@ -4,6 +4,7 @@ use Rattle.std.proofs.Common.{◌≡◌, ℕ, zero, suc, ◌+◌, ◌*◌, ◌-�
 use Rattle.std.specs.List.{range_with_len}
 use Rattle.std.proofs.lemmas.Bool.{eqb-true, lt-ltb, le-ltb}
 use Rattle.ffi3_type_spec.proofs.Tests.{and_left, and_right}
+use Rattle.ffi3_type_spec.specs.declared.Isa.{Isa}
 use Rattle.ffi3_place_spec.specs.declared.Loc.{Loc}
 use Rattle.ffi3_place_spec.specs.declared.Loc.TheVariants.{F, S}
 use Rattle.ffi3_place_spec.specs.declared.Piece.{Piece}
@@ -137,9 +138,9 @@ module _ (p n : PlacedPiece) (one_value : p.part ≡ n.part) (one_kind : p.holds
             same_byte p.part p.holds (p.offset + i) n.part n.holds (n.offset + k) (spot_in p.place p.number i) (spot_in n.place n.number k) one_value one_kind (omega (arith, by, follows above)) (ap (λ x. spot_in x p.number i) (place_p above) ∙ high_spot (F p.number) (upper_half p.number) i k by ∙ sym (upper_spot above (upper_half p.number) k (ap F (sym number)) (omega (arith, below, long))));
       }
 
-  in_x87 : (r : ℕ) → is_x87 r p n ≡ true → AreBytesOfBoth p n (whole_x87 r p n)
-  in_x87 r e =
-      let above : is_above p n ≡ true = and_left _ _ (and_left _ _ (and_left _ _ e)) in
+  in_x87 : (isa : Isa) (r : ℕ) → is_x87 isa r p n ≡ true → AreBytesOfBoth p n (whole_x87 r p n)
+  in_x87 isa r e =
+      let above : is_above p n ≡ true = and_right _ _ (and_left _ _ (and_left _ _ (and_left _ _ e))) in
       let long : n.length ≡ 2 = eqb-true n.length 2 (and_right _ _ (and_left _ _ (and_left _ _ e))) in
       let low : p.number ≡ 16 + 2 * r = eqb-true p.number (16 + 2 * r) (and_right _ _ (and_left _ _ e)) in
       let number : n.number ≡ 17 + 2 * r = eqb-true n.number (17 + 2 * r) (and_right _ _ e) in
@@ -161,35 +162,35 @@ AreOf part [] = ⊤
 AreOf part (p ∷ ps) = (p.part ≡ part) × (p.holds ≡ HOLDS_BYTES) × AreOf part ps
 
 -- a piece and the next, and those behind them
-module _ (part : ℕ) (p n : PlacedPiece) (ns : List PlacedPiece) (is : p.part ≡ part) (holds : p.holds ≡ HOLDS_BYTES) (next : n.part ≡ part) (next_holds : n.holds ≡ HOLDS_BYTES) (goes : (w : PlacedPiece) → w.part ≡ part → w.holds ≡ HOLDS_BYTES → bytes_told (joined_to w ns) ≡ bytes_of w ++ bytes_told ns) where
+module _ (isa : Isa) (part : ℕ) (p n : PlacedPiece) (ns : List PlacedPiece) (is : p.part ≡ part) (holds : p.holds ≡ HOLDS_BYTES) (next : n.part ≡ part) (next_holds : n.holds ≡ HOLDS_BYTES) (goes : (w : PlacedPiece) → w.part ≡ part → w.holds ≡ HOLDS_BYTES → bytes_told (joined_to isa w ns) ≡ bytes_of w ++ bytes_told ns) where
   value : p.part ≡ n.part
   value = is ∙ sym next
 
   kind : p.holds ≡ n.holds
   kind = holds ∙ sym next_holds
 
-  as_one : (w : PlacedPiece) → w.part ≡ part → w.holds ≡ HOLDS_BYTES → AreBytesOfBoth p n w → bytes_told (joined_to w ns) ≡ bytes_of p ++ bytes_told (n ∷ ns)
+  as_one : (w : PlacedPiece) → w.part ≡ part → w.holds ≡ HOLDS_BYTES → AreBytesOfBoth p n w → bytes_told (joined_to isa w ns) ≡ bytes_of p ++ bytes_told (n ∷ ns)
   as_one w w_is w_holds both =
       goes w w_is w_holds ∙ ap (λ (xs : List ByteOf). xs ++ bytes_told ns) (both_bytes p n w both) ∙ append_assoc (bytes_of p) (bytes_of n) (bytes_told ns)
 
-  by_tests : (a b c d : Bool) → goes_on p n ≡ a → is_upper_half p n ≡ b → is_x87 0 p n ≡ c → is_x87 1 p n ≡ d → bytes_told (cond a (joined_to (longer p n) ns) (cond b (joined_to (whole_vector p n) ns) (cond c (joined_to (whole_x87 0 p n) ns) (cond d (joined_to (whole_x87 1 p n) ns) (p ∷ joined_to n ns))))) ≡ bytes_of p ++ bytes_told (n ∷ ns)
+  by_tests : (a b c d : Bool) → goes_on p n ≡ a → is_upper_half p n ≡ b → is_x87 isa 0 p n ≡ c → is_x87 isa 1 p n ≡ d → bytes_told (cond a (joined_to isa (longer p n) ns) (cond b (joined_to isa (whole_vector p n) ns) (cond c (joined_to isa (whole_x87 0 p n) ns) (cond d (joined_to isa (whole_x87 1 p n) ns) (p ∷ joined_to isa n ns))))) ≡ bytes_of p ++ bytes_told (n ∷ ns)
   by_tests true b c d e f g h = as_one (longer p n) is holds (on_stack p n value kind e)
   by_tests false true c d e f g h = as_one (whole_vector p n) is holds (in_vector p n value kind f)
-  by_tests false false true d e f g h = as_one (whole_x87 0 p n) is holds (in_x87 p n value kind 0 g)
-  by_tests false false false true e f g h = as_one (whole_x87 1 p n) is holds (in_x87 p n value kind 1 h)
+  by_tests false false true d e f g h = as_one (whole_x87 0 p n) is holds (in_x87 p n value kind isa 0 g)
+  by_tests false false false true e f g h = as_one (whole_x87 1 p n) is holds (in_x87 p n value kind isa 1 h)
   by_tests false false false false e f g h =
       ap (λ (xs : List ByteOf). bytes_of p ++ xs) (goes n next next_holds)
 
-joined_same : (part : ℕ) (ns : List PlacedPiece) (p : PlacedPiece) → p.part ≡ part → p.holds ≡ HOLDS_BYTES → AreOf part ns → bytes_told (joined_to p ns) ≡ bytes_of p ++ bytes_told ns
-joined_same part [] p is holds all = refl
-joined_same part (n ∷ ns) p is holds all =
-    by_tests part p n ns is holds all.0 all.1 (λ w w_is w_holds. joined_same part ns w w_is w_holds all.2) (goes_on p n) (is_upper_half p n) (is_x87 0 p n) (is_x87 1 p n) refl refl refl refl
+joined_same : (isa : Isa) (part : ℕ) (ns : List PlacedPiece) (p : PlacedPiece) → p.part ≡ part → p.holds ≡ HOLDS_BYTES → AreOf part ns → bytes_told (joined_to isa p ns) ≡ bytes_of p ++ bytes_told ns
+joined_same isa part [] p is holds all = refl
+joined_same isa part (n ∷ ns) p is holds all =
+    by_tests isa part p n ns is holds all.0 all.1 (λ w w_is w_holds. joined_same isa part ns w w_is w_holds all.2) (goes_on p n) (is_upper_half p n) (is_x87 isa 0 p n) (is_x87 isa 1 p n) refl refl refl refl
 
 pieces_of_one : (part : ℕ) (pieces : List Piece) → AreOf part (map (value_piece part) pieces)
 pieces_of_one part [] = tt
 pieces_of_one part (p ∷ ps) = (refl, refl, pieces_of_one part ps)
 
 pub tells_the_same_bytes : (pieces : List Piece) → TellsTheSameBytes pieces
-tells_the_same_bytes [] part = refl
-tells_the_same_bytes (p ∷ ps) part =
-    joined_same part (map (value_piece part) ps) (value_piece part p) refl refl (pieces_of_one part ps)
+tells_the_same_bytes [] isa part = refl
+tells_the_same_bytes (p ∷ ps) isa part =
+    joined_same isa part (map (value_piece part) ps) (value_piece part p) refl refl (pieces_of_one part ps)

@@ -26,7 +26,7 @@ use Rattle.ffi3_capi.specs.Faults.{fault_with}
 use Rattle.ffi3_capi.specs.declared.status.Refusal.TheVariants.{NoMemory}
 use Rattle.ffi3_capi.specs.Entry.{AreBytesOf, AreFoundBy, HasOneMore, arguments_of, filler, none as no_bytes, first_and as first_bytes_and}
 use Rattle.ffi3_capi.specs.Placed.{targets}
-use Rattle.ffi3_capi.specs.Each.{AreSeen, AreUnseen, AreUnseenBy, HasArgument, IsSeen, each_argument, unseen}
+use Rattle.ffi3_capi.specs.Each.{AreSeen, AreUnseen, AreUnseenBy, HasArgument, IsSeen, each_argument}
 
 -- an argument whose address points outside, and one whose bytes are there
 module _ (m : Image) (base i : ℕ) (t : Tree) (p : Place) (old new : List ℕ) (one : EachArgument) (size at : ℕ) (sized : size ≡ size_of t) (counted : at ≡ length old) where

@@ -6,7 +6,7 @@ use Rattle.ffi3_type_spec.specs.Layout.{size_of}
 use Rattle.ffi3_place_spec.specs.declared.Place.{Place}
 use Rattle.ffi3_place_spec.specs.declared.Place.TheVariants.{Direct, ByRef}
 use Rattle.ffi3_place_spec.specs.declared.Res.{Res}
-use Rattle.ffi3_place_spec.specs.declared.Res.TheVariants.{Nothing, Direct as DirectRes, Hidden}
+use Rattle.ffi3_place_spec.specs.declared.Res.TheVariants.{Direct as DirectRes}
 use Rattle.ffi3_place_spec.specs.Sound.{IsPieceOf, PlaceHasAll, PlacesHaveAll, ResultHasAll}
 use Rattle.ffi3_place_spec.proofs.Tests.{each_weaker}
 use Rattle.ffi3_capi.specs.Within.{EndsWithin, PlaceEndsWithin, ResultEndsWithin}

@@ -1,6 +1,7 @@
 -- Which byte of a value stands where, by the pieces that C is told.
 use Rattle.std.specs.Prelude.{◌≡◌, ℕ, ◌+◌, ◌-◌, cond, nat_lt, ◌==◌, List, map}
 use Rattle.std.specs.List.{range_with_len, flat_map}
+use Rattle.ffi3_type_spec.specs.declared.Isa.{Isa}
 use Rattle.ffi3_place_spec.specs.declared.Loc.{Loc}
 use Rattle.ffi3_place_spec.specs.declared.Loc.TheVariants.{G, F, S}
 use Rattle.ffi3_place_spec.specs.declared.Piece.{Piece}
@@ -51,4 +52,4 @@ bytes_told ps = flat_map bytes_of ps
 -- PIECES THAT ARE TOLD AS ONE tell the same bytes of the value at the same places
 abbrev pub TellsTheSameBytes : List Piece → Type 0
 TellsTheSameBytes pieces =
-    (part : ℕ) → bytes_told (joined (map (value_piece part) pieces)) ≡ bytes_told (map (value_piece part) pieces)
+    (isa : Isa) (part : ℕ) → bytes_told (joined isa (map (value_piece part) pieces)) ≡ bytes_told (map (value_piece part) pieces)

@@ -1,5 +1,8 @@
 -- Where everything stands in a call, piece by piece, as C is told it.
-use Rattle.std.specs.Prelude.{ℕ, ◌+◌, Bool, cond, nat_lt, ◌&&◌, ◌==◌, List, [], ◌∷◌, ◌++◌, map, Option, Some, None}
+use Rattle.std.specs.Prelude.{ℕ, ◌+◌, Bool, true, false, cond, nat_lt, ◌&&◌, ◌==◌, List, [], ◌∷◌, ◌++◌, map, Option, Some, None}
+use Rattle.ffi3_type_spec.specs.declared.Isa.{Isa}
+use Rattle.ffi3_type_spec.specs.declared.Isa.TheVariants.{Amd64, Aarch64, Riscv as RiscvIsa}
+use Rattle.ffi3_type_spec.specs.TargetIsa.{isa_of}
 use Rattle.ffi3_type_spec.specs.Signature.{Signature}
 use Rattle.ffi3_place_spec.specs.declared.Loc.{Loc}
 use Rattle.ffi3_place_spec.specs.declared.Loc.TheVariants.{G, F, S}
@@ -93,39 +96,45 @@ is_upper_half p n =
 abbrev pub whole_vector : PlacedPiece → PlacedPiece → PlacedPiece
 whole_vector p n = record p { length = 16; rest = n.rest }
 
+-- only AMD64 has x87 registers (System V psABI AMD64 3.2.1)
+abbrev pub has_x87 : Isa → Bool
+has_x87 Amd64 = true
+has_x87 Aarch64 = false
+has_x87 RiscvIsa = false
+
 -- the first has the significand of the x87 register with this number, and the second its sign and exponent
-abbrev pub is_x87 : ℕ → PlacedPiece → PlacedPiece → Bool
-is_x87 k p n =
-    is_above p n && (n.length == 2) && (p.number == number_of (significand k))
+abbrev pub is_x87 : Isa → ℕ → PlacedPiece → PlacedPiece → Bool
+is_x87 isa k p n =
+    has_x87 isa && is_above p n && (n.length == 2) && (p.number == number_of (significand k))
     && (n.number == number_of (sign_and_exponent k))
 
 -- the whole x87 register
 abbrev pub whole_x87 : ℕ → PlacedPiece → PlacedPiece → PlacedPiece
 whole_x87 k p n = record p { place = IN_X87; number = k; length = 10; rest = n.rest }
 
--- a piece, and those behind it
-abbrev pub joined_to : PlacedPiece → List PlacedPiece → List PlacedPiece
-joined_to p [] = p ∷ []
-joined_to p (n ∷ ns) =
-    cond (goes_on p n) (joined_to (longer p n) ns)
-    (cond (is_upper_half p n) (joined_to (whole_vector p n) ns)
-    (cond (is_x87 0 p n) (joined_to (whole_x87 0 p n) ns)
-    (cond (is_x87 1 p n) (joined_to (whole_x87 1 p n) ns) (p ∷ joined_to n ns))))
+-- a piece of an instruction set's machine, and those behind it
+abbrev pub joined_to : Isa → PlacedPiece → List PlacedPiece → List PlacedPiece
+joined_to isa p [] = p ∷ []
+joined_to isa p (n ∷ ns) =
+    cond (goes_on p n) (joined_to isa (longer p n) ns)
+    (cond (is_upper_half p n) (joined_to isa (whole_vector p n) ns)
+    (cond (is_x87 isa 0 p n) (joined_to isa (whole_x87 0 p n) ns)
+    (cond (is_x87 isa 1 p n) (joined_to isa (whole_x87 1 p n) ns) (p ∷ joined_to isa n ns))))
 
-abbrev pub joined : List PlacedPiece → List PlacedPiece
-joined [] = []
-joined (p ∷ ps) = joined_to p ps
+abbrev pub joined : Isa → List PlacedPiece → List PlacedPiece
+joined isa [] = []
+joined isa (p ∷ ps) = joined_to isa p ps
 
 -- ---- a whole call
 
-abbrev pub argument_pieces : ℕ → Place → List PlacedPiece
-argument_pieces i (Direct pieces) = joined (map (value_piece i) pieces)
-argument_pieces i (ByRef at copy) = address_piece i at copy ∷ []
+abbrev pub argument_pieces : Isa → ℕ → Place → List PlacedPiece
+argument_pieces isa i (Direct pieces) = joined isa (map (value_piece i) pieces)
+argument_pieces isa i (ByRef at copy) = address_piece i at copy ∷ []
 
 -- those of the arguments from number i on
-abbrev pub arguments_from : ℕ → List Place → List PlacedPiece
-arguments_from i [] = []
-arguments_from i (p ∷ ps) = argument_pieces i p ++ arguments_from (i + 1) ps
+abbrev pub arguments_from : Isa → ℕ → List Place → List PlacedPiece
+arguments_from isa i [] = []
+arguments_from isa i (p ∷ ps) = argument_pieces isa i p ++ arguments_from isa (i + 1) ps
 
 -- the address of the result's buffer, where it is passed
 abbrev pub hidden_pieces : Res → List PlacedPiece
@@ -138,16 +147,17 @@ abbrev pub returned_address : Option Loc → ℕ → List PlacedPiece
 returned_address None buffer = []
 returned_address (Some at) buffer = address_piece RESULT_PART at buffer ∷ []
 
-abbrev pub returned_pieces : Option Loc → Res → List PlacedPiece
-returned_pieces register Nothing = []
-returned_pieces register (DirectRes pieces) = joined (map (value_piece RESULT_PART) pieces)
-returned_pieces register (Hidden at buffer) = returned_address register buffer
+abbrev pub returned_pieces : Isa → Option Loc → Res → List PlacedPiece
+returned_pieces isa register Nothing = []
+returned_pieces isa register (DirectRes pieces) = joined isa (map (value_piece RESULT_PART) pieces)
+returned_pieces isa register (Hidden at buffer) = returned_address register buffer
 
 -- WHAT A CALLER PASSES: arguments by their numbers, then the address of the result's buffer
 abbrev pub passed_of : Standard → Signature → List PlacedPiece
 passed_of std s =
-    arguments_from 0 (plan_of std s).places ++ hidden_pieces (plan_of std s).res
+    arguments_from (isa_of std.target) 0 (plan_of std s).places ++ hidden_pieces (plan_of std s).res
 
 -- AND WHAT IT IS GIVEN BACK
 abbrev pub returned_of : Standard → Signature → List PlacedPiece
-returned_of std s = returned_pieces std.returned_address (plan_of std s).res
+returned_of std s =
+    returned_pieces (isa_of std.target) std.returned_address (plan_of std s).res

@@ -6,7 +6,6 @@ ghost use Rattle.ffi3_place_spec.specs.Standard.{plan_of};
 ghost use Rattle.ffi3_place_spec.specs.Sound.{PlaceHasAll};
 ghost use Rattle.ffi3_transfer.specs.Places.{ArgumentIsThere};
 ghost use Rattle.ffi3_explain_spec.specs.Arguments.{least_stack, outside_of, value_by_standard};
-ghost use Rattle.ffi3_explain_spec.specs.Standards.{standard_of};
 ghost use Rattle.ffi3_transfer.specs.Stored.{image_in};
 ghost use Rattle.ffi3_capi.specs.DeclaredBy.{IsDeclaredOn, IsFaultOn};
 ghost use Rattle.ffi3_capi.specs.Entry.{HasOneMore};
@@ -20,20 +19,16 @@ use crate::fault::{FaultKind, fault_with};
 use crate::fill::{fill, fill_bytes, room_status_of_both};
 use crate::placing::target_numbered;
 use crate::status::Refusal;
-use ffi3_aapcs64::Aapcs64;
-use ffi3_amd64::Amd64;
-use ffi3_apple::Apple;
 use ffi3_cif::Placed;
 use ffi3_explain::{Outside, least_stack_of};
 use ffi3_place::{Abi, Place};
 use ffi3_place_spec::Listed;
-use ffi3_riscv::Riscv;
+use ffi3_standards::{ByStandard, on_target};
 use ffi3_transfer::{Registers, outside_of, read_argument};
 use ffi3_type_spec::limits::LARGEST_TYPE;
 use ffi3_type_spec::round_up;
-use ffi3_types::{Bytes, CheckedType, NoMemory, PlacedSig, Sig, Target};
+use ffi3_types::{Bytes, CheckedType, NoMemory, PlacedSig, Sig};
 use ffi3_values::value_from_bytes;
-use ffi3_win64::Win64;
 use std::alloc::Global;
 
 /// What is told of one argument: C's `struct ffi3_argument`.
@@ -213,24 +208,29 @@ fn see_by<A: Abi>(
     })
 }
 
-/// The arguments by the target's calling standard.
-fn see_on(
+/// The arguments of a signature that can be placed, each by itself, from registers and stack.
+#[derive(Drop)]
+struct SeeEach<'a> {
     alloc: Global,
-    target: Target,
     sig: Sig,
-    registers: &Registers,
-    stack: &[u8],
-) -> Result<Seen, Unread>
-    requires { SignatureIsPlaced sig }
-    ensures seen { IfOk result (λ f. AreSeenBy (standard_of target) sig (image_in registers.now stack.now) f) }
-    ensures unseen { IfErr result (λ u. AreUnseenBy (standard_of target) sig (image_in registers.now stack.now) u) }
-{
-    match target {
-        Target::Amd64 => see_by::<Amd64>(alloc, sig, registers, stack),
-        Target::Aapcs64 => see_by::<Aapcs64>(alloc, sig, registers, stack),
-        Target::Riscv => see_by::<Riscv>(alloc, sig, registers, stack),
-        Target::Win64 => see_by::<Win64>(alloc, sig, registers, stack),
-        Target::Apple => see_by::<Apple>(alloc, sig, registers, stack),
+    registers: &'a Registers,
+    stack: &'a [u8],
+    ghost placed: { SignatureIsPlaced sig },
+}
+
+impl<'a> ByStandard for SeeEach<'a> {
+    ghost use Rattle.std.specs.Prelude.{IfOk, IfErr};
+    ghost use Rattle.ffi3_transfer.specs.Stored.{image_in};
+    ghost use Rattle.ffi3_capi.specs.Each.{AreSeenBy, AreUnseenBy};
+
+    type Answer = Result<Seen, Unread>;
+
+    ghost answers = { λ task std r.
+        IfOk r (λ f. AreSeenBy std task.sig (image_in task.registers.now task.stack.now) f)
+        × IfErr r (λ u. AreUnseenBy std task.sig (image_in task.registers.now task.stack.now) u) };
+
+    fn by<A: Abi>(self) -> Result<Seen, Unread> {
+        see_by::<A>(self.alloc, self.sig, self.registers, self.stack)
     }
 }
 
@@ -254,7 +254,13 @@ pub fn see(
         Err(Some(fault)) => return Err(Unread::Call(Refusal::Fault(fault))),
         Err(None) => return Err(Unread::Call(Refusal::NoMemory)),
     };
-    match see_on(alloc, to, sig, registers, stack) {
+    let task = SeeEach {
+        alloc,
+        sig,
+        registers,
+        stack,
+    };
+    match on_target(to, task) {
         Ok(seen) => Ok(seen),
         Err(unseen) => Err(unseen),
     }

@@ -1,7 +1,6 @@
 // The arguments of a function, from registers and stack where it begins.
 ghost use Rattle.std.specs.Prelude.{◌≡◌, IfOk, IfErr};
 ghost use Rattle.ffi3_type_spec.specs.Signature.{SignatureIsPlaced};
-ghost use Rattle.ffi3_explain_spec.specs.Standards.{standard_of};
 ghost use Rattle.ffi3_transfer.specs.Stored.{image_in};
 ghost use Rattle.ffi3_capi.specs.DeclaredBy.{IsDeclaredOn, IsFaultOn};
 ghost use Rattle.ffi3_capi.specs.Entry.{AreFoundBy, AreNotReadBy, AreFound, AreNotRead, Reads, arguments_of, no_arguments, unread_status};
@@ -13,16 +12,12 @@ use crate::fault::{FaultKind, TextFault, fault_with};
 use crate::fill::{fill_bytes, room_status};
 use crate::placing::target_numbered;
 use crate::status::Refusal;
-use ffi3_aapcs64::Aapcs64;
-use ffi3_amd64::Amd64;
-use ffi3_apple::Apple;
 use ffi3_cif::Placed;
 use ffi3_explain::least_stack_of;
 use ffi3_place::Abi;
-use ffi3_riscv::Riscv;
+use ffi3_standards::{ByStandard, on_target};
 use ffi3_transfer::{Registers, first_outside};
-use ffi3_types::{Bytes, PlacedSig, Sig, Target};
-use ffi3_win64::Win64;
+use ffi3_types::{Bytes, PlacedSig, Sig};
 use std::alloc::Global;
 
 /// What is told of arguments beside their bytes: C's `struct ffi3_arguments`.
@@ -167,24 +162,29 @@ fn read_by<A: Abi>(
     })
 }
 
-/// The arguments by the target's calling standard.
-fn read_on(
+/// The arguments of a signature that can be placed, all of them, from registers and stack.
+#[derive(Drop)]
+struct ReadAll<'a> {
     alloc: Global,
-    target: Target,
     sig: Sig,
-    registers: &Registers,
-    stack: &[u8],
-) -> Result<Found, Unread>
-    requires { SignatureIsPlaced sig }
-    ensures found { IfOk result (λ f. AreFoundBy (standard_of target) sig (image_in registers.now stack.now) f) }
-    ensures unread { IfErr result (λ u. AreNotReadBy (standard_of target) sig (image_in registers.now stack.now) u) }
-{
-    match target {
-        Target::Amd64 => read_by::<Amd64>(alloc, sig, registers, stack),
-        Target::Aapcs64 => read_by::<Aapcs64>(alloc, sig, registers, stack),
-        Target::Riscv => read_by::<Riscv>(alloc, sig, registers, stack),
-        Target::Win64 => read_by::<Win64>(alloc, sig, registers, stack),
-        Target::Apple => read_by::<Apple>(alloc, sig, registers, stack),
+    registers: &'a Registers,
+    stack: &'a [u8],
+    ghost placed: { SignatureIsPlaced sig },
+}
+
+impl<'a> ByStandard for ReadAll<'a> {
+    ghost use Rattle.std.specs.Prelude.{IfOk, IfErr};
+    ghost use Rattle.ffi3_transfer.specs.Stored.{image_in};
+    ghost use Rattle.ffi3_capi.specs.Entry.{AreFoundBy, AreNotReadBy};
+
+    type Answer = Result<Found, Unread>;
+
+    ghost answers = { λ task std r.
+        IfOk r (λ f. AreFoundBy std task.sig (image_in task.registers.now task.stack.now) f)
+        × IfErr r (λ u. AreNotReadBy std task.sig (image_in task.registers.now task.stack.now) u) };
+
+    fn by<A: Abi>(self) -> Result<Found, Unread> {
+        read_by::<A>(self.alloc, self.sig, self.registers, self.stack)
     }
 }
 
@@ -209,7 +209,13 @@ pub fn find_arguments(
         Err(Some(fault)) => return Err(Unread::Call(Refusal::Fault(fault))),
         Err(None) => return Err(Unread::Call(Refusal::NoMemory)),
     };
-    match read_on(alloc, to, sig, registers, stack) {
+    let task = ReadAll {
+        alloc,
+        sig,
+        registers,
+        stack,
+    };
+    match on_target(to, task) {
         Ok(found) => Ok(found),
         Err(unread) => Err(unread),
     }

@@ -3,7 +3,7 @@ ghost use Rattle.std.specs.Prelude.{◌≡◌, ◌+◌, ◌<◌, ◌≤◌, ◌^
 ghost use Rattle.std.specs.List.{AllByRecursion};
 ghost use Rattle.ffi3_type_spec.specs.declared.limits.TheConstants.{LARGEST_TYPE};
 ghost use Rattle.ffi3_capi.specs.Within.{EndsWithin, PlaceEndsWithin, ResultEndsWithin};
-ghost use Rattle.ffi3_capi.specs.Pieces.{place_of, number_of, is_packed, rest_of, value_piece, address_piece, goes_on, is_above, is_upper_half, is_x87, whole_x87, joined_to, joined, argument_pieces, arguments_from, hidden_pieces, returned_address, returned_pieces};
+ghost use Rattle.ffi3_capi.specs.Pieces.{place_of, number_of, is_packed, rest_of, value_piece, address_piece, goes_on, has_x87, is_above, is_upper_half, is_x87, whole_x87, joined_to, joined, argument_pieces, arguments_from, hidden_pieces, returned_address, returned_pieces};
 
 use crate::codes::{
     ADDRESS_BYTES, HIDDEN_PART, HOLDS_ADDRESS, HOLDS_BYTES, IN_FLOATING, IN_GENERAL, IN_X87,
@@ -11,6 +11,7 @@ use crate::codes::{
 };
 use ffi3_place::{Ext, Loc, Piece, Pieces, Place, Places, Res};
 use ffi3_place_spec::Listed;
+use ffi3_type_spec::Isa;
 use ffi3_types::NoMemory;
 
 /// Where bytes of an argument or of the result stand, or their address: C's `struct ffi3_piece`.
@@ -138,12 +139,24 @@ fn is_upper_half(piece: PlacedPiece, next: PlacedPiece) -> bool
     is_above(piece, next) && next.length == 8 && next.number as u64 == 32 + piece.number as u64
 }
 
-/// Whether the first has the significand of x87 register `k`, and the second its sign and exponent.
-fn is_x87(k: u32, piece: PlacedPiece, next: PlacedPiece) -> bool
-    requires { k ≤ 1 }
-    ensures { result ≡ is_x87 k piece next }
+/// Whether an instruction set has x87 registers.
+fn has_x87(isa: Isa) -> bool
+    ensures { result ≡ has_x87 isa }
 {
-    is_above(piece, next)
+    match isa {
+        Isa::Amd64 => true,
+        Isa::Aarch64 => false,
+        Isa::Riscv => false,
+    }
+}
+
+/// Whether the first has the significand of x87 register `k`, and the second its sign and exponent.
+fn is_x87(isa: Isa, k: u32, piece: PlacedPiece, next: PlacedPiece) -> bool
+    requires { k ≤ 1 }
+    ensures { result ≡ is_x87 isa k piece next }
+{
+    has_x87(isa)
+        && is_above(piece, next)
         && next.length == 2
         && piece.number == 16 + 2 * k
         && next.number == 17 + 2 * k
@@ -164,12 +177,13 @@ fn whole_x87(k: u32, piece: PlacedPiece, next: PlacedPiece) -> PlacedPiece
 
 /// The piece to which more may be added, with the one behind it. What that does not make longer is whole.
 fn with_next(
+    isa: Isa,
     pieces: &mut PlacedPieces,
     piece: PlacedPiece,
     next: PlacedPiece,
 ) -> Result<PlacedPiece, NoMemory>
     requires { next.offset + next.length ≤ LARGEST_TYPE }
-    ensures { IfOk result (λ p. (rest : List PlacedPiece) → pieces.new ++ joined_to p rest ≡ pieces.old ++ joined_to piece (next ∷ rest)) }
+    ensures { IfOk result (λ p. (rest : List PlacedPiece) → pieces.new ++ joined_to isa p rest ≡ pieces.old ++ joined_to isa piece (next ∷ rest)) }
 {
     if goes_on(piece, next) {
         return Ok(PlacedPiece {
@@ -185,10 +199,10 @@ fn with_next(
             ..piece
         });
     }
-    if is_x87(0, piece, next) {
+    if is_x87(isa, 0, piece, next) {
         return Ok(whole_x87(0, piece, next));
     }
-    if is_x87(1, piece, next) {
+    if is_x87(isa, 1, piece, next) {
         return Ok(whole_x87(1, piece, next));
     }
     pieces.push(piece)?;
@@ -196,39 +210,43 @@ fn with_next(
 }
 
 /// The pieces of a value, those of one register and those on the stack in as few as they make.
-fn join(part: u32, from: &Pieces, pieces: &mut PlacedPieces) -> Result<(), NoMemory>
+fn join(isa: Isa, part: u32, from: &Pieces, pieces: &mut PlacedPieces) -> Result<(), NoMemory>
     requires { AllByRecursion (EndsWithin LARGEST_TYPE) from.now }
-    ensures { OnOk result (pieces.new ≡ pieces.old ++ joined (map (value_piece part) from.now)) }
+    ensures { OnOk result (pieces.new ≡ pieces.old ++ joined isa (map (value_piece part) from.now)) }
 {
     if from.len() == 0 {
         return Ok(());
     }
     let mut piece = value_piece(part, from.get(0));
     for k in 1..from.len() {
-        piece = with_next(pieces, piece, value_piece(part, from.get(k)))?;
+        piece = with_next(isa, pieces, piece, value_piece(part, from.get(k)))?;
     }
     pieces.push(piece)
 }
 
 /// The pieces of an argument.
-fn put_argument(i: u32, place: &Place, pieces: &mut PlacedPieces) -> Result<(), NoMemory>
+fn put_argument(isa: Isa, i: u32, place: &Place, pieces: &mut PlacedPieces) -> Result<(), NoMemory>
     requires { PlaceEndsWithin LARGEST_TYPE place.now }
-    ensures { OnOk result (pieces.new ≡ pieces.old ++ argument_pieces i place.now) }
+    ensures { OnOk result (pieces.new ≡ pieces.old ++ argument_pieces isa i place.now) }
 {
     match place {
-        Place::Direct(from) => join(i, from, pieces),
+        Place::Direct(from) => join(isa, i, from, pieces),
         Place::ByRef { at, copy } => pieces.push(address_piece(i, *at, *copy)),
     }
 }
 
 /// Those of all arguments.
-pub(crate) fn put_arguments(places: &Places, pieces: &mut PlacedPieces) -> Result<(), NoMemory>
+pub(crate) fn put_arguments(
+    isa: Isa,
+    places: &Places,
+    pieces: &mut PlacedPieces,
+) -> Result<(), NoMemory>
     requires within { AllByRecursion (PlaceEndsWithin LARGEST_TYPE) places.now }
     requires few { length places.now < 2 ^ 32 }
-    ensures { OnOk result (pieces.new ≡ pieces.old ++ arguments_from 0 places.now) }
+    ensures { OnOk result (pieces.new ≡ pieces.old ++ arguments_from isa 0 places.now) }
 {
     for i in 0..places.len() {
-        put_argument(i as u32, places.get(i), pieces)?;
+        put_argument(isa, i as u32, places.get(i), pieces)?;
     }
     Ok(())
 }
@@ -246,16 +264,17 @@ pub(crate) fn put_hidden(res: &Res, pieces: &mut PlacedPieces) -> Result<(), NoM
 
 /// Where the result is given back; `register` is that of a buffer's address.
 pub(crate) fn put_returned(
+    isa: Isa,
     register: Option<Loc>,
     res: &Res,
     pieces: &mut PlacedPieces,
 ) -> Result<(), NoMemory>
     requires { ResultEndsWithin LARGEST_TYPE res.now }
-    ensures { OnOk result (pieces.new ≡ pieces.old ++ returned_pieces register res.now) }
+    ensures { OnOk result (pieces.new ≡ pieces.old ++ returned_pieces isa register res.now) }
 {
     match res {
         Res::Nothing => Ok(()),
-        Res::Direct(from) => join(RESULT_PART, from, pieces),
+        Res::Direct(from) => join(isa, RESULT_PART, from, pieces),
         Res::Hidden { buffer, .. } => put_address(register, *buffer, pieces),
     }
 }

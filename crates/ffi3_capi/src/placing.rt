@@ -1,6 +1,6 @@
 // A call of the function that is declared.
 ghost use Rattle.std.specs.Prelude.{◌≡◌, IfOk, IfErr, slice_get};
-ghost use Rattle.ffi3_explain_spec.specs.Standards.{standard_of};
+ghost use Rattle.ffi3_type_spec.specs.TargetIsa.{isa_of};
 ghost use Rattle.ffi3_capi.specs.DeclaredBy.{IsDeclaredOn, IsFaultOn};
 ghost use Rattle.ffi3_capi.specs.Placed.{targets, no_call, placement_of, IsPlacement, IsPlaceRefusal, Places};
 
@@ -9,13 +9,10 @@ use crate::fault::{FaultKind, TextFault, fault_with};
 use crate::fill::{fill, room_status};
 use crate::pieces::{PlacedPiece, PlacedPieces, put_arguments, put_hidden, put_returned};
 use crate::status::Refusal;
-use ffi3_aapcs64::Aapcs64;
-use ffi3_amd64::Amd64;
-use ffi3_apple::Apple;
 use ffi3_place::Abi;
-use ffi3_riscv::Riscv;
+use ffi3_standards::{ByStandard, on_target};
+use ffi3_type_spec::Isa;
 use ffi3_types::{NoMemory, PlacedSig, Target};
-use ffi3_win64::Win64;
 use std::alloc::Global;
 
 /// The bytes of stack that a call takes, and how many pieces tell where everything stands: C's `struct ffi3_call`.
@@ -76,17 +73,25 @@ fn no_call(fault: TextFault) -> PlacedCall
     }
 }
 
+/// The instruction set of the machine that a calling standard is for.
+fn isa_by<A: Abi>() -> Isa
+    ensures { result ≡ isa_of A.standard.target }
+{
+    A::TARGET.isa()
+}
+
 /// Where everything stands by a calling standard.
 fn placed<A: Abi>(alloc: Global, sig: &PlacedSig<'_>) -> Result<Placement, NoMemory>
     ensures { IfOk result (λ p. p ≡ placement_of A.standard sig.now) }
 {
     let count = sig.count();
+    let isa = isa_by::<A>();
     let plan = A::plan(alloc, sig.as_sig())?;
     let mut pieces = PlacedPieces::new(alloc);
-    put_arguments(&plan.places, &mut pieces)?;
+    put_arguments(isa, &plan.places, &mut pieces)?;
     put_hidden(&plan.res, &mut pieces)?;
     let passed = pieces.len();
-    put_returned(A::returned_address(), &plan.res, &mut pieces)?;
+    put_returned(isa, A::returned_address(), &plan.res, &mut pieces)?;
     let call = PlacedCall {
         need: plan.need as usize,
         frame: plan.frame as usize,
@@ -100,16 +105,20 @@ fn placed<A: Abi>(alloc: Global, sig: &PlacedSig<'_>) -> Result<Placement, NoMem
     Ok(Placement { call, pieces })
 }
 
-/// Where everything stands by the target's calling standard.
-fn placed_on(alloc: Global, target: Target, sig: &PlacedSig<'_>) -> Result<Placement, NoMemory>
-    ensures { IfOk result (λ p. p ≡ placement_of (standard_of target) sig.now) }
-{
-    match target {
-        Target::Amd64 => placed::<Amd64>(alloc, sig),
-        Target::Aapcs64 => placed::<Aapcs64>(alloc, sig),
-        Target::Riscv => placed::<Riscv>(alloc, sig),
-        Target::Win64 => placed::<Win64>(alloc, sig),
-        Target::Apple => placed::<Apple>(alloc, sig),
+/// Where everything stands in a call of this signature.
+#[derive(Drop)]
+struct PlaceAll<'a> {
+    alloc: Global,
+    sig: PlacedSig<'a>,
+}
+
+impl<'a> ByStandard for PlaceAll<'a> {
+    type Answer = Result<Placement, NoMemory>;
+
+    ghost answers = { λ task std r. IfOk r (λ p. p ≡ placement_of std task.sig) };
+
+    fn by<A: Abi>(self) -> Result<Placement, NoMemory> {
+        placed::<A>(self.alloc, &self.sig)
     }
 }
 
@@ -130,7 +139,11 @@ pub fn find_placement(
         Err(Some(fault)) => return Err(Refusal::Fault(fault)),
         Err(None) => return Err(Refusal::NoMemory),
     };
-    match placed_on(alloc, to, &PlacedSig::of(&sig)) {
+    let task = PlaceAll {
+        alloc,
+        sig: PlacedSig::of(&sig),
+    };
+    match on_target(to, task) {
         Ok(found) => Ok(found),
         Err(_) => Err(Refusal::NoMemory),
     }

@@ -7,7 +7,6 @@ ghost use Rattle.ffi3_type_spec.specs.Signature.{SignatureIsPlaced};
 ghost use Rattle.ffi3_place_spec.specs.MachineRegisters.{to_list};
 ghost use Rattle.ffi3_place_spec.specs.Sound.{IsWithin};
 ghost use Rattle.ffi3_explain_spec.specs.Explain.{first_bytes};
-ghost use Rattle.ffi3_explain_spec.specs.Standards.{standard_of};
 ghost use Rattle.ffi3_transfer.specs.Places.{CanBeRead, HasPlace};
 ghost use Rattle.ffi3_transfer.specs.Stored.{image_in};
 ghost use Rattle.ffi3_capi.specs.DeclaredBy.{IsDeclaredOn, IsFaultOn};
@@ -19,16 +18,12 @@ use crate::fault::{FaultKind, TextFault, fault_with};
 use crate::fill::{fill_bytes, room_status};
 use crate::placing::target_numbered;
 use crate::status::Refusal;
-use ffi3_aapcs64::Aapcs64;
-use ffi3_amd64::Amd64;
-use ffi3_apple::Apple;
 use ffi3_cif::Placed;
 use ffi3_place::{Abi, Loc, Pieces, Res};
-use ffi3_riscv::Riscv;
+use ffi3_standards::{ByStandard, on_target};
 use ffi3_transfer::{Registers, offset_in, place_word, read_pieces};
 use ffi3_type_spec::limits::LARGEST_TYPE;
-use ffi3_types::{Bytes, CheckedType, NoMemory, Sig, Target};
-use ffi3_win64::Win64;
+use ffi3_types::{Bytes, CheckedType, NoMemory, Sig};
 use std::alloc::Global;
 
 /// What is told of a result beside its bytes: C's `struct ffi3_result`.
@@ -195,24 +190,29 @@ fn find_by<A: Abi>(
     }
 }
 
-/// The result by the target's calling standard.
-fn find_on(
+/// The result of a signature that can be placed, from registers and stack.
+#[derive(Drop)]
+struct FindResult<'a> {
     alloc: Global,
-    target: Target,
     sig: Sig,
-    registers: &Registers,
-    stack: &[u8],
-) -> Result<FoundResult, Unfound>
-    requires { SignatureIsPlaced sig }
-    ensures found { IfOk result (λ f. IsFoundBy (standard_of target) sig (image_in registers.now stack.now) f) }
-    ensures unfound { IfErr result (λ u. IsNotFoundBy (standard_of target) sig (image_in registers.now stack.now) u) }
-{
-    match target {
-        Target::Amd64 => find_by::<Amd64>(alloc, sig, registers, stack),
-        Target::Aapcs64 => find_by::<Aapcs64>(alloc, sig, registers, stack),
-        Target::Riscv => find_by::<Riscv>(alloc, sig, registers, stack),
-        Target::Win64 => find_by::<Win64>(alloc, sig, registers, stack),
-        Target::Apple => find_by::<Apple>(alloc, sig, registers, stack),
+    registers: &'a Registers,
+    stack: &'a [u8],
+    ghost placed: { SignatureIsPlaced sig },
+}
+
+impl<'a> ByStandard for FindResult<'a> {
+    ghost use Rattle.std.specs.Prelude.{IfOk, IfErr};
+    ghost use Rattle.ffi3_transfer.specs.Stored.{image_in};
+    ghost use Rattle.ffi3_capi.specs.Returned.{IsFoundBy, IsNotFoundBy};
+
+    type Answer = Result<FoundResult, Unfound>;
+
+    ghost answers = { λ task std r.
+        IfOk r (λ f. IsFoundBy std task.sig (image_in task.registers.now task.stack.now) f)
+        × IfErr r (λ u. IsNotFoundBy std task.sig (image_in task.registers.now task.stack.now) u) };
+
+    fn by<A: Abi>(self) -> Result<FoundResult, Unfound> {
+        find_by::<A>(self.alloc, self.sig, self.registers, self.stack)
     }
 }
 
@@ -237,7 +237,13 @@ pub fn find_result(
         Err(Some(fault)) => return Err(Unfound::Call(Refusal::Fault(fault))),
         Err(None) => return Err(Unfound::Call(Refusal::NoMemory)),
     };
-    match find_on(alloc, to, sig, registers, stack) {
+    let task = FindResult {
+        alloc,
+        sig,
+        registers,
+        stack,
+    };
+    match on_target(to, task) {
         Ok(found) => Ok(found),
         Err(unfound) => Err(unfound),
     }

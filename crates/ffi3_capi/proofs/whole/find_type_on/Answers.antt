@@ -1,5 +1,4 @@
 use Rattle.std.proofs.Common.{rules}
-use Rattle.ffi3_capi.specs.Faults.{fault_of_value}
 use Rattle.ffi3_capi.specs.Formats.{long_double_on}
 use Rattle.ffi3_capi.proofs.ByNodes.{of_more_types, of_no_function}
 use Rattle.ffi3_capi.proofs.whole.find_type_on.Goals as goal
