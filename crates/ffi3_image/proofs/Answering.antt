@@ -4,7 +4,6 @@ use Rattle.std.specs.Prelude.{Result, IfOk, ⊤}
 use Rattle.std.proofs.lemmas.Result.{IfOk-weaker}
 use Rattle.serde_json.specs.Data.{Data}
 use Rattle.ffi3_type_spec.specs.declared.Isa.{Isa}
-use Rattle.ffi3_type_spec.specs.declared.Target.{Target}
 use Rattle.ffi3_type_spec.specs.TargetIsa.{isa_of}
 use Rattle.ffi3_type_spec.specs.Signature.{Signature}
 use Rattle.ffi3_type_spec.specs.Value.{ValueTree}
@@ -80,12 +79,7 @@ pub room_answered : (question : Question) (std : Standard) (s : Signature) (m : 
 room_answered question std s m a b room same is =
     same ∙ sym is ∙ sym (ap (answer_if_room question std s m) room)
 
--- ---- by the standard of a target
-
-pub answered_by : {E : Type 0} (answer : Standard → Answer) (t u : Target) (r : Result CodeAnswer E) → t ≡ u → IfOk r (λ a. answer_of a ≡ answer (standard_of u)) → IfOk r (λ a. answer_of a ≡ answer (standard_of t))
-answered_by answer t u r is h =
-    let P = λ (x : Target). IfOk r (λ a. answer_of a ≡ answer (standard_of x)) in
-    subst P (sym is) h
+-- ---- of what is given
 
 -- of the same signature
 pub answered_for : {E : Type 0} (answer : Signature → Answer) (s t : Signature) (r : Result CodeAnswer E) → s ≡ t → IfOk r (λ a. answer_of a ≡ answer s) → IfOk r (λ a. answer_of a ≡ answer t)

@@ -16,18 +16,14 @@ use crate::lines::{
 };
 use crate::room::{buffer_address, room_for_arguments, room_for_explain};
 use crate::{ImageFault, read_snapshot};
-use ffi3_aapcs64::Aapcs64;
-use ffi3_amd64::Amd64;
-use ffi3_apple::Apple;
 use ffi3_cif::Cif;
 use ffi3_explain::{Image, Unexplained, Unread, arguments, explain};
 use ffi3_image_spec::Question;
 use ffi3_place::Abi;
-use ffi3_riscv::Riscv;
+use ffi3_standards::{ByStandard, on_target};
 use ffi3_type_spec::Target;
 use ffi3_types::{Bytes, CheckedSig, NoMemory};
 use ffi3_values::Values;
-use ffi3_win64::Win64;
 use std::alloc::Global;
 
 /// What is answered to an input that is to describe an image.
@@ -50,9 +46,29 @@ pub fn answer_question(alloc: Global, question: Question, bytes: &[u8]) -> Resul
     match read_snapshot(alloc, bytes) {
         Ok(snapshot) => {
             let sig = CheckedSig::of(&snapshot.sig);
-            answer_about(alloc, question, snapshot.target, &sig, &snapshot.image)
+            answer_about(alloc, question, snapshot.target, sig, &snapshot.image)
         }
         Err(fault) => refusal(alloc, &fault),
+    }
+}
+
+// A question about an image at the entry of a function of a signature.
+#[derive(Drop)]
+struct Asked<'a> {
+    alloc: Global,
+    question: Question,
+    sig: CheckedSig<'a>,
+    image: &'a Image,
+}
+
+impl<'a> ByStandard for Asked<'a> {
+    type Answer = Result<Answer, NoMemory>;
+
+    ghost answers = { λ task std r.
+        IfOk r (λ a. answer_of a ≡ answer_about task.question std task.sig (image_of task.image.now)) };
+
+    fn by<A: Abi>(self) -> Result<Answer, NoMemory> {
+        answer_by::<A>(self.alloc, self.question, &self.sig, self.image)
     }
 }
 
@@ -61,18 +77,18 @@ fn answer_about(
     alloc: Global,
     question: Question,
     target: Target,
-    sig: &CheckedSig<'_>,
+    sig: CheckedSig<'_>,
     image: &Image,
 ) -> Result<Answer, NoMemory>
-    ensures { IfOk result (λ a. answer_of a ≡ answer_about question (standard_of target) sig.now (image_of image.now)) }
+    ensures { IfOk result (λ a. answer_of a ≡ answer_about question (standard_of target) sig.entry (image_of image.now)) }
 {
-    match target {
-        Target::Amd64 => answer_by::<Amd64>(alloc, question, sig, image),
-        Target::Aapcs64 => answer_by::<Aapcs64>(alloc, question, sig, image),
-        Target::Riscv => answer_by::<Riscv>(alloc, question, sig, image),
-        Target::Win64 => answer_by::<Win64>(alloc, question, sig, image),
-        Target::Apple => answer_by::<Apple>(alloc, question, sig, image),
-    }
+    let task = Asked {
+        alloc,
+        question,
+        sig,
+        image,
+    };
+    on_target(target, task)
 }
 
 // By a calling standard.
