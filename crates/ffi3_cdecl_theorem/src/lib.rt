@@ -1,4 +1,4 @@
-//! What is told of a text that is no C declaration, and what a text is read as by formats, are each one thing: theorems.
+//! Theorems of C declarations: one thing is told of an unexpected place, and a text has one reading with each format.
 #![tactic(auto)]
 
 ghost use Rattle.ffi3_cdecl_theorem.specs.Laws.{ToldLaws, FormatLaws};
