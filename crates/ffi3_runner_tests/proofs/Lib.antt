@@ -1,1 +1,6 @@
+mod Entered
 mod Moving
+mod Popped
+mod Right
+mod Shown
+mod Single

@@ -1,8 +1,11 @@
 //! The natives of this library in a run.
-use crate::scripts::{alike, check};
-use crate::{Native, RunEnd};
+use crate::scripts::{Wanted, alike, check};
+use ffi3_body::Native;
+use ffi3_machine::NoMemory;
 use ffi3_natives::{Apply, Sum3, Twice};
-use std::test::Fail;
+use ffi3_runner::RunEnd;
+use std::alloc::Global;
+use std::process::Abort;
 
 /// `twice` of a function that calls `apply` on another function.
 const TWICE: &str =
@@ -12,13 +15,23 @@ const TWICE: &str =
 const SUM: &str =
     r#"{"version":1,"signatures":[{"ret":"sint64","args":["sint64","sint64","sint64"]}],"functions":[],"main":[{"make":"sum3","as":"p"},{"call":{"res":"p"},"sig":0,"args":[9223372036854775807,1,5],"as":"r"},{"print":{"res":"r"}},{"return":null}]}"#;
 
-#[test]
-fn natives_call_closures(rt: HostRuntime) -> Result<(), Fail> {
-    let alloc = rt.alloc();
+/// A script beside the three natives, by each standard.
+fn check_beside(
+    rt: &impl Abort,
+    alloc: Global,
+    script: &str,
+    wanted: &[Wanted; 4],
+) -> Result<(), NoMemory> {
     let mut natives: Vec<Box<dyn Native>> = Vec::new(alloc);
     natives.push(Box::new(alloc, Apply::new(alloc)?)?)?;
     natives.push(Box::new(alloc, Twice::new(alloc)?)?)?;
     natives.push(Box::new(alloc, Sum3::new(alloc)?)?)?;
+    check(rt, alloc, &natives, script, wanted);
+    Ok(())
+}
+
+#[test]
+fn natives_call_closures(rt: HostRuntime) {
     let twice = alike(
         "20\n",
         RunEnd::Done,
@@ -26,7 +39,7 @@ fn natives_call_closures(rt: HostRuntime) -> Result<(), Fail> {
         14,
         [0x7FFE_FEC0, 0x7FFE_FD00, 0x7FFE_FC80, 0x7FFE_FCC0],
     );
-    check(&rt, alloc, &natives, TWICE, &twice)?;
+    check_beside(&rt, rt.alloc(), TWICE, &twice).expect(&rt, "memory");
     let sum = alike(
         "-9223372036854775803\n",
         RunEnd::Done,
@@ -34,5 +47,5 @@ fn natives_call_closures(rt: HostRuntime) -> Result<(), Fail> {
         2,
         [0x7FFE_FFA0, 0x7FFE_FF30, 0x7FFE_FF10, 0x7FFE_FF20],
     );
-    check(&rt, alloc, &natives, SUM, &sum)
+    check_beside(&rt, rt.alloc(), SUM, &sum).expect(&rt, "memory");
 }

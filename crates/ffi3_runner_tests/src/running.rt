@@ -1,5 +1,5 @@
 //! A script that is run from a machine as it begins.
-ghost use Rattle.std.specs.Prelude.{◌<◌, ◌≤◌, ◌^◌, IfOk, IfSome, length};
+ghost use Rattle.std.specs.Prelude.{◌<◌, ◌≤◌, ◌^◌, length};
 ghost use Rattle.ffi3_script.specs.ScriptOf.{natives_of};
 ghost use Rattle.ffi3_script_spec.specs.Handed.{handed, signatures_in};
 
@@ -10,6 +10,7 @@ use ffi3_place::Abi;
 use ffi3_runner::{RunEnd, Runner};
 use ffi3_script::{Names, Script, read_script};
 use std::alloc::Global;
+use std::process::Abort;
 
 /// How many bytes an output has room for.
 const ROOM: usize = 65_536;
@@ -39,60 +40,62 @@ fn names_of(alloc: Global, natives: &Vec<Box<dyn Native>>) -> Result<Names, NoMe
     Ok(names)
 }
 
-/// The script that the text is beside the natives; none where it is no script.
+/// The script that the text is beside the natives.
 pub fn read_beside(
+    rt: &impl Abort,
     alloc: Global,
     natives: &Vec<Box<dyn Native>>,
     text: &str,
-) -> Result<Option<Script>, NoMemory>
+) -> Script
     requires { length natives.now.items < 2 ^ 31 }
-    ensures { IfOk result (λ o. IfSome o (λ s. natives_of s ≤ length natives.now.items)) }
+    ensures { natives_of result ≤ length natives.now.items }
 {
-    let names = names_of(alloc, natives)?;
-    if names.len() > natives.len() {
-        return Ok(None);
-    }
-    match read_script(alloc, text.as_bytes(), &names) {
-        Ok(script) => Ok(Some(script)),
-        Err(_) => Ok(None),
-    }
+    let names = names_of(alloc, natives).expect(rt, "memory");
+    assert!(rt; names.len() <= natives.len());
+    let Ok(script) = read_script(alloc, text.as_bytes(), &names) else {
+        panic!(rt; "no script");
+    };
+    script
 }
 
-// Runs a script.
+// Runs a script from this machine, which begins. Tells the end, and how many moves are left.
 fn run<A: Abi>(
     alloc: Global,
+    machine: &mut Machine,
+    output: &mut MemSink,
     natives: &Vec<Box<dyn Native>>,
     script: &Script,
-) -> Result<Ran, NoMemory>
+) -> Result<(RunEnd, u32), NoMemory>
     requires beside { natives_of script.now ≤ length natives.now.items }
     requires few_natives { length natives.now.items < 2 ^ 31 }
     requires few_signatures { length (signatures_in (handed title meaning signatures natives.now.items)) < 2 ^ 31 }
 {
-    let mut machine = Machine::new(alloc)?;
     machine.begin(A::TARGET);
-    let mut output = MemSink::new(alloc, ROOM, Vec::new(alloc))?;
     let mut runner = Runner::<A>::new(alloc, script, natives)?;
-    let end = runner.run_main(&mut machine, &mut output, false);
-    let moves_left = runner.moves_left();
-    Ok(Ran {
+    let end = runner.run_main(machine, output, false);
+    Ok((end, runner.moves_left()))
+}
+
+/// Runs the script that the text is beside the natives, by the standard `A`.
+pub fn run_script<A: Abi>(
+    rt: &impl Abort,
+    alloc: Global,
+    natives: &Vec<Box<dyn Native>>,
+    text: &str,
+) -> Ran
+    requires few_natives { length natives.now.items < 2 ^ 31 }
+    requires few_signatures { length (signatures_in (handed title meaning signatures natives.now.items)) < 2 ^ 31 }
+{
+    let script = read_beside(rt, alloc, natives, text);
+    let mut machine = Machine::new(alloc).expect(rt, "memory");
+    let mut output = MemSink::new(alloc, ROOM, Vec::new(alloc)).expect(rt, "memory");
+    let (end, moves_left) = run::<A>(alloc, &mut machine, &mut output, natives, &script).expect(
+        rt, "memory",
+    );
+    Ran {
         end,
         output,
         moves_left,
         machine,
-    })
-}
-
-/// Runs the script that the text is beside the natives, by the standard `A`; none where it is no script.
-pub fn run_script<A: Abi>(
-    alloc: Global,
-    natives: &Vec<Box<dyn Native>>,
-    text: &str,
-) -> Result<Option<Ran>, NoMemory>
-    requires few_natives { length natives.now.items < 2 ^ 31 }
-    requires few_signatures { length (signatures_in (handed title meaning signatures natives.now.items)) < 2 ^ 31 }
-{
-    match read_beside(alloc, natives, text)? {
-        Some(script) => Ok(Some(run::<A>(alloc, natives, &script)?)),
-        None => Ok(None),
     }
 }

@@ -2,17 +2,18 @@
 ghost use Rattle.std.specs.Prelude.{◌<◌, ◌^◌, length};
 ghost use Rattle.ffi3_script_spec.specs.Handed.{handed, signatures_in};
 
-use crate::{Native, Ran, RunEnd, Stop, run_script};
+use crate::running::{Ran, run_script};
 use ffi3_aapcs64::Aapcs64;
 use ffi3_amd64::Amd64;
 use ffi3_apple::Apple;
+use ffi3_body::Native;
 use ffi3_machine::Target;
 use ffi3_place::Abi;
 use ffi3_riscv::Riscv;
+use ffi3_runner::{RunEnd, Stop};
 use ffi3_win64::Win64;
 use std::alloc::Global;
 use std::process::Abort;
-use std::test::Fail;
 
 /// What a run must come to.
 #[derive(Clone, Copy)]
@@ -56,15 +57,12 @@ fn check_by<A: Abi>(
     natives: &Vec<Box<dyn Native>>,
     script: &str,
     wanted: &Wanted,
-) -> Result<(), Fail>
+)
     requires few_natives { length natives.now.items < 2 ^ 31 }
     requires few_signatures { length (signatures_in (handed title meaning signatures natives.now.items)) < 2 ^ 31 }
 {
-    let Some(ran) = run_script::<A>(alloc, natives, script)? else {
-        return Err("no script".into());
-    };
+    let ran = run_script::<A>(rt, alloc, natives, script);
     check_ran(rt, &ran, wanted, steps_of_a_call(A::TARGET));
-    Ok(())
 }
 
 /// Runs a script by AMD64, AAPCS64, RISC-V and Microsoft x64, and by Apple's standard, which places as AAPCS64 does where
@@ -75,15 +73,21 @@ pub fn check(
     natives: &Vec<Box<dyn Native>>,
     script: &str,
     wanted: &[Wanted; 4],
-) -> Result<(), Fail>
+)
     requires few_natives { length natives.now.items < 2 ^ 31 }
     requires few_signatures { length (signatures_in (handed title meaning signatures natives.now.items)) < 2 ^ 31 }
 {
-    check_by::<Amd64>(rt, alloc, natives, script, &wanted[0])?;
-    check_by::<Aapcs64>(rt, alloc, natives, script, &wanted[1])?;
-    check_by::<Riscv>(rt, alloc, natives, script, &wanted[2])?;
-    check_by::<Win64>(rt, alloc, natives, script, &wanted[3])?;
-    check_by::<Apple>(rt, alloc, natives, script, &wanted[1])
+    check_by::<Amd64>(rt, alloc, natives, script, &wanted[0]);
+    check_by::<Aapcs64>(rt, alloc, natives, script, &wanted[1]);
+    check_by::<Riscv>(rt, alloc, natives, script, &wanted[2]);
+    check_by::<Win64>(rt, alloc, natives, script, &wanted[3]);
+    check_by::<Apple>(rt, alloc, natives, script, &wanted[1]);
+}
+
+/// The same with no native beside the script.
+fn check_alone(rt: &impl Abort, alloc: Global, script: &str, wanted: &[Wanted; 4]) {
+    let natives: Vec<Box<dyn Native>> = Vec::new(alloc);
+    check(rt, alloc, &natives, script, wanted);
 }
 
 /// The same run by each standard, but for the lowest address that it writes.
@@ -130,9 +134,7 @@ const COUNTDOWN: &str =
     r#"{"version":1,"signatures":[{"ret":"sint32","args":["sint32"]}],"functions":[{"name":"f","sig":0,"body":[{"call":65536,"sig":0,"args":[{"sub":[{"arg":0},1]}],"as":"r","when":{"arg":0}},{"return":{"add":[{"arg":0},{"res":"r"}]}}]}],"main":[{"make":"f","as":"p"},{"call":{"res":"p"},"sig":0,"args":[4],"as":"r"},{"print":{"res":"r"}},{"return":null}]}"#;
 
 #[test]
-fn callbacks_four_deep(rt: HostRuntime) -> Result<(), Fail> {
-    let alloc = rt.alloc();
-    let natives: Vec<Box<dyn Native>> = Vec::new(alloc);
+fn callbacks_four_deep(rt: HostRuntime) {
     let wanted = alike(
         "51\n",
         RunEnd::Done,
@@ -140,13 +142,11 @@ fn callbacks_four_deep(rt: HostRuntime) -> Result<(), Fail> {
         8,
         [0x7FFE_FEC0, 0x7FFE_FD00, 0x7FFE_FC80, 0x7FFE_FCC0],
     );
-    check(&rt, alloc, &natives, FOUR_DEEP, &wanted)
+    check_alone(&rt, rt.alloc(), FOUR_DEEP, &wanted);
 }
 
 #[test]
-fn recursion_without_end(rt: HostRuntime) -> Result<(), Fail> {
-    let alloc = rt.alloc();
-    let natives: Vec<Box<dyn Native>> = Vec::new(alloc);
+fn recursion_without_end(rt: HostRuntime) {
     let wanted = [
         Wanted {
             text: "stop: move limit\n",
@@ -186,13 +186,11 @@ fn recursion_without_end(rt: HostRuntime) -> Result<(), Fail> {
             mark: 0x7FEF_0040,
         },
     ];
-    check(&rt, alloc, &natives, ENDLESS, &wanted)
+    check_alone(&rt, rt.alloc(), ENDLESS, &wanted);
 }
 
 #[test]
-fn a_closure_frees_itself(rt: HostRuntime) -> Result<(), Fail> {
-    let alloc = rt.alloc();
-    let natives: Vec<Box<dyn Native>> = Vec::new(alloc);
+fn a_closure_frees_itself(rt: HostRuntime) {
     let stop = Stop::WrongSig {
         ptr: 0x1_0000,
         site: 1,
@@ -205,13 +203,11 @@ fn a_closure_frees_itself(rt: HostRuntime) -> Result<(), Fail> {
         4,
         [0x7FFE_FFC0, 0x7FFE_FF50, 0x7FFE_FF30, 0x7FFE_FF40],
     );
-    check(&rt, alloc, &natives, FREES_ITSELF, &wanted)
+    check_alone(&rt, rt.alloc(), FREES_ITSELF, &wanted);
 }
 
 #[test]
-fn structs_around_an_inner_call(rt: HostRuntime) -> Result<(), Fail> {
-    let alloc = rt.alloc();
-    let natives: Vec<Box<dyn Native>> = Vec::new(alloc);
+fn structs_around_an_inner_call(rt: HostRuntime) {
     let wanted = alike(
         "{-7,0000803f}\n000000000000f03f\n{300,25,1}\n",
         RunEnd::Done,
@@ -219,13 +215,11 @@ fn structs_around_an_inner_call(rt: HostRuntime) -> Result<(), Fail> {
         4,
         [0x7FFE_FF00, 0x7FFE_FE30, 0x7FFE_FDF0, 0x7FFE_FE00],
     );
-    check(&rt, alloc, &natives, STRUCTS, &wanted)
+    check_alone(&rt, rt.alloc(), STRUCTS, &wanted);
 }
 
 #[test]
-fn a_countdown(rt: HostRuntime) -> Result<(), Fail> {
-    let alloc = rt.alloc();
-    let natives: Vec<Box<dyn Native>> = Vec::new(alloc);
+fn a_countdown(rt: HostRuntime) {
     let wanted = alike(
         "10\n",
         RunEnd::Done,
@@ -233,5 +227,5 @@ fn a_countdown(rt: HostRuntime) -> Result<(), Fail> {
         10,
         [0x7FFE_FE70, 0x7FFE_FC40, 0x7FFE_FBA0, 0x7FFE_FBF0],
     );
-    check(&rt, alloc, &natives, COUNTDOWN, &wanted)
+    check_alone(&rt, rt.alloc(), COUNTDOWN, &wanted);
 }

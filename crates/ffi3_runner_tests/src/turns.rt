@@ -4,30 +4,21 @@ ghost use Rattle.std.specs.Prelude.{◌<◌, ◌≤◌, ◌^◌, length};
 ghost use Rattle.ffi3_script.specs.ScriptOf.{natives_of};
 ghost use Rattle.ffi3_script_spec.specs.Handed.{handed, signatures_in};
 
-use crate::{Native, Stop, read_beside};
+use crate::running::read_beside;
 use ffi3_amd64::Amd64;
+use ffi3_body::Native;
 use ffi3_io::{MemSink, write_all};
 use ffi3_machine::{Machine, NoMemory};
 use ffi3_place::Abi;
-use ffi3_runner::{Runner, Turn};
+use ffi3_runner::{Runner, Stop, Turn};
 use ffi3_script::Script;
 use ffi3_win64::Win64;
 use std::alloc::Global;
 use std::mem;
 use std::process::Abort;
-use std::test::Fail;
 
 /// How many bytes each output has room for.
 const ROOM: usize = 1_024;
-
-/// A run that has ended, the output of its last move, and the other one.
-#[derive(Drop)]
-struct Turns {
-    end: Turn,
-    last: MemSink,
-    other: MemSink,
-    moves_left: u32,
-}
 
 /// How the caller of a run's moves goes on: what it writes itself after each move but the last, into the output of that
 /// move, and whether each second move is traced.
@@ -36,36 +27,32 @@ struct Caller {
     traces: bool,
 }
 
-/// Does the moves of main on this machine, which begins, each second one into a second output.
+/// Does the moves of main on this machine, which begins, each second one into a second output. At the end the output of
+/// the last move stands first. Tells the end, and how many moves are left.
 fn take_turns<A: Abi>(
     alloc: Global,
     machine: &mut Machine,
+    output: &mut MemSink,
+    other: &mut MemSink,
     natives: &Vec<Box<dyn Native>>,
     script: &Script,
     caller: &Caller,
-) -> Result<Turns, NoMemory>
+) -> Result<(Turn, u32), NoMemory>
     requires beside { natives_of script.now ≤ length natives.now.items }
     requires few_natives { length natives.now.items < 2 ^ 31 }
     requires few_signatures { length (signatures_in (handed title meaning signatures natives.now.items)) < 2 ^ 31 }
 {
     machine.begin(A::TARGET);
-    let mut output = MemSink::new(alloc, ROOM, Vec::new(alloc))?;
-    let mut other = MemSink::new(alloc, ROOM, Vec::new(alloc))?;
     let mut runner = Runner::<A>::new(alloc, script, natives)?;
     runner.start();
     let mut second = false;
     loop {
-        let end = runner.turn(machine, &mut output, second && caller.traces);
+        let end = runner.turn(machine, output, second && caller.traces);
         if end != Turn::More {
-            return Ok(Turns {
-                end,
-                last: output,
-                other,
-                moves_left: runner.moves_left(),
-            });
+            return Ok((end, runner.moves_left()));
         }
-        let _told = write_all(&mut output, caller.between.as_bytes());
-        mem::swap(&mut output, &mut other);
+        let _told = write_all(output, caller.between.as_bytes());
+        mem::swap(output, other);
         second = !second;
     }
 }
@@ -87,18 +74,28 @@ fn check_script<A: Abi>(
     script: &Script,
     caller: &Caller,
     wanted: &Wanted,
-) -> Result<(), Fail>
+)
     requires beside { natives_of script.now ≤ length natives.now.items }
     requires few_natives { length natives.now.items < 2 ^ 31 }
     requires few_signatures { length (signatures_in (handed title meaning signatures natives.now.items)) < 2 ^ 31 }
 {
-    let mut machine = Machine::new(alloc)?;
-    let turns = take_turns::<A>(alloc, &mut machine, natives, script, caller)?;
-    assert!(rt; turns.end == wanted.end);
-    assert!(rt; turns.last.taken() == wanted.last.as_bytes());
-    assert!(rt; turns.other.taken() == wanted.other.as_bytes());
-    assert!(rt; turns.moves_left == wanted.moves_left);
-    Ok(())
+    let mut machine = Machine::new(alloc).expect(rt, "memory");
+    let mut last = MemSink::new(alloc, ROOM, Vec::new(alloc)).expect(rt, "memory");
+    let mut other = MemSink::new(alloc, ROOM, Vec::new(alloc)).expect(rt, "memory");
+    let (end, moves_left) = take_turns::<A>(
+        alloc,
+        &mut machine,
+        &mut last,
+        &mut other,
+        natives,
+        script,
+        caller,
+    )
+    .expect(rt, "memory");
+    assert!(rt; end == wanted.end);
+    assert!(rt; last.taken() == wanted.last.as_bytes());
+    assert!(rt; other.taken() == wanted.other.as_bytes());
+    assert!(rt; moves_left == wanted.moves_left);
 }
 
 /// The same of the script that the text is, with no native beside it.
@@ -108,12 +105,10 @@ fn check_turns<A: Abi>(
     text: &str,
     caller: &Caller,
     wanted: &Wanted,
-) -> Result<(), Fail> {
+) {
     let natives: Vec<Box<dyn Native>> = Vec::new(alloc);
-    let Some(script) = read_beside(alloc, &natives, text)? else {
-        return Err("no script".into());
-    };
-    check_script::<A>(rt, alloc, &natives, &script, caller, wanted)
+    let script = read_beside(rt, alloc, &natives, text);
+    check_script::<A>(rt, alloc, &natives, &script, caller, wanted);
 }
 
 const TRACES: Caller = Caller {
@@ -156,36 +151,36 @@ const TREE: &str =
     r#"{"version":1,"signatures":[{"ret":"void","args":["sint32"]}],"functions":[{"name":"f","sig":0,"body":[{"call":65536,"sig":0,"args":[{"sub":[{"arg":0},1]}],"when":{"arg":0}},{"call":65536,"sig":0,"args":[{"sub":[{"arg":0},1]}],"when":{"arg":0}},{"return":null}]}],"main":[{"make":"f","as":"p"},{"call":{"res":"p"},"sig":0,"args":[12]},{"return":null}]}"#;
 
 #[test]
-fn one_move_a_turn(rt: HostRuntime) -> Result<(), Fail> {
+fn one_move_a_turn(rt: HostRuntime) {
     let wanted = Wanted {
         end: Turn::Done,
         last: "-\n-\n",
         other: "enter 0x10000 sp 0x7ffefff8 (41)\nkeep a5a5000000000003 a5a5000000000005 a5a500000000000c a5a500000000000d a5a500000000000e a5a500000000000f\n-\n42\n-\n",
         moves_left: 9_995,
     };
-    check_turns::<Amd64>(&rt, rt.alloc(), CALL, &TRACES, &wanted)?;
+    check_turns::<Amd64>(&rt, rt.alloc(), CALL, &TRACES, &wanted);
     let by_win64 = Wanted {
         end: Turn::Done,
         last: "-\n-\n",
         other: "enter 0x10000 sp 0x7ffeffd8 (41)\nkeep a5a5000000000003 a5a5000000000005 a5a5000000000007 a5a5000000000006 a5a500000000000c a5a500000000000d a5a500000000000e a5a500000000000f 5a5a000000000006 5a5a000000000007 5a5a000000000008 5a5a000000000009 5a5a00000000000a 5a5a00000000000b 5a5a00000000000c 5a5a00000000000d 5a5a00000000000e 5a5a00000000000f\n-\n42\n-\n",
         moves_left: 9_995,
     };
-    check_turns::<Win64>(&rt, rt.alloc(), CALL, &TRACES, &by_win64)
+    check_turns::<Win64>(&rt, rt.alloc(), CALL, &TRACES, &by_win64);
 }
 
 #[test]
-fn turns_until_no_closure(rt: HostRuntime) -> Result<(), Fail> {
+fn turns_until_no_closure(rt: HostRuntime) {
     let wanted = Wanted {
         end: Turn::Stopped(Stop::NoClosure { ptr: 0x1_0000 }),
         last: "stop: no closure at 0x10000\n",
         other: "1\n-\n",
         moves_left: 9_998,
     };
-    check_turns::<Amd64>(&rt, rt.alloc(), NO_CLOSURE, &WRITES, &wanted)
+    check_turns::<Amd64>(&rt, rt.alloc(), NO_CLOSURE, &WRITES, &wanted);
 }
 
 #[test]
-fn turns_until_a_wrong_signature(rt: HostRuntime) -> Result<(), Fail> {
+fn turns_until_a_wrong_signature(rt: HostRuntime) {
     let stop = Stop::WrongSig {
         ptr: 0x1_0000,
         site: 1,
@@ -197,11 +192,11 @@ fn turns_until_a_wrong_signature(rt: HostRuntime) -> Result<(), Fail> {
         other: "-\n",
         moves_left: 9_998,
     };
-    check_turns::<Amd64>(&rt, rt.alloc(), WRONG_SIG, &WRITES, &wanted)
+    check_turns::<Amd64>(&rt, rt.alloc(), WRONG_SIG, &WRITES, &wanted);
 }
 
 #[test]
-fn turns_until_the_stack_is_full(rt: HostRuntime) -> Result<(), Fail> {
+fn turns_until_the_stack_is_full(rt: HostRuntime) {
     let wanted = Wanted {
         end: Turn::Stopped(Stop::StackFull {
             need: 320,
@@ -211,27 +206,27 @@ fn turns_until_the_stack_is_full(rt: HostRuntime) -> Result<(), Fail> {
         other: "",
         moves_left: 6_722,
     };
-    check_turns::<Amd64>(&rt, rt.alloc(), ENDLESS, &SILENT, &wanted)
+    check_turns::<Amd64>(&rt, rt.alloc(), ENDLESS, &SILENT, &wanted);
 }
 
 #[test]
-fn turns_until_the_table_is_full(rt: HostRuntime) -> Result<(), Fail> {
+fn turns_until_the_table_is_full(rt: HostRuntime) {
     let wanted = Wanted {
         end: Turn::Stopped(Stop::TableFull),
         last: "stop: closure table full\n",
         other: "",
         moves_left: 9_487,
     };
-    check_turns::<Amd64>(&rt, rt.alloc(), MAKES, &SILENT, &wanted)
+    check_turns::<Amd64>(&rt, rt.alloc(), MAKES, &SILENT, &wanted);
 }
 
 #[test]
-fn turns_until_the_move_limit(rt: HostRuntime) -> Result<(), Fail> {
+fn turns_until_the_move_limit(rt: HostRuntime) {
     let wanted = Wanted {
         end: Turn::Stopped(Stop::MoveLimit),
         last: "stop: move limit\n",
         other: "",
         moves_left: 0,
     };
-    check_turns::<Amd64>(&rt, rt.alloc(), TREE, &SILENT, &wanted)
+    check_turns::<Amd64>(&rt, rt.alloc(), TREE, &SILENT, &wanted);
 }

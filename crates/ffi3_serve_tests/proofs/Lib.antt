@@ -1,4 +1,0 @@
-mod Entered
-mod Popped
-mod Single
-mod Shown
