@@ -2,12 +2,10 @@
 //! bytes given, or the digit of how many were taken, or '!' for a failure.
 
 use ffi3_io::{Failed, ReadSource, Sink, Source, WriteSink};
-use ffi3_types::NoMemory;
 use std::alloc::Global;
 use std::io;
 use std::io::{Error, ErrorKind, Read};
 use std::process::Abort;
-use std::test::Fail;
 
 /// A reader that always fails.
 #[derive(Drop)]
@@ -20,23 +18,17 @@ impl Read for Broken {
 }
 
 /// The answers of three reads of two bytes at most.
-fn check_reads<I: Source>(
-    rt: &impl Abort,
-    alloc: Global,
-    source: &mut I,
-    want: &[u8],
-) -> Result<(), NoMemory> {
+fn check_reads<I: Source>(rt: &impl Abort, alloc: Global, source: &mut I, want: &[u8]) {
     let mut text = Vec::new(alloc);
     for _ in 0..3usize {
         let mut buf = [0u8; 2];
         match source.read(&mut buf) {
-            Ok(n) => text.extend_from_slice(&buf[..n])?,
-            Err(Failed) => text.push(b'!')?,
+            Ok(n) => text.extend_from_slice(&buf[..n]).expect(rt, "memory"),
+            Err(Failed) => text.push(b'!').expect(rt, "memory"),
         }
-        text.push(b'|')?;
+        text.push(b'|').expect(rt, "memory");
     }
     assert!(rt; text.as_slice() == want);
-    Ok(())
 }
 
 /// The answers of the writes of some pieces.
@@ -46,7 +38,7 @@ fn check_writes<O: Sink>(
     sink: &mut O,
     pieces: &[&[u8]],
     want: &[u8],
-) -> Result<(), NoMemory> {
+) {
     let mut text = Vec::new(alloc);
     for piece in pieces {
         let digit = match sink.write(*piece) {
@@ -54,35 +46,22 @@ fn check_writes<O: Sink>(
             Ok(_) => b'?',
             Err(Failed) => b'!',
         };
-        text.push(digit)?;
+        text.push(digit).expect(rt, "memory");
     }
     assert!(rt; text.as_slice() == want);
-    Ok(())
 }
 
 #[test]
-fn sources_answer(rt: HostRuntime) -> Result<(), Fail> {
+fn ends_answer(rt: HostRuntime) {
     let alloc = rt.alloc();
     let reader: &[u8] = b"abc";
-    check_reads(&rt, alloc, &mut ReadSource::new(reader), b"ab|c||")?;
-    check_reads(&rt, alloc, &mut ReadSource::new(Broken), b"!|!|!|")?;
-    Ok(())
-}
-
-#[test]
-fn sinks_answer(rt: HostRuntime) -> Result<(), Fail> {
-    let alloc = rt.alloc();
+    check_reads(&rt, alloc, &mut ReadSource::new(reader), b"ab|c||");
+    check_reads(&rt, alloc, &mut ReadSource::new(Broken), b"!|!|!|");
     let mut over_vec = WriteSink::new(Vec::new(alloc));
-    check_writes(&rt, alloc, &mut over_vec, &[b"ab", b"", b"c"], b"201")?;
+    check_writes(&rt, alloc, &mut over_vec, &[b"ab", b"", b"c"], b"201");
     let mut room = [0u8; 3];
     let part: &mut [u8] = &mut room;
     let mut over_slice = WriteSink::new(part);
-    check_writes(
-        &rt,
-        alloc,
-        &mut over_slice,
-        &[b"ab", b"cd", b"e", b""],
-        b"21!0",
-    )?;
-    Ok(())
+    let pieces: [&[u8]; 4] = [b"ab", b"cd", b"e", b""];
+    check_writes(&rt, alloc, &mut over_slice, &pieces, b"21!0");
 }

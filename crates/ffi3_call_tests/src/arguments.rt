@@ -1,5 +1,5 @@
 //! Arguments that are narrower than their registers, as the standards fill these.
-use crate::slots::{SIGNATURES, fitting, prepared, some_arguments};
+use crate::slots::{fitting, new_machine, numbered, prepared, some_arguments};
 use ffi3_aapcs64::Aapcs64;
 use ffi3_amd64::Amd64;
 use ffi3_apple::Apple;
@@ -14,22 +14,19 @@ use ffi3_values::{Value, Values};
 use ffi3_win64::Win64;
 use std::alloc::Global;
 use std::process::Abort;
-use std::test::Fail;
 
 /// Stores the values of the list as arguments of a call, in a machine that begins.
 fn store<A: Abi>(
+    rt: &impl Abort,
     alloc: Global,
     machine: &mut Machine,
     cif: &Cif<A>,
     list: &Value,
-) -> Result<(), Fail> {
-    let args = fitting(alloc, cif, list)?;
+) {
+    let args = fitting(rt, alloc, cif, list);
     machine.begin(A::TARGET);
-    if machine.sp() - STACK < cif.frame() {
-        return Err("no room".into());
-    }
+    assert!(rt; machine.sp() - STACK >= cif.frame());
     store_args(machine, cif, args);
-    Ok(())
 }
 
 /// A list of one value of these bytes.
@@ -39,51 +36,42 @@ fn alone(alloc: Global, bytes: &[u8]) -> Result<Value, NoMemory> {
     Ok(Value::List(values))
 }
 
-/// Stores one argument of these bytes, by the signature that a script would write so.
-fn store_alone<A: Abi>(
-    alloc: Global,
-    machine: &mut Machine,
-    text: &str,
-    bytes: &[u8],
-) -> Result<(), Fail> {
-    let list = alone(alloc, bytes)?;
-    let cif = prepared::<A>(alloc, text)?;
-    store(alloc, machine, &cif, &list)
-}
-
-/// After one argument of these bytes was stored, what is passed in general and floating register number k.
+/// After one argument of these bytes was stored, by the signature that a script would write so, what is passed in
+/// general and floating register number k.
 fn registers_of<A: Abi>(
+    rt: &impl Abort,
     alloc: Global,
     text: &str,
     bytes: &[u8],
     k: u8,
-) -> Result<(u64, u64), Fail> {
-    let mut machine = Machine::new(alloc)?;
-    store_alone::<A>(alloc, &mut machine, text, bytes)?;
-    Ok((
-        passed_general(&machine, k % 32),
-        passed_floating(&machine, k % 32),
-    ))
+) -> (u64, u64) {
+    let list = alone(alloc, bytes).expect(rt, "memory");
+    let cif = prepared::<A>(rt, alloc, text);
+    let mut machine = new_machine(rt, alloc);
+    store(rt, alloc, &mut *machine, &*cif, &list);
+    (
+        passed_general(&*machine, k % 32),
+        passed_floating(&*machine, k % 32),
+    )
 }
 
 #[test]
-fn stores_narrow_arguments(rt: HostRuntime) -> Result<(), Fail> {
+fn stores_narrow_arguments(rt: HostRuntime) {
     let alloc = rt.alloc();
     let takes_uint32 = r#"{"ret":"void","args":["uint32"]}"#;
-    let (a0, _) = registers_of::<Riscv>(alloc, takes_uint32, &[0x00, 0x00, 0x00, 0x80], 10)?;
+    let (a0, _) = registers_of::<Riscv>(&rt, alloc, takes_uint32, &[0x00, 0x00, 0x00, 0x80], 10);
     assert!(rt; a0 == 0xFFFF_FFFF_8000_0000);
     let takes_uint8 = r#"{"ret":"void","args":["uint8"]}"#;
-    let (a0, _) = registers_of::<Riscv>(alloc, takes_uint8, &[0xFF], 10)?;
+    let (a0, _) = registers_of::<Riscv>(&rt, alloc, takes_uint8, &[0xFF], 10);
     assert!(rt; a0 == 0xFF);
     let takes_float = r#"{"ret":"void","args":["float"]}"#;
-    let (_, fa0) = registers_of::<Riscv>(alloc, takes_float, &[0x00, 0x00, 0x80, 0x3F], 10)?;
+    let (_, fa0) = registers_of::<Riscv>(&rt, alloc, takes_float, &[0x00, 0x00, 0x80, 0x3F], 10);
     assert!(rt; fa0 == 0xFFFF_FFFF_3F80_0000);
     let takes_sint8 = r#"{"ret":"void","args":["sint8"]}"#;
-    let (rdi, _) = registers_of::<Amd64>(alloc, takes_sint8, &[0xFF], 7)?;
+    let (rdi, _) = registers_of::<Amd64>(&rt, alloc, takes_sint8, &[0xFF], 7);
     assert!(rt; rdi == 0xFFFF_FFFF_FFFF_FFFF);
-    let (rcx, _) = registers_of::<Win64>(alloc, takes_sint8, &[0xFF], 1)?;
+    let (rcx, _) = registers_of::<Win64>(&rt, alloc, takes_sint8, &[0xFF], 1);
     assert!(rt; rcx == 0xFFFF_FFFF_FFFF_FFFF);
-    Ok(())
 }
 
 /// What is passed in general registers is these words, in this order.
@@ -98,17 +86,12 @@ pub fn check_general(rt: &impl Abort, machine: &Machine, registers: &[u8], words
     }
 }
 
-/// Stores arguments of a call, as `some_arguments` makes them.
-fn store_each<A: Abi>(alloc: Global, machine: &mut Machine, cif: &Cif<A>) -> Result<(), Fail> {
-    let mut text = Bytes::new(alloc);
-    let list = some_arguments(alloc, cif, &mut text)?;
-    store(alloc, machine, cif, &list)
-}
-
-/// Stores arguments of a call by the signature that a script would write so.
-pub fn store_some<A: Abi>(alloc: Global, machine: &mut Machine, text: &str) -> Result<(), Fail> {
-    let cif = prepared::<A>(alloc, text)?;
-    store_each(alloc, machine, &cif)
+/// Stores arguments of a call by the signature that a script would write so, as `some_arguments` makes them.
+pub fn store_some<A: Abi>(rt: &impl Abort, alloc: Global, machine: &mut Machine, text: &str) {
+    let cif = prepared::<A>(rt, alloc, text);
+    let mut told = Bytes::new(alloc);
+    let list = some_arguments(alloc, &*cif, &mut told).expect(rt, "memory");
+    store(rt, alloc, machine, &*cif, &list);
 }
 
 /// After arguments of the first signature were stored, these words are passed in general registers, in this order.
@@ -119,11 +102,11 @@ fn check_first<A: Abi>(
     registers: &[u8],
     words: &[u64],
     k: u8,
-) -> Result<u64, Fail> {
-    let mut machine = Machine::new(alloc)?;
-    store_some::<A>(alloc, &mut machine, SIGNATURES[0])?;
-    check_general(rt, &machine, registers, words);
-    Ok(passed_floating(&machine, k % 32))
+) -> u64 {
+    let mut machine = new_machine(rt, alloc);
+    store_some::<A>(rt, alloc, &mut *machine, numbered(0));
+    check_general(rt, &*machine, registers, words);
+    passed_floating(&*machine, k % 32)
 }
 
 /// The first integers of that signature, each extended by its sign.
@@ -139,23 +122,22 @@ const EXTENDED: [u64; 8] = [
 ];
 
 #[test]
-fn narrow_arguments_fill_their_registers(rt: HostRuntime) -> Result<(), Fail> {
+fn narrow_arguments_fill_their_registers(rt: HostRuntime) {
     let alloc = rt.alloc();
     let amd64: [u8; 6] = [7, 6, 2, 1, 8, 9];
-    let double = check_first::<Amd64>(&rt, alloc, &amd64, &EXTENDED, 1)?;
+    let double = check_first::<Amd64>(&rt, alloc, &amd64, &EXTENDED, 1);
     assert!(rt; double == 0xEBEA_E9E8_E7E6_E5E4);
     let aapcs64: [u8; 8] = [0, 1, 2, 3, 4, 5, 6, 7];
-    let double = check_first::<Aapcs64>(&rt, alloc, &aapcs64, &EXTENDED, 1)?;
+    let double = check_first::<Aapcs64>(&rt, alloc, &aapcs64, &EXTENDED, 1);
     assert!(rt; double == 0xEBEA_E9E8_E7E6_E5E4);
     // RISC-V sign-extends what has 32 bits, and ones stand above a float.
     let riscv: [u8; 8] = [10, 11, 12, 13, 14, 15, 16, 17];
     let mut extended = EXTENDED;
     extended[4] = 0xFFFF_FFFF_B0AF_AEAD;
-    let float = check_first::<Riscv>(&rt, alloc, &riscv, &extended, 10)?;
+    let float = check_first::<Riscv>(&rt, alloc, &riscv, &extended, 10);
     assert!(rt; float == 0xFFFF_FFFF_DCDB_DAD9);
     // By Microsoft x64 the first four alone are in registers, each in that of its number.
     let win64: [u8; 4] = [1, 2, 8, 9];
-    let _xmm0 = check_first::<Win64>(&rt, alloc, &win64, &EXTENDED, 0)?;
-    let _d1 = check_first::<Apple>(&rt, alloc, &aapcs64, &EXTENDED, 1)?;
-    Ok(())
+    let _xmm0 = check_first::<Win64>(&rt, alloc, &win64, &EXTENDED, 0);
+    let _d1 = check_first::<Apple>(&rt, alloc, &aapcs64, &EXTENDED, 1);
 }

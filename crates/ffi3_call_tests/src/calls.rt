@@ -6,7 +6,7 @@ ghost use Rattle.ffi3_type_spec.specs.Value.{all_fit, fits, values_of};
 ghost use Rattle.ffi3_values.specs.ValueOf.{value_of};
 ghost use Rattle.ffi3_callee.specs.Received.{IsIncoming};
 
-use crate::slots::{Came, first_bytes, fitting, gives_back, prepared};
+use crate::slots::{Came, first_bytes, fitting, gives_back, new_machine, prepared};
 use ffi3_aapcs64::Aapcs64;
 use ffi3_amd64::Amd64;
 use ffi3_apple::Apple;
@@ -24,7 +24,6 @@ use ffi3_values::{Value, Values, fits};
 use ffi3_win64::Win64;
 use std::alloc::Global;
 use std::process::Abort;
-use std::test::Fail;
 
 /// A byte, a double, and a struct that no standard passes in registers. The result is a struct in the caller's buffer.
 const HIDDEN: &str =
@@ -34,65 +33,70 @@ const HIDDEN: &str =
 const DIRECT: &str =
     r#"{"ret":"sint16","args":["uint8","double",{"struct":["sint64","sint64","sint64"]}]}"#;
 
-/// The arguments' bytes: 200; -1.5; 1, -2 and 2^63 - 1.
-const ARGUMENTS: [&[u8]; 3] = [
-    b"\xC8",
-    b"\0\0\0\0\0\0\xF8\xBF",
-    b"\x01\0\0\0\0\0\0\0\xFE\xFF\xFF\xFF\xFF\xFF\xFF\xFF\xFF\xFF\xFF\xFF\xFF\xFF\xFF\x7F",
-];
-
 /// A scalar of these bytes.
 fn scalar(alloc: Global, bytes: &[u8]) -> Result<Value, NoMemory> {
     Ok(Value::Leaf(Bytes::from_slice(alloc, bytes)?))
 }
 
-/// The list of these three.
-fn list(alloc: Global, first: Value, second: Value, third: Value) -> Result<Value, NoMemory> {
+/// The list of these three scalars.
+fn three(alloc: Global, first: &[u8], second: &[u8], third: &[u8]) -> Result<Value, NoMemory> {
     let mut values = Values::new(alloc);
-    values.push(first)?;
-    values.push(second)?;
-    values.push(third)?;
+    values.push(scalar(alloc, first)?)?;
+    values.push(scalar(alloc, second)?)?;
+    values.push(scalar(alloc, third)?)?;
     Ok(Value::List(values))
 }
 
-/// The values of the arguments.
+/// The values of the arguments: 200; -1.5; 1, -2 and 2^63 - 1.
 fn arguments(alloc: Global) -> Result<Value, NoMemory> {
-    let first = scalar(alloc, &[1, 0, 0, 0, 0, 0, 0, 0])?;
-    let second = scalar(alloc, &[0xFE, 0xFF, 0xFF, 0xFF, 0xFF, 0xFF, 0xFF, 0xFF])?;
-    let third = scalar(alloc, &[0xFF, 0xFF, 0xFF, 0xFF, 0xFF, 0xFF, 0xFF, 0x7F])?;
-    let three = list(alloc, first, second, third)?;
-    let byte = scalar(alloc, &[200])?;
-    let double = scalar(alloc, &[0, 0, 0, 0, 0, 0, 0xF8, 0xBF])?;
-    list(alloc, byte, double, three)
+    let mut values = Values::new(alloc);
+    values.push(scalar(alloc, b"\xC8")?)?;
+    values.push(scalar(alloc, b"\0\0\0\0\0\0\xF8\xBF")?)?;
+    values.push(three(
+        alloc,
+        b"\x01\0\0\0\0\0\0\0",
+        b"\xFE\xFF\xFF\xFF\xFF\xFF\xFF\xFF",
+        b"\xFF\xFF\xFF\xFF\xFF\xFF\xFF\x7F",
+    )?)?;
+    Ok(Value::List(values))
 }
 
-/// Whether the callee has argument `i` as it was sent.
-fn has_argument<A: Abi>(machine: &Machine, cif: &Cif<A>, incoming: &Incoming, i: u32) -> bool
+/// Whether the callee has these bytes as argument `i`.
+fn has_argument<A: Abi>(
+    machine: &Machine,
+    cif: &Cif<A>,
+    incoming: &Incoming,
+    i: u32,
+    want: &[u8],
+) -> bool
     requires { IsIncoming A.standard cif.now incoming.now }
 {
-    if i >= cif.sig().count() || i >= 3 {
+    if i >= cif.sig().count() {
         return false;
     }
-    arg(machine, cif, incoming, i) == ARGUMENTS[i as usize]
+    arg(machine, cif, incoming, i) == want
 }
 
-/// Whether it has all of them.
+/// Whether it has all arguments as they were sent.
 fn has_arguments<A: Abi>(machine: &Machine, cif: &Cif<A>, incoming: &Incoming) -> bool
     requires { IsIncoming A.standard cif.now incoming.now }
 {
-    has_argument(machine, cif, incoming, 0)
-        && has_argument(machine, cif, incoming, 1)
-        && has_argument(machine, cif, incoming, 2)
+    let three =
+        b"\x01\0\0\0\0\0\0\0\xFE\xFF\xFF\xFF\xFF\xFF\xFF\xFF\xFF\xFF\xFF\xFF\xFF\xFF\xFF\x7F";
+    has_argument(machine, cif, incoming, 0, b"\xC8")
+        && has_argument(machine, cif, incoming, 1, b"\0\0\0\0\0\0\xF8\xBF")
+        && has_argument(machine, cif, incoming, 2, three)
 }
 
 /// A call of a closure from a machine that begins. The caller then has the result.
 fn whole<A: Abi>(
+    rt: &impl Abort,
     machine: &mut Machine,
     cif: &Cif<A>,
     args: &Values,
     outcome: &Value,
     out: &mut [u8],
-) -> Result<bool, Fail>
+) -> bool
     requires fit { all_fit (trees_of cif.now.arguments) (values_of args.now) ≡ true }
     requires fits { fits cif.now.result_type (value_of outcome.now) ≡ true }
     requires sized { length out.old ≡ size_of cif.now.result_type }
@@ -100,83 +104,81 @@ fn whole<A: Abi>(
     machine.begin(A::TARGET);
     let mut table = Table::new();
     let Ok(ptr) = table.make(machine, 0, 0, 7) else {
-        return Err("no slot".into());
+        panic!(rt; "no slot");
     };
     let Some(_) = table.find(ptr) else {
-        return Err("no closure".into());
+        panic!(rt; "no closure");
     };
-    if let Err(_) = room_for(machine, cif) {
-        return Err("no room".into());
-    }
-    let bytes = A::LINK + cif.frame();
-    machine.journal_room(bytes)?;
+    let Ok(()) = room_for(machine, cif) else {
+        panic!(rt; "no room");
+    };
+    let Ok(()) = machine.journal_room(A::LINK + cif.frame()) else {
+        panic!(rt; "no memory");
+    };
     let sp = machine.sp();
     let incoming = begin_call(machine, &table, cif, args, ptr);
     let right = has_arguments(machine, cif, &incoming);
     end_call(machine, cif, incoming, outcome, out);
-    Ok(right && machine.sp() == sp)
+    right && machine.sp() == sp
 }
 
 /// What the call came to, whose result is to have these bytes.
 fn came_to<A: Abi>(
+    rt: &impl Abort,
     machine: &mut Machine,
     cif: &Cif<A>,
     args: &Values,
     outcome: &Value,
     want: &[u8],
-) -> Result<Came, Fail>
+) -> Came
     requires { all_fit (trees_of cif.now.arguments) (values_of args.now) ≡ true }
 {
     let ret = cif.checked_sig().ret();
-    if !fits(outcome, ret.as_type()) {
-        return Err("no fit".into());
-    }
+    assert!(rt; fits(outcome, ret.as_type()));
     let mut room = [0; LARGEST_TYPE as usize];
     let out = &mut room[..ret.size() as usize];
-    let right = whole(machine, cif, args, outcome, out)?;
+    let right = whole(rt, machine, cif, args, outcome, out);
     let events = machine.events();
-    if events.len() != 2 {
-        return Err("not both events".into());
-    }
-    Ok(Came {
+    assert!(rt; events.len() == 2);
+    Came {
         right: right && &*out == want,
         entry: *events.get(0),
         leave: *events.get(1),
         first: first_bytes(events.stack(1)),
-    })
+    }
 }
 
-/// Whether a call by the signature has all as it was sent, and the caller has its registers again.
-fn is_right<A: Abi>(alloc: Global, text: &str, outcome: &Value, want: &[u8]) -> Result<bool, Fail> {
-    let cif = prepared::<A>(alloc, text)?;
-    let list = arguments(alloc)?;
-    let args = fitting(alloc, &cif, &list)?;
-    let mut machine = Machine::new(alloc)?;
-    let came = came_to(&mut machine, &cif, args, outcome, want)?;
-    Ok(came.right && gives_back::<A>(&came))
+/// A call by the signature has all as it was sent, and the caller has its registers again.
+fn check_call<A: Abi>(rt: &impl Abort, alloc: Global, text: &str, outcome: &Value, want: &[u8]) {
+    let cif = prepared::<A>(rt, alloc, text);
+    let list = arguments(alloc).expect(rt, "memory");
+    let args = fitting(rt, alloc, &*cif, &list);
+    let mut machine = new_machine(rt, alloc);
+    let came = came_to(rt, &mut *machine, &*cif, args, outcome, want);
+    assert!(rt; came.right && gives_back::<A>(&came));
 }
 
 /// Both calls. The results are -3, 5 and 2^63, and -32768.
-fn check<A: Abi>(rt: &impl Abort, alloc: Global) -> Result<(), Fail> {
-    let first = scalar(alloc, &[0xFD, 0xFF, 0xFF, 0xFF, 0xFF, 0xFF, 0xFF, 0xFF])?;
-    let second = scalar(alloc, &[5, 0, 0, 0, 0, 0, 0, 0])?;
-    let third = scalar(alloc, &[0, 0, 0, 0, 0, 0, 0, 0x80])?;
-    let three = list(alloc, first, second, third)?;
+fn check<A: Abi>(rt: &impl Abort, alloc: Global) {
+    let hidden = three(
+        alloc,
+        b"\xFD\xFF\xFF\xFF\xFF\xFF\xFF\xFF",
+        b"\x05\0\0\0\0\0\0\0",
+        b"\0\0\0\0\0\0\0\x80",
+    )
+    .expect(rt, "memory");
     let bytes = b"\xFD\xFF\xFF\xFF\xFF\xFF\xFF\xFF\x05\0\0\0\0\0\0\0\0\0\0\0\0\0\0\x80";
-    let hidden = is_right::<A>(alloc, HIDDEN, &three, bytes)?;
-    let least = scalar(alloc, &[0x00, 0x80])?;
-    let direct = is_right::<A>(alloc, DIRECT, &least, b"\x00\x80")?;
-    assert!(rt; hidden);
-    assert!(rt; direct);
-    Ok(())
+    check_call::<A>(rt, alloc, HIDDEN, &hidden, bytes);
+    let direct = scalar(alloc, b"\x00\x80").expect(rt, "memory");
+    check_call::<A>(rt, alloc, DIRECT, &direct, b"\x00\x80");
 }
 
 #[test]
-fn a_whole_call_has_its_values(rt: HostRuntime) -> Result<(), Fail> {
+fn a_whole_call_has_its_values(rt: HostRuntime) {
     let alloc = rt.alloc();
-    check::<Amd64>(&rt, alloc)?;
-    check::<Aapcs64>(&rt, alloc)?;
-    check::<Riscv>(&rt, alloc)?;
-    check::<Win64>(&rt, alloc)?;
-    check::<Apple>(&rt, alloc)
+    check::<Amd64>(&rt, alloc);
+    check::<Aapcs64>(&rt, alloc);
+    check::<Riscv>(&rt, alloc);
+    check::<Win64>(&rt, alloc);
+    check::<Apple>(&rt, alloc);
 }

@@ -4,6 +4,7 @@ use ffi3_isa::Instr::{
     Sd,
 };
 use ffi3_isa::{Instr, decode_aarch64, decode_amd64, decode_riscv};
+use ffi3_type_spec::Isa;
 use std::process::Abort;
 
 const AMD64: [(&[u8], Option<(Instr, u8)>); 20] = [
@@ -237,20 +238,21 @@ const RISCV: [(&[u8], Option<(Instr, u8)>); 14] = [
     (b"\x13\0\0", None),
 ];
 
-/// These bytes are decoded as they are to be.
-fn check(rt: &impl Abort, bytes: &[u8], given: Option<(Instr, u8)>, want: Option<(Instr, u8)>) {
-    assert!(rt; given == want, "{bytes:?}");
+/// The bytes of each row are decoded as they are to be.
+fn check(rt: &impl Abort, isa: Isa, rows: &[(&[u8], Option<(Instr, u8)>)]) {
+    for (bytes, want) in rows {
+        let given = match isa {
+            Isa::Amd64 => decode_amd64(*bytes),
+            Isa::Aarch64 => decode_aarch64(*bytes),
+            Isa::Riscv => decode_riscv(*bytes),
+        };
+        assert!(rt; given == *want, "{bytes:?}");
+    }
 }
 
 #[test]
 fn instructions_are_decoded(rt: HostRuntime) {
-    for (bytes, want) in AMD64 {
-        check(&rt, bytes, decode_amd64(bytes), want);
-    }
-    for (bytes, want) in AARCH64 {
-        check(&rt, bytes, decode_aarch64(bytes), want);
-    }
-    for (bytes, want) in RISCV {
-        check(&rt, bytes, decode_riscv(bytes), want);
-    }
+    check(&rt, Isa::Amd64, &AMD64);
+    check(&rt, Isa::Aarch64, &AARCH64);
+    check(&rt, Isa::Riscv, &RISCV);
 }

@@ -34,7 +34,6 @@ use ffi3_win64::Win64;
 use std::alloc::Global;
 use std::mem;
 use std::process::Abort;
-use std::test::Fail;
 
 /// Bytes for a value of the type: a number and those after it.
 fn some_bytes(alloc: Global, ty: &CheckedType<'_>, first: u8) -> Result<Vec<u8>, NoMemory>
@@ -47,6 +46,15 @@ fn some_bytes(alloc: Global, ty: &CheckedType<'_>, first: u8) -> Result<Vec<u8>,
     Ok(bytes)
 }
 
+/// The text of the value that these bytes have.
+fn text_of(alloc: Global, ty: &CheckedType<'_>, bytes: &[u8]) -> Result<Bytes, NoMemory>
+    requires { length bytes.now ≡ size_of ty.now }
+{
+    let plain = ty.as_type();
+    let value = value_from_bytes(alloc, plain, bytes)?;
+    value_text(alloc, plain, &value)
+}
+
 /// Writes the value that these bytes have, with a space behind it.
 fn write_value(
     alloc: Global,
@@ -56,9 +64,8 @@ fn write_value(
 ) -> Result<(), NoMemory>
     requires { length bytes.now ≡ size_of ty.now }
 {
-    let plain = ty.as_type();
-    let value = value_from_bytes(alloc, plain, bytes)?;
-    text.extend(value_text(alloc, plain, &value)?.as_slice())?;
+    let shown = text_of(alloc, ty, bytes)?;
+    text.extend(shown.as_slice())?;
     text.push(b' ')
 }
 
@@ -76,20 +83,26 @@ fn some_value(
     value_from_bytes(alloc, ty.as_type(), bytes.as_slice())
 }
 
-/// The values of the list, where they fit the arguments.
-pub fn fitting<'a, A: Abi>(alloc: Global, cif: &Cif<A>, list: &'a Value) -> Result<&'a Values, Fail>
-    ensures { IfOk result (λ vs. all_fit (trees_of cif.now.arguments) (values_of vs.now) ≡ true) }
+/// The values of the list, which fit the arguments.
+pub fn fitting<'a, A: Abi>(
+    rt: &impl Abort,
+    alloc: Global,
+    cif: &Cif<A>,
+    list: &'a Value,
+) -> &'a Values
+    ensures { all_fit (trees_of cif.now.arguments) (values_of result.now) ≡ true }
 {
-    let all = FfiType::Struct(cif.sig().args().copy(alloc)?);
+    let Ok(types) = cif.sig().args().copy(alloc) else {
+        panic!(rt; "no memory");
+    };
+    let all = FfiType::Struct(types);
     let fit = fits(list, &all);
     mem::drop(all);
-    if !fit {
-        return Err("no fit".into());
-    }
+    assert!(rt; fit);
     let Value::List(values) = list else {
-        return Err("no list".into());
+        panic!(rt; "no list");
     };
-    Ok(values)
+    values
 }
 
 /// The first bytes of arguments. No two are the same, and each has its highest bit set.
@@ -252,6 +265,7 @@ pub fn first_bytes(bytes: &[u8]) -> [u8; 32] {
 /// What a call came to whose stack pointer was this before it, of which the callee has written its arguments to the
 /// text, and whose caller has loaded these bytes.
 fn returned<A: Abi>(
+    rt: &impl Abort,
     alloc: Global,
     machine: &Machine,
     cif: &Cif<A>,
@@ -259,25 +273,24 @@ fn returned<A: Abi>(
     text: &mut Bytes,
     out: &[u8],
     sent: &[u8],
-) -> Result<Came, Fail>
+) -> Came
     requires { length out.now ≡ size_of cif.now.result_type }
 {
+    write_result(alloc, cif, out, text).expect(rt, "memory");
     let events = machine.events();
-    if machine.sp() != sp || events.len() != 2 {
-        return Err("not back".into());
-    }
-    write_result(alloc, cif, out, text)?;
-    Ok(Came {
+    assert!(rt; machine.sp() == sp && events.len() == 2);
+    Came {
         right: text.as_slice() == sent,
         entry: *events.get(0),
         leave: *events.get(1),
         first: first_bytes(events.stack(1)),
-    })
+    }
 }
 
 /// A call of a closure from a machine that begins, with values of this text. What its callee has is written to the
 /// other text, which is empty.
 fn told<A: Abi>(
+    rt: &impl Abort,
     alloc: Global,
     machine: &mut Machine,
     cif: &Cif<A>,
@@ -286,46 +299,51 @@ fn told<A: Abi>(
     over: Option<u8>,
     sent: &[u8],
     text: &mut Bytes,
-) -> Result<Came, Fail>
+) -> Came
     requires fit { all_fit (trees_of cif.now.arguments) (values_of args.now) ≡ true }
     requires fits { fits cif.now.result_type (value_of outcome.now) ≡ true }
 {
     machine.begin(A::TARGET);
     let mut table = Table::new();
     let Ok(ptr) = table.make(machine, 0, 0, 7) else {
-        return Err("no slot".into());
+        panic!(rt; "no slot");
     };
     let Some(_) = table.find(ptr) else {
-        return Err("no closure".into());
+        panic!(rt; "no closure");
     };
-    if let Err(_) = room_for(machine, cif) {
-        return Err("no room".into());
-    }
-    let bytes = A::LINK + cif.frame();
-    machine.journal_room(bytes)?;
+    let Ok(()) = room_for(machine, cif) else {
+        panic!(rt; "no room");
+    };
+    let Ok(()) = machine.journal_room(A::LINK + cif.frame()) else {
+        panic!(rt; "no memory");
+    };
     let sp = machine.sp();
     let incoming = begin(machine, &table, cif, args, ptr, over);
-    write_arguments(alloc, machine, cif, &incoming, text)?;
+    write_arguments(alloc, machine, cif, &incoming, text).expect(rt, "memory");
     let size = cif.checked_sig().ret().size() as usize;
     let mut room = [0; LARGEST_TYPE as usize];
     let out = &mut room[..size];
     end_call(machine, cif, incoming, outcome, out);
-    returned(alloc, machine, cif, sp, text, out, sent)
+    returned(rt, alloc, machine, cif, sp, text, out, sent)
 }
 
 /// A call on this machine, with values of the signature's types.
 fn come_on<A: Abi>(
+    rt: &impl Abort,
     alloc: Global,
     machine: &mut Machine,
     cif: &Cif<A>,
     over: Option<u8>,
-) -> Result<Came, Fail> {
+) -> Came {
     let mut sent = Bytes::new(alloc);
-    let list = some_arguments(alloc, cif, &mut sent)?;
-    let args = fitting(alloc, cif, &list)?;
-    let outcome = some_result(alloc, cif, &mut sent)?;
+    let list = some_arguments(alloc, cif, &mut sent).expect(rt, "memory");
+    let args = fitting(rt, alloc, cif, &list);
+    let Ok(outcome) = some_result(alloc, cif, &mut sent) else {
+        panic!(rt; "no memory");
+    };
     let mut text = Bytes::new(alloc);
     told(
+        rt,
         alloc,
         machine,
         cif,
@@ -338,10 +356,10 @@ fn come_on<A: Abi>(
 }
 
 /// A call by the signature that a script would write so, with values of its types.
-pub fn come<A: Abi>(alloc: Global, text: &str, over: Option<u8>) -> Result<Came, Fail> {
-    let cif = prepared::<A>(alloc, text)?;
-    let mut machine = Machine::new(alloc)?;
-    come_on(alloc, &mut machine, &cif, over)
+pub fn come<A: Abi>(rt: &impl Abort, alloc: Global, text: &str, over: Option<u8>) -> Came {
+    let cif = prepared::<A>(rt, alloc, text);
+    let mut machine = new_machine(rt, alloc);
+    come_on(rt, alloc, &mut *machine, &*cif, over)
 }
 
 /// What a register held at an event.
@@ -365,39 +383,41 @@ pub fn gives_back<A: Abi>(came: &Came) -> bool {
 }
 
 /// The signature that a script would write so.
-pub fn signature(alloc: Global, text: &str) -> Result<Sig, Fail> {
+pub fn signature(rt: &impl Abort, alloc: Global, text: &str) -> Sig {
     let Ok(json) = parse(alloc, text.as_bytes()) else {
-        return Err("no JSON".into());
+        panic!(rt; "no JSON");
     };
-    let Some(sig) = read_signature(alloc, &json, &Where::new(alloc), 2).ok() else {
-        return Err("no signature".into());
-    };
-    Ok(sig)
+    let sig = read_signature(alloc, &json, &Where::new(alloc), 2);
+    sig.ok().expect(rt, "a signature")
 }
 
 /// The call interface of a signature.
-fn interface_of<A: Abi>(alloc: Global, sig: &Sig) -> Result<Cif<A>, Fail> {
-    let types = sig.args().copy(alloc)?;
-    let ret = sig.ret().copy(alloc)?;
+fn interface_of<A: Abi>(rt: &impl Abort, alloc: Global, sig: &Sig) -> Cif<A> {
+    let types = sig.args().copy(alloc).expect(rt, "memory");
+    let ret = sig.ret().copy(alloc).expect(rt, "memory");
     let cif = match sig.fixed() {
         None => prep_cif::<A>(alloc, ret, types),
         Some(fixed) => prep_cif_var::<A>(alloc, ret, types, fixed),
     };
-    let Some(cif) = cif.ok() else {
-        return Err("a fault".into());
-    };
-    Ok(cif)
+    cif.ok().expect(rt, "no fault")
 }
 
-/// The call interface of the signature that a script would write so.
-pub fn prepared<A: Abi>(alloc: Global, text: &str) -> Result<Cif<A>, Fail> {
-    let sig = signature(alloc, text)?;
-    interface_of(alloc, &sig)
+/// The call interface of the signature that a script would write so. It is boxed, so that who has it drops it by a call.
+pub fn prepared<A: Abi>(rt: &impl Abort, alloc: Global, text: &str) -> Box<Cif<A>> {
+    let sig = signature(rt, alloc, text);
+    let cif = interface_of(rt, alloc, &sig);
+    Box::new(alloc, cif).expect(rt, "memory")
+}
+
+/// A machine, boxed as well.
+pub fn new_machine(rt: &impl Abort, alloc: Global) -> Box<Machine> {
+    let machine = Machine::new(alloc).expect(rt, "memory");
+    Box::new(alloc, machine).expect(rt, "memory")
 }
 
 /// Signatures with every scalar, and structs of each shape: nested, in mixed registers, homogeneous, by reference,
 /// hidden, variadic, and spilled to the stack; with gaps, even registers and a split of integers of 128 bits.
-pub const SIGNATURES: [&str; 22] = [
+const SIGNATURES: [&str; 22] = [
     r#"{"ret":"uint8","args":["uint8","sint8","uint16","sint16","uint32","sint32","uint64","sint64","float","double","pointer"]}"#,
     r#"{"ret":"sint8","args":["sint64","sint64","sint64","sint64","sint64","sint64","sint64","sint64","uint8","sint8","uint16","sint16","uint32","sint32","float"]}"#,
     r#"{"ret":"void","args":[{"struct":["sint32","float"]}]}"#,
@@ -422,34 +442,33 @@ pub const SIGNATURES: [&str; 22] = [
     r#"{"ret":{"struct":["sint64","sint64","sint64"]},"args":[{"struct":["uint8","uint8","uint8"]},{"struct":["sint64","sint64","sint64"]},"double","sint8"],"fixed":4}"#,
 ];
 
-/// How many of the signatures have all values come as they were sent, and the callee-saved registers with them.
-fn count_of_right<A: Abi>(alloc: Global, over: Option<u8>) -> Result<usize, Fail> {
-    let mut right = 0usize;
-    for text in SIGNATURES {
-        let came = come::<A>(alloc, text, over)?;
-        if came.right && gives_back::<A>(&came) && right < SIGNATURES.len() {
-            right += 1;
-        }
+/// Signature `k` of these: a use of the table itself takes longer to prove.
+pub fn numbered(k: usize) -> &'static str {
+    SIGNATURES[k % 22]
+}
+
+/// All values come as they were sent by each of the signatures, and the callee-saved registers with them.
+fn check_each<A: Abi>(rt: &impl Abort, alloc: Global, texts: &[&str], over: Option<u8>) {
+    for text in texts {
+        let came = come::<A>(rt, alloc, *text, over);
+        assert!(rt; came.right && gives_back::<A>(&came), "{text}");
     }
-    Ok(right)
 }
 
 /// All signatures, with each of these bytes over all that the callee must not look at, and with none.
-fn check_all<A: Abi>(rt: &impl Abort, alloc: Global) -> Result<(), Fail> {
+fn check_all<A: Abi>(rt: &impl Abort, alloc: Global) {
     for over in [None, Some(0x00), Some(0x5A), Some(0xFF)] {
-        let right = count_of_right::<A>(alloc, over)?;
-        assert!(rt; right == SIGNATURES.len(), "{right}");
+        check_each::<A>(rt, alloc, &SIGNATURES, over);
     }
-    Ok(())
 }
 
 /// A callee looks at the bytes of leaves and addresses alone, whatever else stands there.
 #[test]
-fn values_come_through_a_slot(rt: HostRuntime) -> Result<(), Fail> {
+fn values_come_through_a_slot(rt: HostRuntime) {
     let alloc = rt.alloc();
-    check_all::<Amd64>(&rt, alloc)?;
-    check_all::<Aapcs64>(&rt, alloc)?;
-    check_all::<Riscv>(&rt, alloc)?;
-    check_all::<Win64>(&rt, alloc)?;
-    check_all::<Apple>(&rt, alloc)
+    check_all::<Amd64>(&rt, alloc);
+    check_all::<Aapcs64>(&rt, alloc);
+    check_all::<Riscv>(&rt, alloc);
+    check_all::<Win64>(&rt, alloc);
+    check_all::<Apple>(&rt, alloc);
 }

@@ -1,6 +1,7 @@
 //! The bytes of the stubs, as an instruction of the machine reads them at their addresses. conformance/places/stubs.py takes
 //! them from here, and runs them on processors that this project did not write.
-use ffi3_machine::{CODE, Machine, NoMemory, STACK_TOP, Target};
+use crate::slots::new_machine;
+use ffi3_machine::{CODE, Machine, STACK_TOP, Target};
 use std::process::Abort;
 
 /// The bytes of a stub, and the address that it begins at.
@@ -83,15 +84,6 @@ const RISCV: Stubs = Stubs {
     },
 };
 
-/// Each target, with the stubs of its instruction set.
-const ROWS: [(Target, Stubs); 5] = [
-    (Target::Amd64, AMD64),
-    (Target::Aapcs64, AARCH64),
-    (Target::Riscv, RISCV),
-    (Target::Win64, AMD64),
-    (Target::Apple, AARCH64),
-];
-
 /// Whether the byte stands at an address, where the first slot has the load.
 fn has_byte(machine: &mut Machine, addr: u64, byte: u8) -> bool {
     machine.set_sp(STACK_TOP);
@@ -115,16 +107,27 @@ fn has_stub(machine: &mut Machine, stub: Stub) -> bool {
     true
 }
 
-#[test]
-fn a_machine_has_the_bytes_of_its_stubs(rt: HostRuntime) -> Result<(), NoMemory> {
-    let mut machine = Machine::new(rt.alloc())?;
-    for (target, stubs) in ROWS {
-        machine.begin(target);
+/// On each of these targets all bytes of the stubs stand at their addresses.
+fn check(rt: &impl Abort, machine: &mut Machine, targets: &[Target], stubs: &Stubs) {
+    for target in targets {
+        machine.begin(*target);
         machine.write_code(CODE, &stubs.load);
-        assert!(rt; has_stub(&mut machine, stubs.entry));
-        assert!(rt; has_stub(&mut machine, stubs.exit));
-        assert!(rt; has_stub(&mut machine, stubs.call));
-        assert!(rt; has_stub(&mut machine, stubs.back));
+        assert!(rt; has_stub(machine, stubs.entry));
+        assert!(rt; has_stub(machine, stubs.exit));
+        assert!(rt; has_stub(machine, stubs.call));
+        assert!(rt; has_stub(machine, stubs.back));
     }
-    Ok(())
+}
+
+#[test]
+fn a_machine_has_the_bytes_of_its_stubs(rt: HostRuntime) {
+    let mut machine = new_machine(&rt, rt.alloc());
+    check(&rt, &mut *machine, &[Target::Amd64, Target::Win64], &AMD64);
+    check(
+        &rt,
+        &mut *machine,
+        &[Target::Aapcs64, Target::Apple],
+        &AARCH64,
+    );
+    check(&rt, &mut *machine, &[Target::Riscv], &RISCV);
 }

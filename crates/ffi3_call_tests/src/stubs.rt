@@ -1,7 +1,8 @@
 //! The stubs of each target, each run to its end; how many steps they take; and a return that is recorded.
+use crate::slots::new_machine;
 use ffi3_machine::{
-    AREA_AT, CALL_SP_AT, CALLEE_AT, CODE, ENTRY, ENTRY_SP_AT, Machine, NoMemory, RETURN,
-    RETURN_SP_AT, STACK, STACK_TOP, Target,
+    AREA_AT, CALL_SP_AT, CALLEE_AT, CODE, ENTRY, ENTRY_SP_AT, Machine, RETURN, RETURN_SP_AT, STACK,
+    STACK_TOP, Target,
 };
 use ffi3_stubs::{run_call, run_entry, run_exit, run_return};
 use std::process::Abort;
@@ -98,23 +99,28 @@ fn all_four(rt: &impl Abort, machine: &mut Machine, row: Row) {
     assert!(rt; machine.sp() == AT && machine.steps() == row.steps[3]);
 }
 
-#[test]
-fn stubs_run_to_their_ends(rt: HostRuntime) -> Result<(), NoMemory> {
-    let mut machine = Machine::new(rt.alloc())?;
-    for row in ROWS {
+/// All stubs of each target.
+fn check(rt: &impl Abort, machine: &mut Machine, rows: &[Row]) {
+    for row in rows {
         machine.begin(row.target);
-        all_four(&rt, &mut machine, row);
+        all_four(rt, machine, *row);
     }
-    Ok(())
 }
 
 #[test]
-fn a_return_is_recorded(rt: HostRuntime) -> Result<(), NoMemory> {
-    let mut machine = Machine::new(rt.alloc())?;
-    machine.journal_room(0)?;
+fn stubs_run_to_their_ends(rt: HostRuntime) {
+    let mut machine = new_machine(&rt, rt.alloc());
+    check(&rt, &mut *machine, &ROWS);
+}
+
+#[test]
+fn a_return_is_recorded(rt: HostRuntime) {
+    let mut machine = Machine::new(rt.alloc()).expect(&rt, "memory");
+    let Ok(()) = machine.journal_room(0) else {
+        panic!(rt; "no memory");
+    };
     if machine.pc() == RETURN {
         machine.arrive(0);
     }
     assert!(rt; machine.events().len() == 1 && machine.steps() == 0);
-    Ok(())
 }

@@ -2,8 +2,9 @@
 ghost use Rattle.std.specs.Prelude.{◌≤◌, ◌+◌};
 ghost use Rattle.ffi3_machine_spec.specs.Slots.{HoldsMap};
 
+use crate::slots::new_machine;
 use ffi3_closures::{Closure, Table, TableFull};
-use ffi3_machine::{CODE, CODE_END, ENTRY, Machine, NoMemory, STACK_TOP, Target};
+use ffi3_machine::{CODE, CODE_END, ENTRY, Machine, STACK_TOP, Target};
 use std::process::Abort;
 
 /// The bytes of a closure's slot, and those of a free slot, as section 7 of docs/FORMATS.md has them (tools/tables writes
@@ -95,15 +96,19 @@ fn one_slot(rt: &impl Abort, table: &mut Table, machine: &mut Machine, row: Row,
     assert!(rt; machine.lend_code(addr + 60, 4) == row.free);
 }
 
-#[test]
-fn first_and_last_slot(rt: HostRuntime) -> Result<(), NoMemory> {
-    let mut machine = Machine::new(rt.alloc())?;
-    for row in ROWS {
+/// The first and the last slot of a full table, on each target.
+fn check(rt: &impl Abort, machine: &mut Machine, rows: &[Row]) {
+    for row in rows {
         machine.begin(row.target);
         let mut table = Table::new();
-        fills(&rt, &mut table, &mut machine);
-        one_slot(&rt, &mut table, &mut machine, row, 0x1_0000);
-        one_slot(&rt, &mut table, &mut machine, row, 0x1_3FC0);
+        fills(rt, &mut table, machine);
+        one_slot(rt, &mut table, machine, *row, 0x1_0000);
+        one_slot(rt, &mut table, machine, *row, 0x1_3FC0);
     }
-    Ok(())
+}
+
+#[test]
+fn first_and_last_slot(rt: HostRuntime) {
+    let mut machine = new_machine(&rt, rt.alloc());
+    check(&rt, &mut *machine, &ROWS);
 }

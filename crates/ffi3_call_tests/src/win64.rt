@@ -3,12 +3,11 @@
 //! registers; and 32 bytes of stack for the callee.
 
 use crate::arguments::{check_general, store_some};
-use crate::slots::{SIGNATURES, come, gives_back};
+use crate::slots::{come, gives_back, new_machine, numbered};
 use ffi3_machine::Machine;
 use ffi3_place::Abi;
 use ffi3_win64::Win64;
 use std::process::Abort;
-use std::test::Fail;
 
 /// The number of the signature with all of these. Its frame has 128 bytes.
 const EACH: usize = 21;
@@ -30,21 +29,19 @@ fn check_stored(rt: &impl Abort, machine: &Machine) {
 }
 
 #[test]
-fn each_position_has_its_place(rt: HostRuntime) -> Result<(), Fail> {
+fn each_position_has_its_place(rt: HostRuntime) {
     let alloc = rt.alloc();
-    let mut machine = Machine::new(alloc)?;
-    store_some::<Win64>(alloc, &mut machine, SIGNATURES[EACH])?;
-    check_stored(&rt, &machine);
-    Ok(())
+    let mut machine = new_machine(&rt, alloc);
+    store_some::<Win64>(&rt, alloc, &mut *machine, numbered(EACH));
+    check_stored(&rt, &*machine);
 }
 
 /// Whatever the callee leaves in its bytes of the frame, the result comes, its address in rax, and the registers come
 /// back.
 #[test]
-fn the_first_bytes_are_the_callees(rt: HostRuntime) -> Result<(), Fail> {
-    let came = come::<Win64>(rt.alloc(), SIGNATURES[EACH], Some(0x5A))?;
+fn the_first_bytes_are_the_callees(rt: HostRuntime) {
+    let came = come::<Win64>(&rt, rt.alloc(), numbered(EACH), Some(0x5A));
     assert!(rt; came.right && came.first == [0x5A; 32]);
     assert!(rt; came.entry.general[1] == BUFFER && came.leave.general[0] == BUFFER);
     assert!(rt; Win64::KEPT == 18 && gives_back::<Win64>(&came));
-    Ok(())
 }
