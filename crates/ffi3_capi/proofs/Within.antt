@@ -9,7 +9,8 @@ use Rattle.ffi3_place_spec.specs.declared.Res.{Res}
 use Rattle.ffi3_place_spec.specs.declared.Res.TheVariants.{Direct as DirectRes}
 use Rattle.ffi3_place_spec.specs.Sound.{IsPieceOf, PlaceHasAll, PlacesHaveAll, ResultHasAll}
 use Rattle.ffi3_place_spec.proofs.Tests.{each_weaker}
-use Rattle.ffi3_capi.specs.Within.{EndsWithin, PlaceEndsWithin, ResultEndsWithin}
+use Rattle.ffi3_cif.specs.Runs.{EndsWithin, PlaceEndsWithin}
+use Rattle.ffi3_capi.specs.Within.{ResultEndsWithin}
 
 pub places_end : (size : ℕ) (ts : List Tree) (ps : List Place) → ((k : ℕ) → k < length ts → size_of (tree_at ts k) ≤ size) → PlacesHaveAll ts ps → AllByRecursion (PlaceEndsWithin size) ps
 places_end size [] [] small h = tt

@@ -15,6 +15,7 @@ mod place;
 mod reason;
 mod signature;
 mod types;
+mod version;
 
 pub use document::{Document, parse};
 pub use fault::{ScriptFault, bad};
@@ -33,6 +34,7 @@ pub use json_path::JsonPath;
 pub use serde_json::Value as Json;
 pub use signature::{bad_type, read_signature, read_signature_at, reason_of_signature};
 pub use types::{read_type, read_type_at};
+pub use version::read_version;
 
 /// The greatest length of a script in bytes.
 pub const MAX_LENGTH: usize = ffi3_type_spec::limits::LONGEST_SCRIPT as usize;

@@ -1,11 +1,10 @@
 // The object that a script is: its version, its signatures, its functions and main, in this order.
 ghost use Rattle.std.specs.Prelude.{◌≡◌, ◌+◌, ◌<◌, ◌≤◌, ◌^◌, ◌++◌, [], All, IfOk, IfErr};
-ghost use Rattle.std.specs.Prelude.{OnOk, length, map, codes, option_and_then};
-ghost use Rattle.serde_json.specs.Find.{as_number, as_u64};
+ghost use Rattle.std.specs.Prelude.{OnOk, length, map};
 ghost use Rattle.serde_json.specs.Events.{items_len};
 ghost use Rattle.ffi3_script_spec.specs.Language as language;
-ghost use Rattle.ffi3_script_spec.specs.Language.{read, under, value_under};
-ghost use Rattle.ffi3_script_spec.specs.Bodies.{script_keys, version_of, read_signatures, read_headings};
+ghost use Rattle.ffi3_script_spec.specs.Language.{read};
+ghost use Rattle.ffi3_script_spec.specs.Bodies.{script_keys, read_signatures};
 ghost use Rattle.ffi3_script_spec.specs.Bodies.{read_rest, read_script, names_of};
 ghost use Rattle.ffi3_script_spec.specs.Reading.{max_length};
 ghost use Rattle.ffi3_json.specs.KeyOf.{key_of};
@@ -21,7 +20,7 @@ use crate::scope::Globals;
 use crate::{Names, NoMemory, ScriptMove};
 use ffi3_json::{
     JsonPath, Key, Node, Nodes, Reason, ScriptFault, Where, bad, check_object_at,
-    read_signature_at, required,
+    read_signature_at, read_version, required,
 };
 use ffi3_types::{FfiType, Fields, Sig, Sigs};
 use std::alloc::Global;
@@ -61,31 +60,6 @@ fn check_keys(alloc: Global, value: &Node, at: &JsonPath) -> Result<(), ScriptFa
         (Reports (λ p r. language.check_object value.now script_keys at.now ≡ language.fault p r)) }
 {
     check_object_at(alloc, value, &script_keys(), at)
-}
-
-// The version, which is 1 or 2.
-fn read_version(alloc: Global, value: &Node, at: &JsonPath) -> Result<u8, ScriptFault>
-    ensures ok { IfOk result
-        (λ v. version_of (option_and_then as_u64 (as_number (value_under (codes "version") value.now)))
-        (under at.now (codes "version")) ≡ read v) }
-    ensures err { IfErr result
-        (Reports (λ p r. version_of (option_and_then as_u64 (as_number (value_under (codes "version") value.now)))
-        (under at.now (codes "version")) ≡ language.fault p r)) }
-{
-    let place = at.key("version");
-    let Some(version) = value.get("version") else {
-        return Err(bad(alloc, &place, Reason::VersionNotKnown));
-    };
-    let Some(n) = version.as_u64() else {
-        return Err(bad(alloc, &place, Reason::VersionNotKnown));
-    };
-    if n == 1 {
-        return Ok(1);
-    }
-    if n == 2 {
-        return Ok(2);
-    }
-    Err(bad(alloc, &place, Reason::VersionNotKnown))
 }
 
 // The signatures that the items of an array are.

@@ -8,7 +8,8 @@ use Rattle.ffi3_type_spec.proofs.Placed.{placed_argument_is_laid_out, placed_res
 use Rattle.ffi3_place_spec.specs.declared.Plan.{Plan}
 use Rattle.ffi3_place_spec.specs.Standard.{plan_of}
 use Rattle.ffi3_place_spec.proofs.EachPlace.{places_length}
-use Rattle.ffi3_capi.specs.Within.{PlaceEndsWithin, ResultEndsWithin}
+use Rattle.ffi3_cif.specs.Runs.{PlaceEndsWithin}
+use Rattle.ffi3_capi.specs.Within.{ResultEndsWithin}
 use Rattle.ffi3_capi.proofs.Within.{places_end, result_ends}
 use Rattle.ffi3_capi.proofs.placing.placed.Goals as goal
 
