@@ -1,4 +1,4 @@
-// What the places of every call keep, for callers to cite.
+//! What the places of every call keep, for callers to cite.
 ghost use Rattle.ffi3_place_spec.specs.Alike.{GoesByLayout, PlacesArraysAsElements};
 ghost use Rattle.ffi3_aapcs64_spec.specs.Aapcs64.{aapcs64};
 ghost use Rattle.ffi3_aapcs64_spec.specs.Ends.{IsPlacedByEnds};

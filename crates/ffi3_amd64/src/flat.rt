@@ -1,5 +1,5 @@
-// Structs whose elements are scalars of at most eight bytes, and arrays of such: one walk over the elements finds their size
-// and where their integers and pointers lie. Most structs are so.
+//! Structs whose elements are scalars of at most eight bytes, and arrays of such: one walk over the elements finds
+//! their size and where their integers and pointers lie. Most structs are so.
 ghost use Rattle.std.specs.Prelude.{◌≡◌, ◌<◌, ◌≤◌, ◌+◌, ◌*◌, ◌^◌, IfSome, length};
 ghost use Rattle.ffi3_type_spec.specs.Tree.{struct_of};
 ghost use Rattle.ffi3_type_spec.specs.Layout.{least_multiple};

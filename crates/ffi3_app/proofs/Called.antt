@@ -2,14 +2,14 @@
 use Rattle.std.proofs.Common.{◌≡◌, ◌∙◌, ℕ, List, [], refl, sym, subst}
 use Rattle.ffi3_cdecl_spec.specs.Tokens.{signed}
 use Rattle.ffi3_cdecl_spec.specs.Grammar.{Declaration}
-use Rattle.ffi3_cdecl_spec.specs.Reading.{Outcome, reads, bad_token, unexpected, bad_number, bad_signature}
-use Rattle.ffi3_cdecl_spec.specs.Prototype.{read_as, sign_unsaid}
+use Rattle.ffi3_cdecl_spec.specs.Reading.{Outcome, reads}
+use Rattle.ffi3_cdecl_spec.specs.Prototype.{read_as}
 use Rattle.ffi3_cdecl_spec.proofs.Prototypes.{read_either}
-use Rattle.ffi3_cdecl_spec.specs.ReadingFor.{IsReadingEverywhere, IsJudgedEverywhere, placed_everywhere, faulty_somewhere, has_bad_token, has_unexpected, has_bad_number, is_judged}
+use Rattle.ffi3_cdecl_spec.specs.ReadingFor.{IsReadingEverywhere, placed_everywhere, is_judged}
 use Rattle.ffi3_names_spec.specs.Names.{AreNames, are_names, declaration_names}
 use Rattle.ffi3_names_spec.specs.Scan.{names_in}
 use Rattle.ffi3_names_spec.proofs.Naming.{name_laws}
-use Rattle.ffi3_app_spec.specs.Declarations.{Input, too_many_bytes, not_utf8, a_text, IsReadWidely}
+use Rattle.ffi3_app_spec.specs.Declarations.{Input, a_text, IsReadWidely}
 use Rattle.ffi3_app_spec.specs.Outcome.{HasNames}
 
 called_by : (bytes : List ℕ) (d : Declaration) (o : Outcome) → IsReadingEverywhere signed bytes o → o ≡ reads d → AreNames signed bytes d (names_in signed bytes)

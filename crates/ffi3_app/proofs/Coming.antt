@@ -6,7 +6,7 @@ use Rattle.ffi3_script_spec.specs.Natives.{NamedNative}
 use Rattle.ffi3_cli_spec.specs.declared.words.InputCommand.{InputCommand}
 use Rattle.ffi3_cli_spec.specs.declared.words.Request.{Request}
 use Rattle.ffi3_cli_spec.specs.declared.words.Request.TheVariants.{OnInput, Bench}
-use Rattle.ffi3_app_spec.specs.Outcome.{Outcome, refuses, tells, runs, benches, IsOutcome, IsOutcomeOn, reads_input}
+use Rattle.ffi3_app_spec.specs.Outcome.{Outcome, refuses, IsOutcome, IsOutcomeOn, reads_input}
 use Rattle.ffi3_app_spec.specs.Top.{ComesTo, HadBytes, IsRead, IsAtEnd, IsReadInPart, LeftInput}
 use Rattle.ffi3_app.proofs.Inputs.{none_dropped}
 use Rattle.ffi3_app.proofs.Outcomes.{IsAccepted, laws}

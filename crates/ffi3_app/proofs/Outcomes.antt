@@ -1,6 +1,6 @@
 -- The laws of what commands come to: of one input one outcome; that of the bytes that are read is that of all; and what is not refused is short.
 use Rattle.std.proofs.Common.{◌≡◌, ℕ, ◌<◌, ◌≤◌, List, length, take, refl, sym, ap, subst, ◌∙◌, arith}
-use Rattle.ffi3_script_spec.specs.Reading.{Reading, too_long, not_json, bad_script, script}
+use Rattle.ffi3_script_spec.specs.Reading.{Reading, too_long, not_json, script}
 use Rattle.ffi3_script_spec.specs.Script.{Script}
 use Rattle.ffi3_script_spec.specs.Natives.{NamedNative, names_of, program_beside}
 use Rattle.ffi3_script_spec.proofs.Readings.{one_reading}

@@ -10,8 +10,6 @@ use Rattle.ffi3_cli_spec.specs.declared.words.InputCommand.{InputCommand}
 use Rattle.ffi3_cli_spec.specs.declared.words.Request.{Request}
 use Rattle.ffi3_cli_spec.specs.declared.words.Request.TheVariants.{OnInput, Bench}
 use Rattle.ffi3_cli_spec.specs.Words.{Takes, IsRefused, IsStated}
-use Rattle.ffi3_cli.specs.WordAnswers.{IsWordsRefusal as WordsRefusal}
-use Rattle.ffi3_cli.specs.declared.words.WordsFault.{WordsFault}
 use Rattle.ffi3_cli.specs.declared.words.WordsFault.TheVariants as words_fault
 use Rattle.ffi3_cli.proofs.Refusals.{one_request, taken_not_refused}
 use Rattle.ffi3_cli.proofs.Stated.{stated_is_taken}

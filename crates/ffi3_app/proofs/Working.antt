@@ -1,6 +1,6 @@
 -- What came of work, from what its parts came to.
 use Rattle.std.proofs.Common.{[], ◌∷◌, ◌≡◌, ◌⊎◌, ℕ, zero, suc, ◌<◌, ◌≤◌, List, length, map, arith, inl, inr, refl, sym, subst, ap, ◌∙◌}
-use Rattle.std.specs.Prelude.{Bool, Result, Ok, Err, IfOk, OnOk, IsUtf8, codes}
+use Rattle.std.specs.Prelude.{Result, Ok, Err, OnOk, IsUtf8, codes}
 use Rattle.ffi3_type_spec.specs.declared.Target.{Target}
 use Rattle.ffi3_type_spec.specs.Signature.{Position, Signature, SignatureFault, SignatureIsPlaced, bad_fixed, fixed_outside}
 use Rattle.ffi3_io_spec.specs.Sink.{SinkState}
@@ -36,7 +36,7 @@ use Rattle.ffi3_script_spec.specs.ReasonText.{text_of_reason}
 use Rattle.ffi3_script.specs.Refusal.{IsScriptRefusal}
 use Rattle.ffi3_script_spec.specs.Reading.{IsReading, too_long, not_json, bad_script, script, max_length}
 use Rattle.ffi3_script_spec.specs.Script.{Script}
-use Rattle.ffi3_script_spec.specs.Natives.{NamedNative, program_beside}
+use Rattle.ffi3_script_spec.specs.Natives.{NamedNative}
 use Rattle.ffi3_script_spec.specs.Meaning.{program_of}
 use Rattle.ffi3_script_spec.specs.Made.{made}
 use Rattle.ffi3_riscv_spec.specs.Riscv.{riscv}
@@ -54,7 +54,7 @@ use Rattle.ffi3_place_spec.specs.Standard.{Standard}
 use Rattle.ffi3_explain_spec.specs.Standards.{standard_of}
 use Rattle.ffi3_app_spec.specs.Declarations.{Input, a_text, IsInput, IsPrototypeEverywhere, IsReadWidely, IsWritable, offset_line, reason_line, marked_line, unexpected_line, fault_words, fault_line, sign_line}
 use Rattle.ffi3_diagnostics_spec.specs.Positions.{placed_words}
-use Rattle.ffi3_app_spec.specs.Outcome.{Outcome, refuses, tells, runs, benches, IsOfScript, IsOfDeclaration, HasNames, IsOfPrototype, IsOfImage, outcome_of_input, outcome_of_prototype, outcome_of_answer, IsOutcomeOn}
+use Rattle.ffi3_app_spec.specs.Outcome.{Outcome, refuses, tells, benches, IsOfScript, IsOfDeclaration, HasNames, IsOfPrototype, IsOfImage, outcome_of_input, outcome_of_prototype, outcome_of_answer, IsOutcomeOn}
 use Rattle.ffi3_app.proofs.Called.{some_names}
 use Rattle.ffi3_app.proofs.Outcomes.{one_prototype_input}
 use Rattle.ffi3_app.specs.declared.work.ScriptTask.{ScriptTask}

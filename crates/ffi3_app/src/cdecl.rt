@@ -26,7 +26,7 @@ pub fn cdecl<O: Sink>(
     write_two_lines(output, signature, canonical_line(alloc, declaration))
 }
 
-// The line of the signature.
+/// The line of the signature.
 fn signature_line(alloc: Global, declaration: &Declaration) -> Result<Bytes, NoMemory>
     requires { SignatureHasNoFault declaration.now.signature }
     ensures { IfOk result (λ line. line ≡ a_line (signature_text declaration.now.signature)) }
@@ -36,7 +36,7 @@ fn signature_line(alloc: Global, declaration: &Declaration) -> Result<Bytes, NoM
     Ok(line)
 }
 
-// The line of the canonical text.
+/// The line of the canonical text.
 fn canonical_line(alloc: Global, declaration: &Declaration) -> Result<Bytes, NoMemory>
     requires { IsWritable declaration.now }
     ensures { IfOk result (λ line. line ≡ a_line (declaration_text declaration.now.called declaration.now.signature)) }

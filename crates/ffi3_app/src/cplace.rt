@@ -47,7 +47,7 @@ pub fn cplace<O: Sink>(
     place_everywhere(alloc, declaration.sig(), &names, output)
 }
 
-// The signature and the canonical text.
+/// The signature and the canonical text.
 fn prototype<O: Sink>(
     alloc: Global,
     declaration: &Declaration,
@@ -60,7 +60,7 @@ fn prototype<O: Sink>(
     write_two_lines(output, signature, prototype_line(alloc, declaration))
 }
 
-// The line of the signature.
+/// The line of the signature.
 fn told_line(alloc: Global, declaration: &Declaration) -> Result<Bytes, NoMemory>
     requires { (format : Format) → SignatureIsPlaced (resolved_signature format declaration.now.signature) }
     ensures { IfOk result (λ line. line ≡ a_line (told_signature declaration.now.signature)) }
@@ -70,7 +70,7 @@ fn told_line(alloc: Global, declaration: &Declaration) -> Result<Bytes, NoMemory
     Ok(line)
 }
 
-// The line of the canonical text.
+/// The line of the canonical text.
 fn prototype_line(alloc: Global, declaration: &Declaration) -> Result<Bytes, NoMemory>
     requires { (format : Format) → SignatureIsPlaced (resolved_signature format declaration.now.signature) }
     ensures { IfOk result (λ line. line ≡ a_line (prototype_text declaration.now.called declaration.now.signature)) }
@@ -80,7 +80,7 @@ fn prototype_line(alloc: Global, declaration: &Declaration) -> Result<Bytes, NoM
     Ok(line)
 }
 
-// The targets, one after another.
+/// The targets, one after another.
 fn place_everywhere<O: Sink>(
     alloc: Global,
     sig: &Sig,
@@ -97,7 +97,7 @@ fn place_everywhere<O: Sink>(
     place_on::<Apple, O>(alloc, Target::Apple, sig, names, output)
 }
 
-// A target's name, and the lines of place by its standard, where long doubles are what they are on that target.
+/// A target's name, and the lines of place by its standard, where long doubles are what they are on that target.
 fn place_on<A: Abi, O: Sink>(
     alloc: Global,
     target: Target,
@@ -114,7 +114,7 @@ fn place_on<A: Abi, O: Sink>(
     place_signature::<A, O>(alloc, 0, here, names, output)
 }
 
-// The line of a target.
+/// The line of a target.
 fn target_line(alloc: Global, target: Target) -> Result<Bytes, NoMemory>
     ensures { IfOk result (λ line. line ≡ target_line target) }
 {

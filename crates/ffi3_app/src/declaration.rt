@@ -30,7 +30,7 @@ pub fn declaration_in(alloc: Global, bytes: &[u8]) -> Result<Declaration, Unfini
     }
 }
 
-// What a fault of a declaration is told as.
+/// What a fault of a declaration is told as.
 fn refusal(alloc: Global, fault: &DeclFault) -> Unfinished
     ensures { IsFaultToldAs fault.now result }
 {
@@ -46,7 +46,7 @@ fn refusal(alloc: Global, fault: &DeclFault) -> Unfinished
     }
 }
 
-// The line of a fault at an offset.
+/// The line of a fault at an offset.
 fn offset_line(alloc: Global, at: u64, words: &str) -> Result<Bytes, NoMemory>
     ensures { IfOk result (λ line. line ≡ offset_line at words.now) }
 {

@@ -23,7 +23,7 @@ pub fn layout<O: Sink>(alloc: Global, script: &Script, output: &mut O) -> Result
     Ok(())
 }
 
-// The lines of one signature: of its result, then of its arguments.
+/// The lines of one signature: of its result, then of its arguments.
 fn layout_of<O: Sink>(
     alloc: Global,
     number: u32,

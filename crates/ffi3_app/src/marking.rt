@@ -32,7 +32,7 @@ pub fn place_refusal(alloc: Global, text: &str, fault: &DeclFault) -> Unfinished
     }
 }
 
-// The words of the first fault of a signature, behind the name of the value that has it.
+/// The words of the first fault of a signature, behind the name of the value that has it.
 #[tactic(auto, using(crate::proofs::Working::fault_named))]
 fn fault_words(alloc: Global, fault: &SigFault) -> Result<Bytes, NoMemory>
     ensures { IfOk result (λ words. words ≡ fault_words (signature_fault_of fault.now)) }
@@ -42,14 +42,14 @@ fn fault_words(alloc: Global, fault: &SigFault) -> Result<Bytes, NoMemory>
     placed_words(alloc, fault, words.as_slice())
 }
 
-// Its line.
+/// Its line.
 fn fault_line(alloc: Global, fault: &SigFault) -> Result<Bytes, NoMemory>
     ensures { IfOk result (λ line. line ≡ fault_line (signature_fault_of fault.now)) }
 {
     reason_line(alloc, fault_words(alloc, fault))
 }
 
-// The line of a fault at an offset, and the text's line with a mark.
+/// The line of a fault at an offset, and the text's line with a mark.
 fn marked_line(alloc: Global, text: &str, at: u64, words: &[u8]) -> Result<Bytes, NoMemory>
     ensures { IfOk result (λ lines. lines ≡ marked_line text.now at words.now) }
 {
@@ -62,7 +62,7 @@ fn marked_line(alloc: Global, text: &str, at: u64, words: &[u8]) -> Result<Bytes
     Ok(lines)
 }
 
-// Those of a place that is unexpected.
+/// Those of a place that is unexpected.
 fn unexpected_line(alloc: Global, text: &str, at: u64) -> Result<Bytes, NoMemory>
     ensures { IfOk result (λ lines. lines ≡ unexpected_line text.now at) }
 {

@@ -20,7 +20,7 @@ pub fn names_of_natives(alloc: Global, natives: &Vec<Box<dyn Native>>) -> Result
     Ok(names)
 }
 
-// The name of native `i`.
+/// The name of native `i`.
 fn name_at(natives: &Vec<Box<dyn Native>>, i: usize) -> &str
     requires { i < length natives.now.items }
     ensures { slice_get (names_of (handed title meaning signatures natives.now.items)) i ≡ Some result.now }
@@ -28,7 +28,7 @@ fn name_at(natives: &Vec<Box<dyn Native>>, i: usize) -> &str
     name_of(native_at(natives, i))
 }
 
-// Native `i`.
+/// Native `i`.
 fn native_at(natives: &Vec<Box<dyn Native>>, i: usize) -> &Box<dyn Native>
     requires { i < length natives.now.items }
     ensures { slice_get (handed title meaning signatures natives.now.items) i
@@ -37,7 +37,7 @@ fn native_at(natives: &Vec<Box<dyn Native>>, i: usize) -> &Box<dyn Native>
     &natives[i]
 }
 
-// A box is called here, so that its callers' proofs speak of the box itself.
+/// A box is called here, so that its callers' proofs speak of the box itself.
 fn name_of(native: &Box<dyn Native>) -> &str
     ensures { result.now ≡ title native.now }
 {

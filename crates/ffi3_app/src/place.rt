@@ -32,7 +32,7 @@ pub fn place<A: Abi, O: Sink>(alloc: Global, script: &Script, output: &mut O) ->
     Ok(())
 }
 
-// The same of one signature without fault, as the one of this number.
+/// The same of one signature without fault, as the one of this number.
 fn place_one<A: Abi, O: Sink>(
     alloc: Global,
     number: u32,
@@ -61,7 +61,7 @@ pub fn place_signature<A: Abi, O: Sink>(
     place_of(alloc, number, &placed, names, output)
 }
 
-// The lines of one signature: its frame, the arguments, then the result.
+/// The lines of one signature: its frame, the arguments, then the result.
 fn place_of<A: Abi, O: Sink>(
     alloc: Global,
     number: u32,
@@ -79,7 +79,7 @@ fn place_of<A: Abi, O: Sink>(
     write_made_line(output, place_line(alloc, placed, At::Ret))
 }
 
-// The line of an argument, with its name where it has one.
+/// The line of an argument, with its name where it has one.
 fn argument_line<A: Abi>(
     alloc: Global,
     placed: &Placed<A>,
@@ -97,7 +97,7 @@ fn argument_line<A: Abi>(
     with_name(head, name, line.as_slice())
 }
 
-// What a line begins with, a name, and the rest of the line.
+/// What a line begins with, a name, and the rest of the line.
 fn with_name(head: Bytes, name: &[u8], line: &[u8]) -> Result<Bytes, NoMemory>
     requires { length head ≤ length line.now }
     ensures { IfOk result (λ l. l ≡ head ++ (codes " " ++ (name.now ++ (codes ":" ++ drop (length head) line.now)))) }

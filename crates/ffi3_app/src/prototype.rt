@@ -41,7 +41,7 @@ pub fn prototype_in(alloc: Global, bytes: &[u8]) -> Result<Declaration, Unfinish
     by_both_signs(alloc, text)
 }
 
-// The text where `char` is signed, if it is the same where it is not.
+/// The text where `char` is signed, if it is the same where it is not.
 fn by_both_signs(alloc: Global, text: &str) -> Result<Declaration, Unfinished>
     ensures read { IfOk result (λ d. IsPrototypeEverywhere text.now (read_as (reads d))) }
     ensures refused { IfErr result (IsNoText text.now) }
@@ -52,7 +52,7 @@ fn by_both_signs(alloc: Global, text: &str) -> Result<Declaration, Unfinished>
     }
 }
 
-// The declaration that the text is where `char` is signed.
+/// The declaration that the text is where `char` is signed.
 fn by_other_sign(
     alloc: Global,
     text: &str,
@@ -68,7 +68,7 @@ fn by_other_sign(
     }
 }
 
-// The declaration, if this other one is the same.
+/// The declaration, if this other one is the same.
 fn if_alike(
     alloc: Global,
     declaration: Declaration,
@@ -84,7 +84,7 @@ fn if_alike(
     Err(refused(sign_line(alloc, at)))
 }
 
-// Whether two declarations are equal.
+/// Whether two declarations are equal.
 #[tactic(auto, using(crate::proofs::Alike::other_names, crate::proofs::Alike::same_names))]
 fn are_alike(a: &Declaration, b: &Declaration) -> bool
     ensures { IsTrue result ↔ (a.now ≡ b.now) }
@@ -95,14 +95,14 @@ fn are_alike(a: &Declaration, b: &Declaration) -> bool
     same_sig(a.sig(), b.sig())
 }
 
-// Whether two types are equal.
+/// Whether two types are equal.
 fn are_same(a: &FfiType, b: &FfiType) -> bool
     ensures { result ≡ same_tree (tree_of a.now) (tree_of b.now) }
 {
     same_type(a, b)
 }
 
-// The first type that two signatures do not share.
+/// The first type that two signatures do not share.
 #[tactic(auto, using(crate::proofs::Fronts::front_goes_on, crate::proofs::Fronts::front_ends, crate::proofs::Fronts::first_ends, crate::proofs::Fronts::second_ends, crate::proofs::Fronts::in_result, crate::proofs::Fronts::in_arguments))]
 fn first_other(a: &Sig, b: &Sig) -> At
     ensures { position_of result ≡ first_other a.now b.now }
@@ -117,14 +117,14 @@ fn first_other(a: &Sig, b: &Sig) -> At
     At::Arg(i)
 }
 
-// What a value is told whose type is another where `char` is signed than where it is not.
+/// What a value is told whose type is another where `char` is signed than where it is not.
 fn sign_words(alloc: Global, at: At) -> Result<Bytes, NoMemory>
     ensures { IfOk result (λ words. words ≡ sign_words (position_of at)) }
 {
     words_at(alloc, at, SIGN_UNSAID.as_bytes())
 }
 
-// The line of it.
+/// The line of it.
 fn sign_line(alloc: Global, at: At) -> Result<Bytes, NoMemory>
     ensures { IfOk result (λ line. line ≡ sign_line (position_of at)) }
 {

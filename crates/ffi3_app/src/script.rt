@@ -36,7 +36,7 @@ pub fn script_in(
     }
 }
 
-// What a fault of a script is told as.
+/// What a fault of a script is told as.
 fn refusal(alloc: Global, fault: &ScriptFault) -> Unfinished
     ensures { IsToldAs fault.now result }
 {
@@ -50,7 +50,7 @@ fn refusal(alloc: Global, fault: &ScriptFault) -> Unfinished
     }
 }
 
-// The line of a place and what is said of it, where there was memory for the words.
+/// The line of a place and what is said of it, where there was memory for the words.
 fn fault_line(
     alloc: Global,
     path: &Where,
@@ -64,7 +64,7 @@ fn fault_line(
     located_line(alloc, path, words.as_slice())
 }
 
-// The line of a place and what is said of it.
+/// The line of a place and what is said of it.
 fn located_line(alloc: Global, path: &Where, words: &[u8]) -> Result<Bytes, NoMemory>
     ensures { IfOk result (λ line. line ≡ located_line path.now words.now) }
 {

@@ -74,7 +74,7 @@ pub fn ffi3<I: Source, O: Sink, E: Sink>(
     answer(alloc, words, input, output, faults, natives, machine)
 }
 
-// The same, from which the clauses above follow.
+/// The same, from which the clauses above follow.
 fn answer<I: Source, O: Sink, E: Sink>(
     alloc: Global,
     words: Vec<String>,
@@ -103,7 +103,7 @@ fn answer<I: Source, O: Sink, E: Sink>(
     }
 }
 
-// Carries out a command on the input, of which it reads at most one byte more than a script may have.
+/// Carries out a command on the input, of which it reads at most one byte more than a script may have.
 fn answer_on_input<I: Source, O: Sink, E: Sink>(
     alloc: Global,
     command: InputCommand,

@@ -67,7 +67,7 @@ pub fn work<O: Sink>(
     }
 }
 
-// What a command came to that writes a text.
+/// What a command came to that writes a text.
 fn written(text: Result<(), IoError>) -> Result<u8, Unfinished>
     ensures { result ≡ work_of_writing text }
 {
@@ -159,7 +159,7 @@ fn on_script<O: Sink>(
     }
 }
 
-// By the target's standard. No other function of this crate chooses by the target.
+/// By the target's standard. No other function of this crate chooses by the target.
 fn on_target<O: Sink>(
     alloc: Global,
     target: Target,
@@ -183,7 +183,7 @@ fn on_target<O: Sink>(
     }
 }
 
-// By a calling standard.
+/// By a calling standard.
 fn by_standard<A: Abi, O: Sink>(
     alloc: Global,
     task: ScriptTask,
@@ -205,7 +205,7 @@ fn by_standard<A: Abi, O: Sink>(
     }
 }
 
-// On the machine of a standard's target.
+/// On the machine of a standard's target.
 fn run_by<A: Abi, O: Sink>(
     alloc: Global,
     trace: bool,

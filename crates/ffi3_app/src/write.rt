@@ -44,7 +44,7 @@ pub fn write_lines<O: Sink>(output: &mut O, text: &[u8]) -> Result<(), IoError>
     Ok(())
 }
 
-// Writes a part of a text in one piece.
+/// Writes a part of a text in one piece.
 fn write_piece<O: Sink>(
     output: &mut O,
     text: &[u8],
@@ -58,7 +58,7 @@ fn write_piece<O: Sink>(
     write_line(output, &text[start..end])
 }
 
-// Where the line ends that begins there, behind its newline. The last may have none.
+/// Where the line ends that begins there, behind its newline. The last may have none.
 #[tactic(auto, using(crate::proofs::LineEnds::line_more, crate::proofs::LineEnds::line_stops, crate::proofs::LineEnds::line_ends))]
 fn end_of_line(text: &[u8], start: usize) -> usize
     requires { start < length text.now }

@@ -22,7 +22,7 @@ use ffi3_script::{Script, made_script};
 use ffi3_types::{Bytes, NoMemory};
 use std::alloc::Global;
 
-// The line of what was measured.
+/// The line of what was measured.
 fn line_of(alloc: Global, target: &str, measured: &Measured) -> Result<Bytes, NoMemory>
     ensures { IfOk result
         (λ l. l ≡ (target.now ++ counts_text measured.now.calls measured.now.moves measured.now.need) ++ measured.now.line.taken) }
@@ -37,7 +37,7 @@ fn line_of(alloc: Global, target: &str, measured: &Measured) -> Result<Bytes, No
     Ok(line)
 }
 
-// The line of a script that returns, by a standard.
+/// The line of a script that returns, by a standard.
 fn bench_by<A: Abi, O: Sink>(
     alloc: Global,
     target: &str,

@@ -28,7 +28,7 @@ pub(crate) struct Measured {
     pub(crate) line: LineSink,
 }
 
-// The greatest need of a run's signatures.
+/// The greatest need of a run's signatures.
 fn greatest_need<A: Abi>(cifs: &Cifs<A>) -> u64
     ensures { result ≡ greatest (map (need_of A.standard) cifs.now) }
 {

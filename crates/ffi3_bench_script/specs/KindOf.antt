@@ -1,4 +1,4 @@
--- Which types the kinds of the code are.
+-- The types that the kinds of the code stand for.
 use Rattle.std.specs.Prelude.{ℕ, List, [], ◌∷◌, map}
 use Rattle.ffi3_type_spec.specs.Tree.{Tree, scalar, u8, s32, u64, float, double, struct_of}
 use Rattle.ffi3_bench_script.specs.declared.kinds.Kind.{Kind}

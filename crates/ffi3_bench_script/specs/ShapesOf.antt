@@ -1,4 +1,4 @@
--- Which types are drawn.
+-- The types that are drawn.
 use Rattle.std.specs.Prelude.{List, [], ◌∷◌}
 use Rattle.ffi3_type_spec.specs.Tree.{Tree}
 use Rattle.ffi3_bench_script.specs.KindOf.{types_of}

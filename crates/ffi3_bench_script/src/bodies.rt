@@ -1,4 +1,4 @@
-// The bodies of the functions, and main.
+//! The bodies of the functions, and main.
 ghost use Rattle.std.specs.Prelude.{◌≡◌, ◌<◌, ◌≤◌, ◌+◌, ◌++◌, ◌∷◌, [], IfOk, OnOk, length};
 ghost use Rattle.ffi3_type_spec.specs.declared.limits.TheConstants.{MOST_CALLS};
 ghost use Rattle.ffi3_script_spec.specs.Script as script;
@@ -12,7 +12,7 @@ use ffi3_script_body::{Act, Expr, ScriptMove, TypedExpr};
 use ffi3_types::FfiType;
 use std::alloc::Global;
 
-// A move without a condition and without a name.
+/// A move without a condition and without a name.
 fn does(act: Act) -> ScriptMove
     ensures { script_move_of result ≡ does (act_of act) }
 {
@@ -23,21 +23,21 @@ fn does(act: Act) -> ScriptMove
     }
 }
 
-// One more move.
+/// One more move.
 fn push(moves: &mut Vec<ScriptMove>, one: ScriptMove) -> Result<(), NoMemory>
     ensures { OnOk result (moves.new.items ≡ moves.old.items ++ one ∷ []) }
 {
     Ok(moves.push(one)?)
 }
 
-// A move that returns a value.
+/// A move that returns a value.
 fn returns(value: Box<Expr>) -> ScriptMove
     ensures { script_move_of result ≡ does (script.return (expression_of value.value)) }
 {
     does(Act::Return(Box::into_inner(value)))
 }
 
-// A closure of function `s`.
+/// A closure of function `s`.
 fn makes(alloc: Global, s: u32) -> Result<ScriptMove, NoMemory>
     ensures { IfOk result (λ m. script_move_of m ≡ makes s) }
 {
@@ -45,7 +45,7 @@ fn makes(alloc: Global, s: u32) -> Result<ScriptMove, NoMemory>
     Ok(does(Act::Make { func: s, user }))
 }
 
-// The total of call `j` of main.
+/// The total of call `j` of main.
 fn total_of(alloc: Global, j: u32) -> Result<Expr, NoMemory>
     requires { j ≤ MOST_CALLS }
     ensures { IfOk result (λ e. expression_of e ≡ total_of j) }
@@ -63,7 +63,7 @@ impl Shapes {
     ghost use Rattle.ffi3_bench_script.specs.KindOf.{state_of};
     ghost use Rattle.ffi3_bench_script.specs.ShapesOf.{types_in};
 
-    // A call of function `s`, filled with `v`.
+    /// A call of function `s`, filled with `v`.
     fn call(&self, alloc: Global, s: u32, v: u32, total: Expr) -> Result<ScriptMove, NoMemory>
         requires there { s < 4 }
         requires small { v < 100 }
@@ -74,7 +74,7 @@ impl Shapes {
         Ok(does(Act::Call { ptr, sig: s, args }))
     }
 
-    // Function `s`'s own total.
+    /// Function `s`'s own total.
     fn own_total(&self, s: u32) -> Expr
         requires { s < 4 }
         ensures { expression_of result ≡ own_total (types_at (types_in self.now) s) }

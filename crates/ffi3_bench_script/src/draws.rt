@@ -1,4 +1,4 @@
-// Numbers drawn from a seed.
+//! Numbers drawn from a seed.
 ghost use Rattle.std.specs.Prelude.{◌≡◌, ◌<◌};
 ghost use Rattle.ffi3_script_spec.specs.Made.{first_state, next_state, drawn};
 ghost use Rattle.ffi3_bench_script.specs.KindOf.{state_of};

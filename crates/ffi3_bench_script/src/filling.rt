@@ -1,4 +1,4 @@
-// Values that are filled with numbers.
+//! Values that are filled with numbers.
 ghost use Rattle.std.specs.Prelude.{◌≡◌, ◌<◌, ◌≤◌, ◌+◌, ◌++◌, ◌∷◌, [], IfOk, OnOk, true, length, map};
 ghost use Rattle.ffi3_types.specs.TreeOf.{tree_of};
 ghost use Rattle.ffi3_type_spec.specs.Tree.{u8, u64, float, double};
@@ -25,14 +25,14 @@ pub(crate) fn number(alloc: Global, ty: &FfiType, n: u32) -> Result<Expr, NoMemo
     }
 }
 
-// A float whose bytes all are this one.
+/// A float whose bytes all are this one.
 fn float(alloc: Global, byte: u8) -> Result<Expr, NoMemory>
     ensures { IfOk result (λ e. expression_of e ≡ filled_leaf float byte) }
 {
     Ok(Expr::Constant(Bytes::from_slice(alloc, &[byte; 4])?))
 }
 
-// A double whose bytes all are this one.
+/// A double whose bytes all are this one.
 fn double(alloc: Global, byte: u8) -> Result<Expr, NoMemory>
     ensures { IfOk result (λ e. expression_of e ≡ filled_leaf double byte) }
 {
@@ -46,7 +46,7 @@ pub(crate) fn push(values: &mut Vec<Expr>, value: Expr) -> Result<(), NoMemory>
     Ok(values.push(value)?)
 }
 
-// Two 64-bit integers.
+/// Two 64-bit integers.
 fn two_words(alloc: Global, first: u32) -> Result<Vec<Expr>, NoMemory>
     requires { first < 256 }
     ensures { IfOk result (λ es. map expression_of es.items ≡ number u64 first ∷ number u64 (first + 1) ∷ []) }
@@ -57,7 +57,7 @@ fn two_words(alloc: Global, first: u32) -> Result<Vec<Expr>, NoMemory>
     Ok(values)
 }
 
-// Three of them.
+/// Three of them.
 fn three_words(alloc: Global, first: u32) -> Result<Vec<Expr>, NoMemory>
     requires { first < 256 }
     ensures { IfOk result
@@ -68,7 +68,7 @@ fn three_words(alloc: Global, first: u32) -> Result<Vec<Expr>, NoMemory>
     Ok(values)
 }
 
-// A double and a byte.
+/// A double and a byte.
 fn double_and_byte(alloc: Global, first: u32) -> Result<Vec<Expr>, NoMemory>
     requires { first < 256 }
     ensures { IfOk result
@@ -80,7 +80,7 @@ fn double_and_byte(alloc: Global, first: u32) -> Result<Vec<Expr>, NoMemory>
     Ok(values)
 }
 
-// Two floats.
+/// Two floats.
 fn two_floats(alloc: Global, first: u32) -> Result<Vec<Expr>, NoMemory>
     requires { first + 1 < 256 }
     ensures { IfOk result
@@ -92,7 +92,7 @@ fn two_floats(alloc: Global, first: u32) -> Result<Vec<Expr>, NoMemory>
     Ok(values)
 }
 
-// A value of a kind, filled from this number on.
+/// A value of a kind, filled from this number on.
 fn filled(alloc: Global, kind: Kind, first: u32) -> Result<Expr, NoMemory>
     requires { first + 2 < 256 }
     ensures { IfOk result (λ e. expression_of e ≡ filled first (type_of kind)) }
@@ -109,7 +109,7 @@ fn filled(alloc: Global, kind: Kind, first: u32) -> Result<Expr, NoMemory>
     }
 }
 
-// A value of each of these kinds.
+/// A value of each of these kinds.
 fn filled_each(alloc: Global, kinds: &[Kind], v: u32) -> Result<Vec<Expr>, NoMemory>
     requires few { length kinds.now ≤ 4 }
     requires small { v < 100 }

@@ -1,4 +1,4 @@
-// The eight types of arguments.
+//! The eight types of arguments.
 ghost use Rattle.std.specs.Prelude.{◌≡◌, ◌<◌, ◌≤◌, IfOk, [], ◌∷◌};
 ghost use Rattle.ffi3_type_spec.specs.Tree.{scalar, u64};
 ghost use Rattle.ffi3_types.specs.TreeOf.{tree_of};
@@ -23,7 +23,7 @@ pub enum Kind {
     ThreeWords,
 }
 
-// A struct of two elements.
+/// A struct of two elements.
 fn pair(alloc: Global, first: FfiType, second: FfiType) -> Result<Fields, NoMemory>
     ensures { IfOk result (λ fs. fs ≡ tree_of first ∷ tree_of second ∷ []) }
 {
@@ -33,7 +33,7 @@ fn pair(alloc: Global, first: FfiType, second: FfiType) -> Result<Fields, NoMemo
     Ok(fields)
 }
 
-// A struct of three words.
+/// A struct of three words.
 fn three_words(alloc: Global) -> Result<Fields, NoMemory>
     ensures { IfOk result (λ fs. fs ≡ scalar u64 ∷ scalar u64 ∷ scalar u64 ∷ []) }
 {

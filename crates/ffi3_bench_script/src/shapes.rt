@@ -1,4 +1,4 @@
-// The argument types of the four functions.
+//! The argument types of the four functions.
 ghost use Rattle.std.specs.Prelude.{◌≡◌, ◌<◌, ◌≤◌, ◌++◌, ◌∷◌, [], IfOk, OnOk, length, map};
 ghost use Rattle.ffi3_script_spec.specs.Made.{drawn_arguments, after_arguments, made_signature};
 ghost use Rattle.ffi3_bench_script.specs.KindOf.{types_of, state_of};
@@ -21,14 +21,14 @@ pub struct Shapes {
     ghost few_fourth: { length fourth.items ≤ 4 },
 }
 
-// One more kind.
+/// One more kind.
 fn push_kind(kinds: &mut Vec<Kind>, kind: Kind) -> Result<(), NoMemory>
     ensures { OnOk result (kinds.new.items ≡ kinds.old.items ++ kind ∷ []) }
 {
     Ok(kinds.push(kind)?)
 }
 
-// The kinds of one function's arguments: how many there are, and then each.
+/// The kinds of one function's arguments: how many there are, and then each.
 fn draw_kinds(alloc: Global, draws: &mut Draws) -> Result<Vec<Kind>, NoMemory>
     ensures are { IfOk result (λ ks. types_of ks.items ≡ drawn_arguments (state_of draws.old)) }
     ensures few { IfOk result (λ ks. length ks.items ≤ 4) }
@@ -42,7 +42,7 @@ fn draw_kinds(alloc: Global, draws: &mut Draws) -> Result<Vec<Kind>, NoMemory>
     Ok(kinds)
 }
 
-// The signature of a function of arguments of these kinds.
+/// The signature of a function of arguments of these kinds.
 fn signature(alloc: Global, kinds: &[Kind]) -> Result<Sig, NoMemory>
     requires { length kinds.now ≤ 4 }
     ensures { IfOk result (λ s. s ≡ made_signature (types_of kinds.now)) }

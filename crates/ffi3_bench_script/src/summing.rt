@@ -1,4 +1,4 @@
-// Sums of the integers that a function is handed.
+//! Sums of the integers that a function is handed.
 ghost use Rattle.std.specs.Prelude.{◌≡◌, ◌≤◌, IfOk, length};
 ghost use Rattle.ffi3_types.specs.TreeOf.{tree_of};
 ghost use Rattle.ffi3_type_spec.specs.Tree.{u64};
@@ -29,7 +29,7 @@ pub(crate) fn sum(alloc: Global, a: Box<Expr>, b: Box<Expr>) -> Result<Box<Expr>
     boxed(alloc, Expr::Sum(FfiType::U64, a, b))
 }
 
-// A sum, and an integer of a type added.
+/// A sum, and an integer of a type added.
 fn with_leaf(
     alloc: Global,
     so_far: Box<Expr>,
@@ -45,14 +45,14 @@ fn with_leaf(
     sum(alloc, so_far, leaf)
 }
 
-// An element of an argument.
+/// An element of an argument.
 fn element(alloc: Global, i: u32, number: u32) -> Result<Expr, NoMemory>
     ensures { IfOk result (λ e. expression_of e ≡ script.element (script.argument i) number) }
 {
     Ok(Expr::Element(boxed(alloc, Expr::Argument(i))?, number))
 }
 
-// A sum, and an element of an argument added.
+/// A sum, and an element of an argument added.
 fn with_element(
     alloc: Global,
     so_far: Box<Expr>,
@@ -68,7 +68,7 @@ fn with_element(
     with_leaf(alloc, so_far, ty, leaf)
 }
 
-// A sum, and all integer leaves of argument `i`, which is of a kind.
+/// A sum, and all integer leaves of argument `i`, which is of a kind.
 fn with_leaves(alloc: Global, so_far: Box<Expr>, kind: Kind, i: u32) -> Result<Box<Expr>, NoMemory>
     ensures { IfOk result
         (λ e. expression_of e.value ≡ with_leaves (expression_of so_far.value) (type_of kind) (script.argument i)) }

@@ -1,4 +1,4 @@
--- Which move a move of the code is.
+-- The move that each Rust move stands for.
 use Rattle.ffi3_types.specs.TreeOf.{tree_of}
 use Rattle.ffi3_values.specs.ValueOf.{value_of}
 use Rattle.ffi3_semantics_spec.specs.Move.{Move as RunMove, call, make, free, print, return}

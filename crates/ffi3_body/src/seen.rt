@@ -1,4 +1,4 @@
-// What an activation has seen.
+//! What an activation has seen.
 ghost use Rattle.std.specs.Prelude.{◌≡◌, ◌+◌, ◌<◌, ◌≤◌, ◌^◌, IfOk, length, true, slice_index_or};
 ghost use Rattle.ffi3_type_spec.specs.declared.limits.TheConstants.{LARGEST_TYPE};
 ghost use Rattle.ffi3_type_spec.specs.Tree.{tree_at, trees_of};

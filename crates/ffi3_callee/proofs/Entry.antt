@@ -1,25 +1,22 @@
 -- From the image at an entry to places that count from the end of the return address, and the steps of taking arguments put together.
-use Rattle.std.proofs.Common.{◌≡◌, inr, ℕ, ◌+◌, ◌-◌, ◌*◌, ◌≤◌, List, [], ◌∷◌, ◌++◌, take, drop, get_or, length, refl, ap, sym, ◌∙◌, subst, arith}
+use Rattle.std.proofs.Common.{◌≡◌, inr, ℕ, ◌+◌, ◌-◌, ◌*◌, ◌≤◌, List, [], ◌∷◌, ◌++◌, take, drop, length, refl, ap, sym, ◌∙◌, subst, arith}
 use Rattle.std.specs.Prelude.{Option, ⊤}
 use Rattle.std.specs.List.{AllByRecursion, flat_map}
-use Rattle.std.specs.Int.{w64, from_le_bytes}
 use Rattle.std.proofs.lemmas.List.{drop-drop, drop-take, get_or-drop}
 use Rattle.ffi3_type_spec.specs.declared.Target.TheVariants.{Amd64}
 use Rattle.ffi3_type_spec.specs.TargetIsa.{isa_of}
 use Rattle.ffi3_type_spec.specs.Tree.{Tree}
-use Rattle.ffi3_type_spec.specs.Layout.{Leaf, size_of}
 use Rattle.ffi3_type_spec.specs.Signature.{Signature, SignatureHasNoFault}
-use Rattle.ffi3_type_spec.specs.Value.{ValueTree, value_in}
+use Rattle.ffi3_type_spec.specs.Value.{ValueTree}
 use Rattle.ffi3_place_spec.specs.declared.Loc.{Loc}
 use Rattle.ffi3_place_spec.specs.declared.Loc.TheVariants.{G, F, S}
-use Rattle.ffi3_place_spec.specs.declared.Piece.{Piece}
 use Rattle.ffi3_place_spec.specs.declared.Place.{Place}
 use Rattle.ffi3_place_spec.specs.declared.Place.TheVariants.{Direct, ByRef}
 use Rattle.ffi3_place_spec.specs.declared.Res.{Res}
-use Rattle.ffi3_place_spec.specs.declared.Res.TheVariants.{Nothing, Direct as DirectRes, Hidden}
-use Rattle.ffi3_place_spec.specs.Image.{Image, byte_at, word_at}
+use Rattle.ffi3_place_spec.specs.declared.Res.TheVariants.{Hidden}
+use Rattle.ffi3_place_spec.specs.Image.{Image, word_at}
 use Rattle.ffi3_place_spec.specs.Standard.{Standard, block_bytes, frame_of, plan_of}
-use Rattle.ffi3_place_spec.specs.Holds.{Carries, LeavesStand, OwnsArgument, OwnsArguments, OwnsHidden}
+use Rattle.ffi3_place_spec.specs.Holds.{OwnsArguments, OwnsHidden}
 use Rattle.ffi3_place_spec.specs.MachineRegisters.{to_list}
 use Rattle.ffi3_place_spec.specs.StubRegisters.{hidden_register}
 use Rattle.ffi3_place_spec.specs.Sound.{IsOneOf, IsOnStackOrIn, IsSound, argument_locs, buffer_locs, copy_locs, hidden_locs, place_locs}
@@ -38,7 +35,7 @@ use Rattle.ffi3_machine_transfer.proofs.Owning.{image_word}
 use Rattle.ffi3_machine_transfer.proofs.Stepping.{same_word_in}
 use Rattle.ffi3_semantics_spec.specs.SeenActivation.{arguments_in}
 use Rattle.ffi3_place_spec.specs.declared.SaveWord.{SaveWord}
-use Rattle.ffi3_place_spec.specs.declared.SaveWord.TheVariants.{Register, Hidden as HiddenWord, Spare}
+use Rattle.ffi3_place_spec.specs.declared.SaveWord.TheVariants.{Register}
 use Rattle.ffi3_callee.specs.Loaded.{AreFound, image_from}
 use Rattle.ffi3_callee.specs.Entered.{IsEntered}
 use Rattle.ffi3_callee.specs.Given.{IsAddressOf, IsAddressOrZero}

@@ -1,6 +1,6 @@
 -- A result that was given is held.
 use Rattle.std.specs.Prelude.{true, ◌&&◌, Option, Some, None}
-use Rattle.std.proofs.Common.{◌≡◌, inl, inr, ⊎_elim, ℕ, ◌+◌, ◌-◌, ◌*◌, ◌<◌, ◌≤◌, List, [], ◌∷◌, take, drop, get_or, length, refl, ap, sym, ◌∙◌, subst, arith}
+use Rattle.std.proofs.Common.{◌≡◌, inl, ⊎_elim, ℕ, ◌+◌, ◌-◌, ◌*◌, ◌<◌, ◌≤◌, List, [], ◌∷◌, take, drop, get_or, length, refl, ap, sym, ◌∙◌, subst, arith}
 use Rattle.std.specs.List.{AllByRecursion}
 use Rattle.std.proofs.lemmas.Bool.{cases_lt}
 use Rattle.ffi3_type_spec.specs.declared.Target.{Target}
@@ -18,7 +18,7 @@ use Rattle.ffi3_place_spec.specs.declared.Piece.{Piece}
 use Rattle.ffi3_place_spec.specs.declared.Place.TheVariants.{Direct}
 use Rattle.ffi3_place_spec.specs.declared.Res.{Res}
 use Rattle.ffi3_place_spec.specs.declared.Res.TheVariants.{Nothing, Direct as DirectRes, Hidden}
-use Rattle.ffi3_place_spec.specs.Standard.{Standard, ResultSpot, no_result, in_result_pieces, in_buffer, plan_of, frame_of, result_at, buffer_end, frame_copies_end, round8}
+use Rattle.ffi3_place_spec.specs.Standard.{Standard, plan_of, frame_of}
 use Rattle.ffi3_place_spec.specs.Holds.{leaf_bytes, FillsAs, FillsResult, HoldsResult, OwnsResult, RegisterHolds}
 use Rattle.ffi3_place_spec.specs.Sound.{ResultHasAll, piece_locs, result_locs}
 use Rattle.ffi3_type_spec.specs.declared.limits.TheConstants.{STACK, STACK_BYTES, STACK_TOP}

@@ -1,8 +1,7 @@
 -- The way back of a callee, through the stub Exit or by giving back what was saved.
 use Rattle.std.specs.Prelude.{Option, Some, None, option_map}
-use Rattle.std.proofs.Common.{◌≡◌, inl, ℕ, suc, ◌+◌, ◌-◌, ◌%◌, ◌^◌, ◌<◌, ◌≤◌, Bool, true, false, List, [], ◌∷◌, ◌++◌, take, drop, get_or, length, refl, ap, sym, ◌∙◌, subst, arith}
+use Rattle.std.proofs.Common.{◌≡◌, inl, ℕ, ◌+◌, ◌-◌, ◌%◌, ◌^◌, ◌≤◌, Bool, true, false, List, ◌++◌, take, drop, get_or, length, refl, ap, sym, ◌∙◌, subst, arith}
 use Rattle.std.specs.List.{AllByRecursion}
-use Rattle.ffi3_type_spec.specs.declared.Target.{Target}
 use Rattle.ffi3_type_spec.specs.declared.Isa.{Isa}
 use Rattle.ffi3_type_spec.specs.declared.Isa.TheVariants.{Amd64, Aarch64, Riscv}
 use Rattle.ffi3_type_spec.specs.declared.limits.TheConstants.{RETURN, STACK, STACK_TOP}
@@ -11,22 +10,21 @@ use Rattle.ffi3_type_spec.specs.Signature.{Signature, SignatureHasNoFault}
 use Rattle.ffi3_type_spec.specs.Value.{ValueTree}
 use Rattle.ffi3_type_spec.proofs.Placed.{faultless_is_plain}
 use Rattle.ffi3_place_spec.specs.declared.Loc.{Loc}
-use Rattle.ffi3_place_spec.specs.declared.Loc.TheVariants.{G, F, S}
-use Rattle.ffi3_place_spec.specs.declared.SaveWord.{SaveWord}
-use Rattle.ffi3_place_spec.specs.declared.SaveWord.TheVariants.{Register, Hidden, Spare}
+use Rattle.ffi3_place_spec.specs.declared.Loc.TheVariants.{G}
+use Rattle.ffi3_place_spec.specs.declared.SaveWord.TheVariants.{Register}
 use Rattle.ffi3_place_spec.specs.MachineRegisters.{link_register, to_list, pushed_bytes}
-use Rattle.ffi3_place_spec.specs.StubRegisters.{area_bytes, exit_scratch, has_stubs, callee_saved_words, result_loads}
+use Rattle.ffi3_place_spec.specs.StubRegisters.{area_bytes, exit_scratch, callee_saved_words, result_loads}
 use Rattle.ffi3_place_spec.specs.Image.{Image, register}
 use Rattle.ffi3_place_spec.specs.Standard.{Standard, frame_of, plan_of}
 use Rattle.ffi3_place_spec.specs.Agrees.{AgreesWithMachine, given_back, saved_registers}
 use Rattle.ffi3_place_spec.specs.ByStubs.{AgreesWithStubs, ResultGoesByStubs}
 use Rattle.ffi3_place_spec.specs.Holds.{HoldsResult, Kept, SameIn}
-use Rattle.ffi3_place_spec.specs.Sound.{IsNoneOf, IsOneOf, IsSound, result_locs}
+use Rattle.ffi3_place_spec.specs.Sound.{IsNoneOf, IsSound, result_locs}
 use Rattle.ffi3_place_spec.proofs.Tests.{each_at}
 use Rattle.ffi3_place_spec.proofs.OnMachine.{as_before}
 use Rattle.ffi3_machine_spec.specs.declared.stub.TheConstants.{AREA_AT}
 use Rattle.ffi3_machine_spec.specs.Memory.{number_of}
-use Rattle.ffi3_machine_spec.specs.State.{State, HasReturnAddress, HasReturnAt, IsMachine, image_of, returned, stack_at, with_x, x_of}
+use Rattle.ffi3_machine_spec.specs.State.{State, HasReturnAt, IsMachine, image_of, returned, stack_at, with_x, x_of}
 use Rattle.ffi3_machine.specs.MachineStep.{even}
 use Rattle.ffi3_machine_spec.specs.Stubs.{Exit, exchanged_at}
 use Rattle.ffi3_stubs.specs.Calls.{HasLeft, left_to, steps_of, CameFromWords}

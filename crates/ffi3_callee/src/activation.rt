@@ -1,4 +1,4 @@
-// A whole activation of a callee that takes its arguments and gives a value.
+//! A whole activation of a callee that takes its arguments and gives a value.
 ghost use Rattle.std.specs.Prelude.{◌≡◌, ℕ, ◌+◌, ◌<◌, ◌≤◌, List, true};
 ghost use Rattle.ffi3_type_spec.specs.declared.limits.TheConstants.{ENTRY, STACK, STACK_TOP};
 ghost use Rattle.ffi3_type_spec.specs.Value.{ValueTree, fits};

@@ -1,4 +1,4 @@
-// How a callee takes an argument: from its place straight into the block, without a buffer between.
+//! How a callee takes an argument: from its place straight into the block, without a buffer between.
 ghost use Rattle.std.specs.Prelude.{◌≡◌, ◌+◌, ◌-◌, ◌≤◌};
 ghost use Rattle.std.specs.List.{AllByRecursion};
 ghost use Rattle.ffi3_type_spec.specs.declared.limits.TheConstants.{STACK, STACK_TOP};
@@ -19,8 +19,8 @@ use ffi3_machine_transfer::{place_bytes, place_word};
 use ffi3_place::{Loc, Piece, Pieces, Place};
 use ffi3_types::CheckedType;
 
-// Copies an argument's bytes that stand on the stack, run by run, to the argument's copy at `to`. Stack places count
-// from the address `base`.
+/// Copies an argument's bytes that stand on the stack, run by run, to the argument's copy at `to`. Stack places count
+/// from the address `base`.
 fn copy_runs(machine: &mut Machine, base: StackBase, runs: &Runs, to: u64)
     requires low { STACK ≤ to }
     requires below { to ≤ base }
@@ -46,7 +46,7 @@ fn is_on_stack(at: Loc) -> bool
     }
 }
 
-// Copies the bytes of a piece in a register to the argument's copy at `to`. A piece on the stack is left to the runs.
+/// Copies the bytes of a piece in a register to the argument's copy at `to`. A piece on the stack is left to the runs.
 fn copy_register(machine: &mut Machine, base: StackBase, piece: &Piece, to: u64)
     requires low { STACK ≤ to }
     requires below { to ≤ base }
@@ -63,7 +63,7 @@ fn copy_register(machine: &mut Machine, base: StackBase, piece: &Piece, to: u64)
     }
 }
 
-// Copies the bytes of all pieces in registers to the argument's copy at `to`.
+/// Copies the bytes of all pieces in registers to the argument's copy at `to`.
 fn copy_registers(machine: &mut Machine, base: StackBase, pieces: &Pieces, to: u64)
     requires low { STACK ≤ to }
     requires below { to ≤ base }

@@ -1,4 +1,4 @@
-// The end of a callee's activation, before its return.
+//! The end of a callee's activation, before its return.
 ghost use Rattle.std.specs.Prelude.{◌≡◌, ℕ, ◌-◌, ◌<◌, Option};
 ghost use Rattle.ffi3_type_spec.specs.declared.limits.TheConstants.{STACK_TOP};
 ghost use Rattle.ffi3_type_spec.specs.Value.{ValueTree};

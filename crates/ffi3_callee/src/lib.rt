@@ -60,21 +60,21 @@ impl Model for Incoming {
 }
 
 impl Incoming {
-    // The address of the copy of the arguments.
+    /// The address of the copy of the arguments.
     fn block(&self) -> u64
         ensures { result ≡ self.now.block }
     {
         self.block
     }
 
-    // The address of a hidden result's buffer, 0 where there is none.
+    /// The address of a hidden result's buffer, 0 where there is none.
     fn address(&self) -> u64
         ensures { result ≡ self.now.address }
     {
         self.address
     }
 
-    // The stack pointer at the entry.
+    /// The stack pointer at the entry.
     fn entry(&self) -> u64
         ensures { result ≡ self.now.entry }
     {
@@ -82,9 +82,9 @@ impl Incoming {
     }
 }
 
-// Copies the arguments into the block at an address, one behind the other, each in whole
-// doublewords. It does not know the values. Stack places count from the address `base`, the end
-// of the return address.
+/// Copies the arguments into the block at an address, one behind the other, each in whole
+/// doublewords. It does not know the values. Stack places count from the address `base`, the end
+/// of the return address.
 fn copy_arguments<A: Abi>(machine: &mut Machine, cif: &Cif<A>, base: StackBase, block: u64)
     requires low { STACK ≤ block }
     requires below { block + block_bytes cif.now ≤ base }
@@ -104,7 +104,7 @@ fn copy_arguments<A: Abi>(machine: &mut Machine, cif: &Cif<A>, base: StackBase, 
     }
 }
 
-// Where a hidden result's address stands.
+/// Where a hidden result's address stands.
 fn hidden_place(place: &Res) -> Option<Loc>
     ensures { result ≡ hidden_of place.now }
 {
@@ -115,8 +115,8 @@ fn hidden_place(place: &Res) -> Option<Loc>
     }
 }
 
-// A hidden result's address, or 0. It stands where arguments are passed: where calls go by stubs, Entry has stored it in
-// the exchange region.
+/// A hidden result's address, or 0. It stands where arguments are passed: where calls go by stubs, Entry has stored it
+/// in the exchange region.
 fn passed_address(machine: &Machine, base: StackBase, hidden: Option<Loc>) -> u64
     requires { HiddenLies (STACK_TOP - base) hidden }
     ensures { result ≡ hidden_word base (passing machine.now) hidden }
@@ -165,7 +165,7 @@ pub fn receive<A: Abi>(machine: &mut Machine, cif: &Cif<A>) -> Incoming
     }
 }
 
-// Where argument `i` begins in a block.
+/// Where argument `i` begins in a block.
 fn offset_of(sig: &CheckedSig<'_>, i: u32) -> u64
     requires { i < length sig.now.arguments }
     ensures { result ≡ block_offset sig.now.arguments i }

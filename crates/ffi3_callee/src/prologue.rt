@@ -1,4 +1,4 @@
-// The entry of a callee: what it is to give back is saved.
+//! The entry of a callee: what it is to give back is saved.
 ghost use Rattle.std.specs.Prelude.{◌≡◌, ◌+◌, ◌-◌, ◌≤◌, ◌%◌, ◌^◌, true, [], ◌∷◌};
 ghost use Rattle.std.specs.List.{AllByRecursion};
 ghost use Rattle.ffi3_type_spec.specs.declared.limits.TheConstants.{ENTRY, STACK, STACK_TOP};
@@ -22,7 +22,7 @@ use ffi3_machine_transfer::by_exchange;
 use ffi3_place::{Abi, Loc};
 use ffi3_stubs::run_entry;
 
-// Enters by the stub Entry, with the block's address as stack pointer.
+/// Enters by the stub Entry, with the block's address as stack pointer.
 fn enter_by_stub(machine: &mut Machine, block: u64)
     requires entry { machine.old.pc ≡ ENTRY }
     requires low { STACK + area_bytes (isa_of machine.old.target) ≤ machine.old.sp }

@@ -1,4 +1,4 @@
-// The machine's own registers, by their places.
+//! The machine's own registers, by their places.
 ghost use Rattle.std.specs.Prelude.{◌≡◌, ℕ};
 ghost use Rattle.ffi3_machine_transfer.specs.Stored.{IsPlace, IsWordPut, IsWritable};
 ghost use Rattle.ffi3_callee.specs.Saved.{with_register};

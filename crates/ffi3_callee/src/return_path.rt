@@ -1,4 +1,4 @@
-// The way back from a callee, up to its return.
+//! The way back from a callee, up to its return.
 ghost use Rattle.std.specs.Prelude.{◌≡◌, ℕ, ◌+◌, ◌-◌, ◌≤◌, ◌%◌, ◌^◌};
 ghost use Rattle.ffi3_type_spec.specs.declared.limits.TheConstants.{STACK, STACK_TOP};
 ghost use Rattle.ffi3_type_spec.specs.TargetIsa.{isa_of};
@@ -26,7 +26,7 @@ use ffi3_machine_transfer::by_exchange;
 use ffi3_place::Abi;
 use ffi3_stubs::run_exit;
 
-// Goes back by the stub Exit, from the save area at an address.
+/// Goes back by the stub Exit, from the save area at an address.
 fn leave_by_stub(machine: &mut Machine, area: u64)
     requires low { STACK ≤ area }
     requires high { area + area_bytes (isa_of machine.old.target) + pushed_bytes (isa_of machine.old.target) ≤ STACK_TOP }
@@ -39,7 +39,7 @@ fn leave_by_stub(machine: &mut Machine, area: u64)
     run_exit(machine);
 }
 
-// Goes back: through the stub Exit, or by giving back what was saved.
+/// Goes back: through the stub Exit, or by giving back what was saved.
 fn go<A: Abi>(machine: &mut Machine, cif: &Cif<A>, incoming: Incoming)
     requires target { machine.old.target ≡ A.TARGET }
     requires incoming { IsIncoming A.standard cif.now incoming }

@@ -1,4 +1,4 @@
-// The result that a callee gives.
+//! The result that a callee gives.
 ghost use Rattle.std.specs.Prelude.{◌≡◌, ℕ, ◌+◌, ◌-◌, ◌≤◌, Option, length, true};
 ghost use Rattle.std.specs.List.{AllByRecursion};
 ghost use Rattle.ffi3_type_spec.specs.Layout.{size_of};
@@ -27,8 +27,8 @@ use ffi3_type_spec::limits::LARGEST_TYPE;
 use ffi3_types::CheckedType;
 use ffi3_values::{Value, write_bytes};
 
-// Stores a result in the caller's buffer, by way of `bytes`, which are as many as it has. The buffer's padding keeps
-// what stood there.
+/// Stores a result in the caller's buffer, by way of `bytes`, which are as many as it has. The buffer's padding keeps
+/// what stood there.
 fn give_buffer_by(
     machine: &mut Machine,
     address: u64,
@@ -51,7 +51,7 @@ fn give_buffer_by(
     machine.store_stack(address, bytes);
 }
 
-// Stores a result in the caller's buffer, whose padding keeps what stood there.
+/// Stores a result in the caller's buffer, whose padding keeps what stood there.
 fn give_buffer(machine: &mut Machine, address: u64, ty: &CheckedType<'_>, value: &Value)
     requires low { STACK ≤ address }
     requires high { address + size_of ty.now ≤ STACK_TOP }
@@ -70,7 +70,7 @@ fn give_buffer(machine: &mut Machine, address: u64, ty: &CheckedType<'_>, value:
     }
 }
 
-// Tells the buffer's address in the standard's register for it, if it has one.
+/// Tells the buffer's address in the standard's register for it, if it has one.
 fn tell_address(machine: &mut Machine, returned: Option<Loc>, address: u64)
     requires register { IsSettable machine.old.target returned }
     ensures told { RegisterHoldsWord (passing machine.new) returned address }
@@ -84,9 +84,9 @@ fn tell_address(machine: &mut Machine, returned: Option<Loc>, address: u64)
     }
 }
 
-// Gives a result: in registers, extended as the standard says, or in the caller's buffer at
-// `address`, which the standard's register for it then tells. `base` is the address of the first
-// stack argument.
+/// Gives a result: in registers, extended as the standard says, or in the caller's buffer at
+/// `address`, which the standard's register for it then tells. `base` is the address of the first
+/// stack argument.
 fn give<A: Abi>(
     machine: &mut Machine,
     cif: &Cif<A>,

@@ -1,4 +1,4 @@
-// The area in which a callee saves what it is to give back.
+//! The area in which a callee saves what it is to give back.
 ghost use Rattle.std.specs.Prelude.{◌≡◌, ℕ, ◌+◌, ◌-◌, ◌*◌, ◌<◌, ◌≤◌, length, [], ◌∷◌, slice_index_or};
 ghost use Rattle.std.specs.List.{AllByRecursion};
 ghost use Rattle.ffi3_type_spec.specs.declared.limits.TheConstants.{STACK, STACK_TOP};
@@ -12,14 +12,14 @@ use ffi3_machine::{Machine, StackBase};
 use ffi3_machine_transfer::own_word;
 use ffi3_place::{Abi, Loc, SaveWord};
 
-// How many words the save area has.
+/// How many words the save area has.
 fn count_of_words<A: Abi>() -> u8
     ensures { result ≡ length A.standard.save_area }
 {
     (A::SAVE / 8) as u8
 }
 
-// Word `i` of the save area.
+/// Word `i` of the save area.
 fn word_at<A: Abi>(i: u8) -> SaveWord
     requires { i < length A.standard.save_area }
     ensures { result ≡ slice_index_or A.standard.save_area i result }
@@ -27,7 +27,7 @@ fn word_at<A: Abi>(i: u8) -> SaveWord
     A::saved_word(i)
 }
 
-// A hidden result's address, or 0.
+/// A hidden result's address, or 0.
 fn hidden_word(machine: &Machine, base: StackBase, hidden: Option<Loc>) -> u64
     requires { HiddenLies (STACK_TOP - base) hidden }
     ensures { result ≡ hidden_word base machine.now hidden }
@@ -38,7 +38,7 @@ fn hidden_word(machine: &Machine, base: StackBase, hidden: Option<Loc>) -> u64
     }
 }
 
-// What is saved in a word: 0 where there is nothing.
+/// What is saved in a word: 0 where there is nothing.
 fn word_to_save(machine: &Machine, base: StackBase, hidden: Option<Loc>, word: SaveWord) -> u64
     requires lies { IsSaveable (STACK_TOP - base) word }
     requires hidden { HiddenLies (STACK_TOP - base) hidden }
@@ -82,7 +82,7 @@ pub fn set_register(machine: &mut Machine, at: Loc, word: u64)
     registers::set_register(machine, at, word);
 }
 
-// Sets the register of a word that has one.
+/// Sets the register of a word that has one.
 fn restore_word(machine: &mut Machine, from: StackBase, i: u32, word: SaveWord)
     requires high { from + 8 * i + 8 ≤ STACK_TOP }
     requires register { IsRestorable machine.old.target word }

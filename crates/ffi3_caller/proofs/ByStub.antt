@@ -8,10 +8,10 @@ use Rattle.ffi3_type_spec.specs.declared.Isa.TheVariants.{Amd64, Aarch64, Riscv}
 use Rattle.ffi3_type_spec.specs.declared.limits.TheConstants.{RETURN, STACK, STACK_TOP}
 use Rattle.ffi3_type_spec.specs.TargetIsa.{isa_of}
 use Rattle.ffi3_place_spec.specs.declared.Loc.{Loc}
-use Rattle.ffi3_place_spec.specs.declared.Loc.TheVariants.{G, F, S}
+use Rattle.ffi3_place_spec.specs.declared.Loc.TheVariants.{G, F}
 use Rattle.ffi3_place_spec.specs.MachineRegisters.{link_place, link_register, to_list, pushed_bytes}
 use Rattle.ffi3_place_spec.specs.StubRegisters.{call_loads, call_scratch, exit_scratch, result_loads}
-use Rattle.ffi3_place_spec.specs.Sound.{IsNoneOf, IsOneOf, IsOnStackOrIn}
+use Rattle.ffi3_place_spec.specs.Sound.{IsNoneOf, IsOnStackOrIn}
 use Rattle.ffi3_machine_spec.specs.declared.stub.TheConstants.{CALLEE_AT, CALL_SP_AT, RETURN_SP_AT}
 use Rattle.ffi3_machine_spec.specs.State.{State, HasReturnAddress, HasReturnAt, IsMachine, IsSlot, called, linked_general, linked_stack, lowered, with_x, x_of}
 use Rattle.ffi3_machine_spec.specs.Stubs.{Call, Return, exchanged_at}

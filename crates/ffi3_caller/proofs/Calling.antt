@@ -1,6 +1,6 @@
 -- The arguments of a call, then the hidden result's address, then the number of vector registers.
 use Rattle.std.specs.Prelude.{true, Option, Some, None}
-use Rattle.std.proofs.Common.{◌≡◌, ℕ, zero, suc, ◌+◌, ◌-◌, ◌<◌, ◌≤◌, List, [], ◌∷◌, ◌++◌, get_or, length, replicate, inl, subst, sym, ◌∙◌, ap, refl, arith}
+use Rattle.std.proofs.Common.{◌≡◌, ℕ, zero, suc, ◌+◌, ◌-◌, ◌<◌, ◌≤◌, List, [], ◌∷◌, ◌++◌, get_or, length, replicate, subst, sym, ◌∙◌, ap, refl, arith}
 use Rattle.std.specs.List.{AllByRecursion, flat_map, replace_range}
 use Rattle.std.proofs.lemmas.List.{get_or-replicate, length-replicate}
 use Rattle.ffi3_type_spec.specs.declared.Target.{Target}
@@ -12,11 +12,11 @@ use Rattle.ffi3_type_spec.specs.Tree.{Tree, trees_of}
 use Rattle.ffi3_type_spec.specs.Signature.{Signature, SignatureHasNoFault}
 use Rattle.ffi3_type_spec.specs.Value.{ValueTree, all_fit, values_of}
 use Rattle.ffi3_place_spec.specs.declared.Loc.{Loc}
-use Rattle.ffi3_place_spec.specs.declared.Loc.TheVariants.{G, F, S}
+use Rattle.ffi3_place_spec.specs.declared.Loc.TheVariants.{S}
 use Rattle.ffi3_place_spec.specs.declared.Place.{Place}
 use Rattle.ffi3_place_spec.specs.declared.Place.TheVariants.{Direct, ByRef}
 use Rattle.ffi3_place_spec.specs.declared.Res.{Res}
-use Rattle.ffi3_place_spec.specs.declared.Res.TheVariants.{Nothing, Direct as DirectRes, Hidden}
+use Rattle.ffi3_place_spec.specs.declared.Res.TheVariants.{Hidden}
 use Rattle.ffi3_place_spec.specs.MachineRegisters.{reserved_places, to_list}
 use Rattle.ffi3_place_spec.specs.Standard.{Standard, plan_of, frame_of}
 use Rattle.ffi3_place_spec.specs.Agrees.{AgreesWithMachine, given_back, special}

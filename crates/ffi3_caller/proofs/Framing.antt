@@ -1,13 +1,11 @@
 -- Where the frame begins once a call has come back.
-use Rattle.std.proofs.Common.{◌≡◌, ℕ, ◌+◌, ◌-◌, ◌≤◌, Bool, true, false, List, [], ◌∷◌, take, refl, ap, ◌∙◌, arith}
+use Rattle.std.proofs.Common.{◌≡◌, ℕ, ◌+◌, List, [], ◌∷◌, take, refl, ap, ◌∙◌, arith}
 use Rattle.std.specs.List.{replace_range}
 use Rattle.std.specs.Int.{w64, to_le_bytes}
-use Rattle.ffi3_type_spec.specs.declared.limits.TheConstants.{STACK}
 use Rattle.ffi3_place_spec.specs.declared.Loc.{Loc}
-use Rattle.ffi3_place_spec.specs.declared.Loc.TheVariants.{G, F, S}
+use Rattle.ffi3_place_spec.specs.declared.Loc.TheVariants.{G}
 use Rattle.ffi3_place_spec.specs.declared.Piece.{Piece}
 use Rattle.ffi3_machine_spec.specs.State.{State, with_sp}
-use Rattle.ffi3_caller.specs.Called.{frame_start_if}
 use Rattle.ffi3_caller.specs.Loaded.{loaded, register_of, with_piece}
 
 -- what is loaded does not depend on sp

@@ -1,5 +1,5 @@
 -- A result that an image owns is what is loaded from it, in pieces or from the caller's buffer.
-use Rattle.std.proofs.Common.{◌≡◌, ℕ, ◌+◌, ◌-◌, ◌≤◌, List, [], ◌∷◌, take, drop, length, ap, sym, ◌∙◌, subst, arith}
+use Rattle.std.proofs.Common.{◌≡◌, ℕ, ◌+◌, ◌-◌, ◌≤◌, List, take, drop, length, ap, sym, ◌∙◌, subst, arith}
 use Rattle.std.specs.List.{AllByRecursion}
 use Rattle.std.proofs.lemmas.List.{drop-drop, drop-take, take-take}
 use Rattle.ffi3_type_spec.specs.declared.Isa.{Isa}
@@ -14,9 +14,9 @@ use Rattle.ffi3_place_spec.specs.declared.Loc.{Loc}
 use Rattle.ffi3_place_spec.specs.declared.Piece.{Piece}
 use Rattle.ffi3_place_spec.specs.declared.Res.{Res}
 use Rattle.ffi3_place_spec.specs.declared.Res.TheVariants.{Direct as DirectRes, Hidden}
-use Rattle.ffi3_place_spec.specs.Standard.{Standard, ResultSpot, no_result, in_result_pieces, in_buffer, plan_of, frame_of, result_at, buffer_end, frame_copies_end, round8}
+use Rattle.ffi3_place_spec.specs.Standard.{Standard, plan_of, frame_of}
 use Rattle.ffi3_place_spec.specs.Holds.{leaf_bytes, OwnResult, OwnsResult}
-use Rattle.ffi3_place_spec.specs.Sound.{LiesIn, HaveAll, IsPieceOf, ResultHasAll, piece_locs, result_locs, IsWithin}
+use Rattle.ffi3_place_spec.specs.Sound.{LiesIn, HaveAll, IsPieceOf, ResultHasAll, result_locs, IsWithin}
 use Rattle.ffi3_place_spec.proofs.Tests.{each_weaker}
 use Rattle.ffi3_machine_spec.specs.State.{State, image_of, stack_at}
 use Rattle.ffi3_machine_transfer.specs.Stored.{IsPlace}

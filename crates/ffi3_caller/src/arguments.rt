@@ -1,4 +1,4 @@
-// What a caller stores before a call: arguments, a hidden result's address, the number of vector registers.
+//! What a caller stores before a call: arguments, a hidden result's address, the number of vector registers.
 ghost use Rattle.std.specs.Prelude.{◌≡◌, ℕ, ◌+◌, ◌<◌, ◌≤◌, ◌++◌, length, true};
 ghost use Rattle.std.specs.List.{AllByRecursion};
 ghost use Rattle.ffi3_type_spec.specs.declared.limits.TheConstants.{STACK, STACK_TOP};

@@ -79,7 +79,8 @@ pub fn load_result<A: Abi>(machine: &Machine, cif: &Cif<A>, out: &mut [u8])
     }
 }
 
-// Where the frame of a call begins, once it has come back: at sp, or below it, where sp has been raised over the frame.
+/// Where the frame of a call begins, once it has come back: at sp, or below it, where sp has been raised over the
+/// frame.
 fn frame_start<A: Abi>(machine: &Machine, cif: &Cif<A>) -> u64
     requires { STACK ≤ frame_start (frame_of A.standard cif.now) machine.now }
     ensures { result ≡ frame_start (frame_of A.standard cif.now) machine.now }
@@ -89,7 +90,7 @@ fn frame_start<A: Abi>(machine: &Machine, cif: &Cif<A>) -> u64
     if exchanged { sp - cif.frame() } else { sp }
 }
 
-// The bytes of pieces in registers.
+/// The bytes of pieces in registers.
 fn load_pieces(machine: &Machine, pieces: &Pieces, out: &mut [u8])
     requires within { AreWithin (length out.old) pieces.now }
     requires registers { AllByRecursion (λ p. IsPlace 0 p.loc) pieces.now }
@@ -101,7 +102,7 @@ fn load_pieces(machine: &Machine, pieces: &Pieces, out: &mut [u8])
     }
 }
 
-// The bytes of one piece in a register.
+/// The bytes of one piece in a register.
 fn load_piece(machine: &Machine, piece: &Piece, out: &mut [u8])
     requires within { IsWithin (length out.old) piece.now }
     requires register { IsPlace 0 piece.now.loc }

@@ -1,4 +1,4 @@
-// The way back to the caller, through the stub Return where calls go by stubs.
+//! The way back to the caller, through the stub Return where calls go by stubs.
 ghost use Rattle.std.specs.Prelude.{◌≡◌, ◌+◌, ◌≤◌};
 ghost use Rattle.std.specs.List.{AllByRecursion};
 ghost use Rattle.ffi3_type_spec.specs.declared.limits.TheConstants.{RETURN, STACK_TOP};
@@ -16,7 +16,7 @@ use ffi3_machine_transfer::by_exchange;
 use ffi3_place::Abi;
 use ffi3_stubs::run_return;
 
-// Comes back to the caller, whose frame has so many bytes.
+/// Comes back to the caller, whose frame has so many bytes.
 fn come_over(machine: &mut Machine, frame: u64)
     requires at_return { machine.old.pc ≡ RETURN }
     requires frame { machine.old.sp + frame ≤ STACK_TOP }

@@ -1,4 +1,4 @@
-// The call of a slot, through the stub Call or by the machine's own call.
+//! The call of a slot, through the stub Call or by the machine's own call.
 ghost use Rattle.std.specs.Prelude.{◌≡◌, List, ◌+◌, ◌≤◌};
 ghost use Rattle.std.specs.List.{AllByRecursion};
 ghost use Rattle.ffi3_type_spec.specs.declared.limits.TheConstants.{STACK, STACK_TOP};
@@ -18,7 +18,7 @@ use ffi3_machine_transfer::by_exchange;
 use ffi3_place::Abi;
 use ffi3_stubs::run_call;
 
-// Tells the stub Call which slot it is to call, and with which stack pointer.
+/// Tells the stub Call which slot it is to call, and with which stack pointer.
 fn tell(machine: &mut Machine, addr: u64)
     ensures { machine.new ≡ told addr machine.old }
 {
@@ -27,7 +27,7 @@ fn tell(machine: &mut Machine, addr: u64)
     machine.set_x(CALL_SP_AT, sp);
 }
 
-// Calls a slot with what stands in the registers that a call passes.
+/// Calls a slot with what stands in the registers that a call passes.
 fn call_slot(machine: &mut Machine, addr: u64)
     requires slot { IsSlot addr }
     requires room { STACK + pushed_bytes (isa_of machine.old.target) ≤ machine.old.sp }

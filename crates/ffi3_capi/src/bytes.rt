@@ -1,4 +1,4 @@
-// The bytes of values, one value after another.
+//! The bytes of values, one value after another.
 ghost use Rattle.std.specs.Prelude.{◌≡◌, OnOk, length, replicate, true};
 ghost use Rattle.ffi3_type_spec.specs.Layout.{size_of};
 ghost use Rattle.ffi3_type_spec.specs.Value.{IsWritten, fits};

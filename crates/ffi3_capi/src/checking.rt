@@ -1,4 +1,4 @@
-// Whether a text declares a function, and what is told of the place where it does not.
+//! Whether a text declares a function, and what is told of the place where it does not.
 ghost use Rattle.std.specs.Prelude.{◌≡◌, ◌≤◌, IfOk, IsSome, IsUtf8, length, map, slice_get, slice_index_or};
 ghost use Rattle.ffi3_cdecl_spec.specs.Tokens.{wide};
 ghost use Rattle.ffi3_cdecl_spec.specs.Reading.{IsReadingIn, unexpected};

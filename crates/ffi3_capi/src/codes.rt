@@ -1,4 +1,4 @@
-// The numbers by which C names things. `capi/ffi3.h` says them again.
+//! The numbers by which C names things. `capi/ffi3.h` says them again.
 
 /// `FFI3_OK`: what was asked for is there.
 pub const DONE: u32 = 0;

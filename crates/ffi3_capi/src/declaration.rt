@@ -1,4 +1,4 @@
-// What declares a function: a text, or nodes.
+//! What declares a function: a text, or nodes.
 ghost use Rattle.std.specs.Prelude.{◌≡◌, IfOk, IfErr, Some};
 ghost use Rattle.ffi3_type_spec.specs.Signature.{SignatureHasNoFault, SignatureIsPlaced};
 ghost use Rattle.ffi3_capi.specs.declared.fault.TextFault.{TextFault};

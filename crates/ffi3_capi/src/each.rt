@@ -1,4 +1,4 @@
-// The arguments of a function, each by itself, from registers and stack where it begins.
+//! The arguments of a function, each by itself, from registers and stack where it begins.
 ghost use Rattle.std.specs.Prelude.{◌≡◌, ◌+◌, ◌≤◌, IfErr, IfOk, None, OnOk, [], ◌++◌, length, replicate};
 ghost use Rattle.ffi3_type_spec.specs.declared.limits.TheConstants.{LARGEST_TYPE};
 ghost use Rattle.ffi3_type_spec.specs.Signature.{SignatureIsPlaced};

@@ -1,4 +1,4 @@
-// The arguments of a function, from registers and stack where it begins.
+//! The arguments of a function, from registers and stack where it begins.
 ghost use Rattle.std.specs.Prelude.{◌≡◌, IfOk, IfErr};
 ghost use Rattle.ffi3_type_spec.specs.Signature.{SignatureIsPlaced};
 ghost use Rattle.ffi3_transfer.specs.Stored.{image_in};

@@ -1,4 +1,4 @@
-// Why a text, or nodes, declare no function that can be called.
+//! Why a text, or nodes, declare no function that can be called.
 ghost use Rattle.std.specs.Prelude.{◌≡◌, slice_get};
 ghost use Rattle.ffi3_types.specs.TreeOf.{tree_of};
 ghost use Rattle.ffi3_types.specs.FaultOf.{fault_of};

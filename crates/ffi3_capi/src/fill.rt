@@ -1,4 +1,4 @@
-// Items into an array of the caller.
+//! Items into an array of the caller.
 ghost use Rattle.std.specs.Prelude.{◌≡◌, ◌&&◌, length};
 ghost use Rattle.ffi3_capi.specs.Filled.{has_room, filled, room_status, with_end};
 

@@ -1,4 +1,4 @@
-// What the pieces of every value keep, and what holds where no long double is told, for callers to cite.
+//! What the pieces of every value keep, and what holds where no long double is told, for callers to cite.
 ghost use Rattle.ffi3_capi.specs.Carried.{TellsTheSameBytes};
 ghost use Rattle.ffi3_capi.specs.NoLongDouble.{NoLongDoubleLaws};
 

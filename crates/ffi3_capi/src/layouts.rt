@@ -1,4 +1,4 @@
-// The layout of the types of the function that is declared.
+//! The layout of the types of the function that is declared.
 ghost use Rattle.std.specs.Prelude.{◌≡◌, IfOk, IfErr};
 ghost use Rattle.ffi3_type_spec.specs.Tree.{Scalar, scalar};
 ghost use Rattle.ffi3_type_spec.specs.Layout.{scalar_size};

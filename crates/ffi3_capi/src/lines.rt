@@ -1,4 +1,4 @@
-// The fault of a text in words, and of one that has a place in the text the line with a mark below the place.
+//! The fault of a text in words, and of one that has a place in the text the line with a mark below the place.
 ghost use Rattle.std.specs.Prelude.{◌≡◌, ◌++◌, ◌∷◌, [], IfOk, IsSome, IsUtf8, slice_get};
 ghost use Rattle.ffi3_cdecl_spec.specs.Tokens.{wide};
 ghost use Rattle.ffi3_cdecl_spec.specs.Reading.{IsReadingIn, unexpected};

@@ -1,4 +1,4 @@
-// Whether a type is laid out as its client has it.
+//! Whether a type is laid out as its client has it.
 ghost use Rattle.std.specs.Prelude.{◌≡◌, ℕ, List, IfOk, IfSome, Option, None, Some};
 ghost use Rattle.ffi3_nodes.specs.declared.Node.{Node};
 ghost use Rattle.ffi3_format_spec.specs.declared.Format.{Format};

@@ -1,4 +1,4 @@
-// What nodes declare, and which type they are.
+//! What nodes declare, and which type they are.
 ghost use Rattle.std.specs.Prelude.{◌≡◌, IfOk, IfErr, Some};
 ghost use Rattle.ffi3_type_spec.specs.Signature.{SignatureHasNoFault, SignatureIsPlaced};
 ghost use Rattle.ffi3_type_spec.specs.Fault.{IsResultType};

@@ -1,4 +1,4 @@
-// What a text declares, as people write it.
+//! What a text declares, as people write it.
 ghost use Rattle.std.specs.Prelude.{◌≡◌, IfOk, IfErr, Some, IsUtf8};
 ghost use Rattle.ffi3_type_spec.specs.Signature.{SignatureHasNoFault, SignatureIsPlaced};
 ghost use Rattle.ffi3_cdecl.specs.TokenOf.{sign_of};

@@ -1,4 +1,4 @@
-// Names of registers.
+//! Names of registers.
 ghost use Rattle.std.specs.Prelude.{◌≡◌, [], length, slice_index_or};
 ghost use Rattle.ffi3_capi.specs.Filled.{filled, with_end};
 ghost use Rattle.ffi3_capi.specs.Registers.{names_by, register_name, x87_names};

@@ -1,4 +1,4 @@
-// The result of a function, from registers and memory where it has returned.
+//! The result of a function, from registers and memory where it has returned.
 ghost use Rattle.std.specs.Prelude.{◌≡◌, ◌≤◌, IfOk, IfErr, length};
 ghost use Rattle.std.specs.List.{AllByRecursion};
 ghost use Rattle.ffi3_type_spec.specs.declared.limits.TheConstants.{LARGEST_TYPE};

@@ -1,4 +1,4 @@
-// Why nothing is told.
+//! Why nothing is told.
 ghost use Rattle.std.specs.Prelude.{◌≡◌};
 ghost use Rattle.ffi3_capi.specs.Refused.{status_of, fault_in, count_in};
 

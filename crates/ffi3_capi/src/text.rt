@@ -1,4 +1,4 @@
-// The words of a fault.
+//! The words of a fault.
 ghost use Rattle.std.specs.Prelude.{◌≡◌, ◌⊎◌, IfOk, length};
 ghost use Rattle.ffi3_capi.specs.Filled.{filled, with_end};
 ghost use Rattle.ffi3_capi.specs.FaultText.{kind_text, fault_text};

@@ -1,4 +1,4 @@
-// The layout of the one type that nodes are.
+//! The layout of the one type that nodes are.
 ghost use Rattle.std.specs.Prelude.{◌≡◌, IfOk, IfErr, List, Option, None, Some, length};
 ghost use Rattle.ffi3_nodes.specs.declared.Node.{Node};
 ghost use Rattle.ffi3_type_spec.specs.Tree.{struct_of};

@@ -1,6 +1,5 @@
 -- Declarations of which the one keeps fewer counts than the other: by any format of long double they have the same first fault, and they are the same where there is none.
-use Rattle.std.proofs.Common.{◌≡◌, ℕ, zero, suc, ◌+◌, ◌<◌, ◌≤◌, ◌⊎◌, inl, inr, min, Bool, true, false, cond, nat_lt, List, [], ◌∷◌, length, map, Option, Some, None, option_map, refl, ap, sym, ◌∙◌, subst, arith}
-use Rattle.std.specs.Prelude.{◌&&◌, ◌||◌, not}
+use Rattle.std.proofs.Common.{◌≡◌, ℕ, suc, ◌+◌, ◌<◌, ◌≤◌, ◌⊎◌, inl, inr, min, Bool, true, false, cond, nat_lt, List, [], ◌∷◌, length, map, Option, Some, None, option_map, refl, ap, sym, ◌∙◌, subst, arith}
 use Rattle.std.proofs.lemmas.Bool.{cases_lt, lt-ltb, le-ltb}
 use Rattle.ffi3_type_spec.specs.declared.limits.TheConstants.{DEEPEST_NESTING, MOST_ARGUMENTS}
 use Rattle.ffi3_type_spec.specs.declared.Role.{Role}
@@ -9,7 +8,7 @@ use Rattle.ffi3_type_spec.specs.Tree.{Tree, trees_of, struct_of, array_of}
 use Rattle.ffi3_type_spec.specs.Layout.{size_of}
 use Rattle.ffi3_type_spec.specs.Fault.{too_deep}
 use Rattle.ffi3_type_spec.specs.Signature.{SignatureFault, too_many, at_result, at_argument, for_places}
-use Rattle.ffi3_type_spec.specs.FirstFault.{Found, or_else, inside_element, fault_of_size, first_fault, first_inside, at_position, found_fault, first_in_arguments, first_in_fixed, first_fault_for}
+use Rattle.ffi3_type_spec.specs.FirstFault.{or_else, inside_element, fault_of_size, first_fault, first_inside, at_position, found_fault, first_in_arguments, first_in_fixed, first_fault_for}
 use Rattle.ffi3_format_spec.specs.declared.Format.{Format}
 use Rattle.ffi3_format_spec.specs.Format.{resolved, all_resolved, resolved_signature}
 use Rattle.ffi3_cdecl_spec.specs.Tokens.{TOO_GREAT}

@@ -1,7 +1,7 @@
 -- A declaration is judged by its signature's first fault, and that of its resolutions.
-use Rattle.std.proofs.Common.{◌≡◌, ◌∙◌, ◌⊎◌, inl, inr, ℕ, List, [], ◌∷◌, ◌++◌, length, Option, Some, None, ap, sym, refl, subst}
+use Rattle.std.proofs.Common.{◌≡◌, ◌∙◌, inl, inr, ℕ, List, [], ◌∷◌, ◌++◌, length, Option, Some, None, ap, sym, refl, subst}
 use Rattle.std.specs.Prelude.{⊤}
-use Rattle.ffi3_type_spec.specs.Signature.{Signature, SignatureFault, SignatureHasNoFault, SignatureIsPlaced, IsFirstSignatureFault, IsFirstFaultFor, HasNoFaultFor, for_places}
+use Rattle.ffi3_type_spec.specs.Signature.{Signature, SignatureFault, SignatureHasNoFault, SignatureIsPlaced, IsFirstSignatureFault, IsFirstFaultFor, for_places}
 use Rattle.ffi3_type_spec.specs.FirstFault.{first_fault_for, first_signature_fault, or_else}
 use Rattle.ffi3_type_spec.proofs.FirstSignatureFaults.{SignatureAnswers, signature_answers, signature_none_found, signature_found_by_first, one_first_signature_fault}
 use Rattle.ffi3_format_spec.specs.declared.Format.{Format}
@@ -10,7 +10,7 @@ use Rattle.ffi3_format_spec.specs.Format.{resolved_signature}
 use Rattle.ffi3_cdecl_spec.specs.Tokens.{wide, Sign, Placed, Cut, tokens, bad_at, cut_in}
 use Rattle.ffi3_cdecl_spec.specs.Grammar.{Declaration, IsDeclarationIn}
 use Rattle.ffi3_cdecl_spec.specs.Reading as reading
-use Rattle.ffi3_cdecl_spec.specs.Reading.{Outcome, reads, bad_token, unexpected, bad_number, bad_signature, tokens_of, first_too_great, IsReadingIn}
+use Rattle.ffi3_cdecl_spec.specs.Reading.{Outcome, reads, unexpected, bad_signature, tokens_of, first_too_great, IsReadingIn}
 use Rattle.ffi3_cdecl_spec.specs.Machine.{with_signature, with_number, with_end, with_cut, judged, finish, after, begun, read_in}
 use Rattle.ffi3_cdecl_spec.proofs.Completes.{accepted}
 use Rattle.ffi3_cdecl_spec.proofs.Sound.{declaration_of}

@@ -1,9 +1,8 @@
 -- A pass over bytes reads what the definition reads, whatever is judged of what it declares.
 use Rattle.std.proofs.Common.{◌≡◌, ℕ, zero, suc, ◌+◌, List, [], ◌∷◌, length, Option, Some, None, ap, sym, refl, ◌∙◌, subst, arith}
-use Rattle.std.specs.Prelude.{⊤}
 use Rattle.ffi3_cdecl_spec.specs.Tokens.{Dialect, wide, Sign, Found, blank, skipped, nothing_known, found, found_in, Placed, Cut, tokens, bad_at, cut_in, cut_from, before, bytes_more}
 use Rattle.ffi3_cdecl_spec.specs.Grammar.{Declaration}
-use Rattle.ffi3_cdecl_spec.specs.Reading.{Outcome, reads, unexpected, tokens_of, first_too_great}
+use Rattle.ffi3_cdecl_spec.specs.Reading.{Outcome, unexpected, tokens_of, first_too_great}
 use Rattle.ffi3_cdecl_spec.specs.Machine.{State, step, finish, begun, after, judged, read_in}
 use Rattle.ffi3_cdecl_spec.specs.OnePass.{Pass, taking, pass_found, pass_from, new_pass, outcome_by, outcome_at}
 use Rattle.ffi3_cdecl_spec.proofs.Judged.{IsSmall}

@@ -1,4 +1,4 @@
--- Which pass and which outcome those of the code are.
+-- The pass and the outcome that the Rust ones stand for.
 use Rattle.std.specs.Prelude.{ℕ, zero, suc, ◌+◌, List, [], ◌∷◌, Option, Some, None, unwrap_or}
 use Rattle.ffi3_cdecl_spec.specs.Grammar.{Declaration}
 use Rattle.ffi3_cdecl_spec.specs.Machine.{finish}

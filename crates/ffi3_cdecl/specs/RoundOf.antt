@@ -1,4 +1,4 @@
--- Which brackets round a declarator those of the code are.
+-- The brackets round a declarator that the Rust ones stand for.
 use Rattle.std.specs.Prelude.{zero, suc, Option, Some, None}
 use Rattle.ffi3_cdecl_spec.specs.Machine as machine
 use Rattle.ffi3_cdecl.specs.declared.round.Round.{Round}

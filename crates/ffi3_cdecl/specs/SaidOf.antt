@@ -1,4 +1,4 @@
--- Which words of a type, and what they mean, those of the code are.
+-- The words of a type, and what they mean, that the Rust ones stand for.
 use Rattle.std.specs.Prelude.{Option, Some, None, option_map}
 use Rattle.ffi3_cdecl_spec.specs.Tokens as cut
 use Rattle.ffi3_cdecl_spec.specs.Grammar as grammar

@@ -1,4 +1,4 @@
--- Which state of the machine a state of the code is.
+-- The state of the machine that each Rust state stands for.
 use Rattle.std.specs.Prelude.{box_value}
 use Rattle.ffi3_cdecl_spec.specs.Machine as machine
 use Rattle.ffi3_types.specs.TreeOf.{tree_of}

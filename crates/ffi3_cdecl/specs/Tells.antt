@@ -1,4 +1,4 @@
--- Which outcome of the reading a fault of the code tells.
+-- The outcome of the reading that each Rust fault tells.
 use Rattle.std.specs.Prelude.{⊤}
 use Rattle.ffi3_types.specs.SignatureFaultOf.{signature_fault_of}
 use Rattle.ffi3_cdecl_spec.specs.Reading.{Outcome, bad_token, unexpected, bad_number, bad_signature}

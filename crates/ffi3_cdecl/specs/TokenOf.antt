@@ -1,4 +1,4 @@
--- Which token a token of the code is.
+-- The token that each Rust token stands for.
 use Rattle.std.specs.Prelude.{Option, Some, None, Bool, true, false}
 use Rattle.ffi3_cdecl_spec.specs.Tokens as cut
 use Rattle.ffi3_type_spec.specs.Tree as types

@@ -1,4 +1,4 @@
-// The bracket behind a word that adds an attribute, or that names a function for the assembler.
+//! The bracket behind a word that adds an attribute, or that names a function for the assembler.
 ghost use Rattle.std.specs.Prelude.{◌≡◌, ◌≤◌, ◌<◌, ◌+◌, ◌∷◌, IfSome, length, drop, get_or, map};
 ghost use Rattle.ffi3_cdecl_spec.specs.Tokens.{front, goes_on_word, unquoted, quoted_behind, hides, begins_with, begins_string, is_blank, is_attribute_at, open_behind, bracket_length, are_silent, is_silent, is_among, silent_attributes, with_lines};
 ghost use Rattle.ffi3_cdecl.specs.QuotedOf.{quoted_of};
@@ -127,7 +127,7 @@ fn is_silent_name(word: &[u8]) -> bool
         || is_silent_from_7(word)
 }
 
-// Of the attributes of the table from number 7 on.
+/// Of the attributes of the table from number 7 on.
 fn is_silent_from_7(word: &[u8]) -> bool
     ensures { result ≡ is_among word.now (drop 7 silent_attributes) }
 {
@@ -140,7 +140,7 @@ fn is_silent_from_7(word: &[u8]) -> bool
         || is_silent_from_13(word)
 }
 
-// From number 13 on.
+/// From number 13 on.
 fn is_silent_from_13(word: &[u8]) -> bool
     ensures { result ≡ is_among word.now (drop 13 silent_attributes) }
 {
@@ -153,7 +153,7 @@ fn is_silent_from_13(word: &[u8]) -> bool
         || is_silent_from_19(word)
 }
 
-// From number 19 on.
+/// From number 19 on.
 fn is_silent_from_19(word: &[u8]) -> bool
     ensures { result ≡ is_among word.now (drop 19 silent_attributes) }
 {
@@ -166,7 +166,7 @@ fn is_silent_from_19(word: &[u8]) -> bool
         || is(word, b"error")
 }
 
-// The same with two low lines at both ends.
+/// The same with two low lines at both ends.
 fn is_silent_lined(word: &[u8]) -> bool
     ensures { result ≡ is_among word.now (map with_lines silent_attributes) }
 {
@@ -180,7 +180,7 @@ fn is_silent_lined(word: &[u8]) -> bool
         || is_lined_from_7(word)
 }
 
-// From number 7 on.
+/// From number 7 on.
 fn is_lined_from_7(word: &[u8]) -> bool
     ensures { result ≡ is_among word.now (drop 7 (map with_lines silent_attributes)) }
 {
@@ -193,7 +193,7 @@ fn is_lined_from_7(word: &[u8]) -> bool
         || is_lined_from_13(word)
 }
 
-// From number 13 on.
+/// From number 13 on.
 fn is_lined_from_13(word: &[u8]) -> bool
     ensures { result ≡ is_among word.now (drop 13 (map with_lines silent_attributes)) }
 {
@@ -206,7 +206,7 @@ fn is_lined_from_13(word: &[u8]) -> bool
         || is_lined_from_19(word)
 }
 
-// From number 19 on.
+/// From number 19 on.
 fn is_lined_from_19(word: &[u8]) -> bool
     ensures { result ≡ is_among word.now (drop 19 (map with_lines silent_attributes)) }
 {

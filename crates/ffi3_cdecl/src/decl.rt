@@ -1,4 +1,4 @@
-// A declaration read in one pass over its bytes.
+//! A declaration read in one pass over its bytes.
 ghost use Rattle.std.specs.Prelude.{◌≡◌, IfOk, IfErr};
 ghost use Rattle.ffi3_cdecl_spec.specs.Machine.{read, read_in};
 ghost use Rattle.ffi3_cdecl_spec.specs.Tokens.{wide};

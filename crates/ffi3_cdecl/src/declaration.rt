@@ -1,4 +1,4 @@
-// A function as it is declared.
+//! A function as it is declared.
 ghost use Rattle.std.specs.Prelude.{◌≡◌, IfOk};
 ghost use Rattle.ffi3_cdecl_spec.specs.ReadingFor.{resolved_declaration};
 

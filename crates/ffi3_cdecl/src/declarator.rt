@@ -1,4 +1,4 @@
-// One token of a declarator, in the wide reading.
+//! One token of a declarator, in the wide reading.
 ghost use Rattle.std.specs.Prelude.{◌≡◌, ◌+◌, suc, IfOk, ltb, box_value, option_map};
 ghost use Rattle.ffi3_cdecl_spec.specs.Tokens.{close_round};
 ghost use Rattle.ffi3_types.specs.TreeOf.{tree_of};

@@ -1,4 +1,4 @@
-// Why a text is no declaration.
+//! Why a text is no declaration.
 use ffi3_types::{NoMemory, SigFault};
 use thiserror::Error;
 

@@ -1,4 +1,4 @@
-// What follows a word that attributes, or a name for the assembler, follow, in the wide reading.
+//! What follows a word that attributes, or a name for the assembler, follow, in the wide reading.
 ghost use Rattle.std.specs.Prelude.{◌≡◌, ◌≤◌, ◌+◌, cond, length};
 ghost use Rattle.ffi3_cdecl_spec.specs.Tokens.{attribute_words, assembler_words, is_among, are_silent, begins_string, begins_with, attribute_at, skipped, found, attribute_word};
 ghost use Rattle.ffi3_cdecl.specs.TokenOf.{found_of};

@@ -1,4 +1,4 @@
-// The integers of C by their sign.
+//! The integers of C by their sign.
 ghost use Rattle.std.specs.Prelude.{◌≡◌};
 ghost use Rattle.ffi3_type_spec.specs.Tree.{scalar};
 ghost use Rattle.ffi3_types.specs.TreeOf.{tree_of};

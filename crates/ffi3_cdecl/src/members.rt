@@ -1,4 +1,4 @@
-// One token behind the name of a member, in the wide reading.
+//! One token behind the name of a member, in the wide reading.
 ghost use Rattle.std.specs.Prelude.{◌≡◌, suc, IfOk, box_value};
 ghost use Rattle.ffi3_cdecl_spec.specs.Machine.{plain_member, starred_member, step_member_at, step_member_bounded};
 ghost use Rattle.ffi3_cdecl_spec.specs.OnePass.{few_bounds, keep_bound};

@@ -1,4 +1,4 @@
-// Types and counts that come one by one.
+//! Types and counts that come one by one.
 ghost use Rattle.std.specs.Prelude.{◌≡◌, ◌∷◌, [], OnOk, IfOk, reverse, length};
 ghost use Rattle.ffi3_type_spec.specs.Tree.{array_of};
 ghost use Rattle.ffi3_types.specs.TreeOf.{tree_of};

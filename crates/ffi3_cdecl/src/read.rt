@@ -1,4 +1,4 @@
-// The machine on its way over the tokens, and what it comes to.
+//! The machine on its way over the tokens, and what it comes to.
 ghost use Rattle.std.specs.Prelude.{◌≡◌, IfOk, option_map};
 ghost use Rattle.ffi3_cdecl_spec.specs.Machine.{finish, is_dead, judged, closing, settled};
 ghost use Rattle.ffi3_cdecl_spec.specs.Reading.{is_too_great};

@@ -1,4 +1,4 @@
-// Brackets that are open round a declarator.
+//! Brackets that are open round a declarator.
 ghost use Rattle.std.specs.Prelude.{◌≡◌, suc, IfOk};
 ghost use Rattle.ffi3_cdecl_spec.specs.Machine.{and_more, brackets, star_inside, bracket_inside};
 ghost use Rattle.ffi3_cdecl.specs.RoundOf.{round_of};

@@ -1,4 +1,4 @@
-// Words of a type in the wide reading, in any order.
+//! Words of a type in the wide reading, in any order.
 ghost use Rattle.std.specs.Prelude.{◌≡◌, IfOk, Some};
 ghost use Rattle.ffi3_type_spec.specs.Tree.{float, double};
 ghost use Rattle.ffi3_types.specs.TreeOf.{tree_of};

@@ -1,4 +1,4 @@
-// One token behind a declarator whose type is known, in the wide reading.
+//! One token behind a declarator whose type is known, in the wide reading.
 ghost use Rattle.std.specs.Prelude.{◌≡◌, suc, IfOk, box_value};
 ghost use Rattle.ffi3_cdecl_spec.specs.Machine.{settled, fewer, brackets_of, member_ends, inner_ends, function_ends, settled_ends, bracket_or_end, list_with_room, step_settled, step_square, step_filled, step_list_opened, step_list_void, step_list_comma, step_list_dots};
 ghost use Rattle.ffi3_types.specs.TreeOf.{tree_of};

@@ -1,4 +1,4 @@
-// Where a declaration stands, token by token.
+//! Where a declaration stands, token by token.
 ghost use Rattle.std.specs.Prelude.{◌≡◌, drop};
 ghost use Rattle.ffi3_type_spec.specs.Tree.{scalar};
 ghost use Rattle.ffi3_types.specs.TreeOf.{tree_of};
@@ -208,7 +208,7 @@ fn kind_of_name(called: &[u8]) -> Kind
     }
 }
 
-// Of the names of the table from number 5 on.
+/// Of the names of the table from number 5 on.
 fn kind_of_least(called: &[u8]) -> Kind
     ensures { kind_of result ≡ kind_of_name_among called.now (drop 5 header_types) }
 {
@@ -225,7 +225,7 @@ fn kind_of_least(called: &[u8]) -> Kind
     }
 }
 
-// And from number 9 on.
+/// And from number 9 on.
 fn kind_of_unsigned_least(called: &[u8]) -> Kind
     ensures { kind_of result ≡ kind_of_name_among called.now (drop 9 header_types) }
 {

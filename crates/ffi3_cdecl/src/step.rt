@@ -1,4 +1,4 @@
-// One token behind a type of the plain reading, a word of a base, a name or a mark.
+//! One token behind a type of the plain reading, a word of a base, a name or a mark.
 ghost use Rattle.std.specs.Prelude.{◌≡◌, [], IfOk, Some, None, ltb, box_value};
 ghost use Rattle.ffi3_cdecl_spec.specs.Machine.{onto, depth, depth_of, declared_by, list_ended, comma_of, name_behind, close_behind, comma_behind, step_typed, step_sign, step_short, step_long, step_long_long, opened_struct, step_struct, step_star, plain_void, step_sole_void, step_named, step_opened, step_closing, step_comma, step_dots, step_member, step_counted, step_after_member, step_closed};
 ghost use Rattle.ffi3_cdecl_spec.specs.OnePass.{keep_count};

@@ -1,4 +1,4 @@
-// The canonical text of a declaration.
+//! The canonical text of a declaration.
 ghost use Rattle.std.specs.Prelude.{◌≡◌, ◌<◌, ◌≤◌, ◌++◌, ◌∷◌, ℕ, length, slice_range, Some, OnOk, IfOk};
 ghost use Rattle.ffi3_type_spec.specs.Tree.{double, trees_of};
 ghost use Rattle.ffi3_type_spec.specs.Signature.{SignatureHasNoFault};

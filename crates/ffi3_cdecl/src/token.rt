@@ -1,4 +1,4 @@
-// The token at the front of some bytes.
+//! The token at the front of some bytes.
 ghost use Rattle.std.specs.Prelude.{◌≡◌, ◌<◌, ◌≤◌, ◌+◌, ◌-◌, take, true, length, get_or, drop, ◌∷◌, bytes_eq};
 ghost use Rattle.std.specs.Prelude.{◌++◌};
 ghost use Rattle.ffi3_cdecl_spec.specs.Tokens.{word_among, words, word_of, mark_among, marks, dots_at, found, front, goes_on_word, is_digit, number_at, found_at, blank_words, more_words, wide_words, is_among, wide_word, wide_word_at, comment_at, wide_found_at, found_in};
@@ -171,7 +171,7 @@ fn word(bytes: &[u8]) -> Token<'_>
     }
 }
 
-// Of the words of the table from number 6 on.
+/// Of the words of the table from number 6 on.
 fn word_from_6(bytes: &[u8]) -> Token<'_>
     ensures { token_of result ≡ word_among bytes.now (drop 6 words) }
 {
@@ -192,7 +192,7 @@ fn word_from_6(bytes: &[u8]) -> Token<'_>
     }
 }
 
-// And from number 12 on.
+/// And from number 12 on.
 fn word_from_12(bytes: &[u8]) -> Token<'_>
     ensures { token_of result ≡ word_among bytes.now (drop 12 words) }
 {
@@ -213,7 +213,7 @@ fn word_from_12(bytes: &[u8]) -> Token<'_>
     }
 }
 
-// And from number 18 on.
+/// And from number 18 on.
 fn word_from_18(bytes: &[u8]) -> Token<'_>
     ensures { token_of result ≡ word_among bytes.now (drop 18 words) }
 {
@@ -253,7 +253,7 @@ fn is_blank_word(bytes: &[u8]) -> bool
     }
 }
 
-// Of those of the table from number 6 on.
+/// Of those of the table from number 6 on.
 fn is_blank_word_from_6(bytes: &[u8]) -> bool
     ensures { result ≡ is_among bytes.now (drop 6 blank_words) }
 {
@@ -274,7 +274,7 @@ fn is_blank_word_from_6(bytes: &[u8]) -> bool
     }
 }
 
-// And from number 12 on.
+/// And from number 12 on.
 fn is_blank_word_from_12(bytes: &[u8]) -> bool
     ensures { result ≡ is_among bytes.now (drop 12 blank_words) }
 {
@@ -314,7 +314,7 @@ fn more_word(bytes: &[u8]) -> Token<'_>
     }
 }
 
-// From number 6 on.
+/// From number 6 on.
 fn more_word_from_6(bytes: &[u8]) -> Token<'_>
     ensures { token_of result ≡ word_among bytes.now (drop 6 (more_words ++ words)) }
 {
@@ -335,7 +335,7 @@ fn more_word_from_6(bytes: &[u8]) -> Token<'_>
     }
 }
 
-// From number 12 on.
+/// From number 12 on.
 fn more_word_from_12(bytes: &[u8]) -> Token<'_>
     ensures { token_of result ≡ word_among bytes.now (drop 12 (more_words ++ words)) }
 {
@@ -356,7 +356,7 @@ fn more_word_from_12(bytes: &[u8]) -> Token<'_>
     }
 }
 
-// From number 18 on.
+/// From number 18 on.
 fn more_word_from_18(bytes: &[u8]) -> Token<'_>
     ensures { token_of result ≡ word_among bytes.now (drop 18 (more_words ++ words)) }
 {
@@ -377,7 +377,7 @@ fn more_word_from_18(bytes: &[u8]) -> Token<'_>
     }
 }
 
-// From number 24 on.
+/// From number 24 on.
 fn more_word_from_24(bytes: &[u8]) -> Token<'_>
     ensures { token_of result ≡ word_among bytes.now (drop 24 (more_words ++ words)) }
 {
@@ -392,7 +392,7 @@ fn more_word_from_24(bytes: &[u8]) -> Token<'_>
     }
 }
 
-// From number 27 on.
+/// From number 27 on.
 fn more_word_from_27(bytes: &[u8]) -> Token<'_>
     ensures { token_of result ≡ word_among bytes.now (drop 27 (more_words ++ words)) }
 {
@@ -411,7 +411,7 @@ fn more_word_from_27(bytes: &[u8]) -> Token<'_>
     }
 }
 
-// From number 32 on.
+/// From number 32 on.
 fn more_word_from_32(bytes: &[u8]) -> Token<'_>
     ensures { token_of result ≡ word_among bytes.now (drop 32 (more_words ++ words)) }
 {
@@ -432,7 +432,7 @@ fn more_word_from_32(bytes: &[u8]) -> Token<'_>
     }
 }
 
-// From number 38 on.
+/// From number 38 on.
 fn more_word_from_38(bytes: &[u8]) -> Token<'_>
     ensures { token_of result ≡ word_among bytes.now (drop 38 (more_words ++ words)) }
 {
@@ -453,7 +453,7 @@ fn more_word_from_38(bytes: &[u8]) -> Token<'_>
     }
 }
 
-// From number 44 on.
+/// From number 44 on.
 fn more_word_from_44(bytes: &[u8]) -> Token<'_>
     ensures { token_of result ≡ word_among bytes.now (drop 44 (more_words ++ words)) }
 {
@@ -472,7 +472,7 @@ fn more_word_from_44(bytes: &[u8]) -> Token<'_>
     }
 }
 
-// From number 49 on.
+/// From number 49 on.
 fn more_word_from_49(bytes: &[u8]) -> Token<'_>
     ensures { token_of result ≡ word_among bytes.now (drop 49 (more_words ++ words)) }
 {

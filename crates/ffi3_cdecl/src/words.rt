@@ -1,4 +1,4 @@
-// One token behind words of a type, or a tag, in the wide reading.
+//! One token behind words of a type, or a tag, in the wide reading.
 ghost use Rattle.std.specs.Prelude.{◌≡◌, IfOk, Some};
 ghost use Rattle.ffi3_cdecl_spec.specs.Machine.{words_go_on, step_words, step_named_by, step_struct_tag, step_tag, step_wide_dots, fixing, words_of};
 ghost use Rattle.ffi3_cdecl_spec.specs.Grammar.{named_by};

@@ -10,9 +10,6 @@ abbrev pub IsViableIn : Dialect → List Token → Type 0
 IsViableIn r start =
     (more : List Token) × (d : Declaration) × IsDeclarationIn r (start ++ more) d
 
-abbrev pub IsViable : List Token → Type 0
-IsViable start = IsViableIn plain start
-
 -- What stands behind a beginning is unexpected: a token that no declaration has there, or the end of the text where it is no declaration yet.
 abbrev pub IsNotExpected : Dialect → List Token → List Token → Type 0
 IsNotExpected r start [] = (d : Declaration) → ¬ IsDeclarationIn r start d

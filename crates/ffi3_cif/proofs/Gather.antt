@@ -1,12 +1,12 @@
 -- One more piece, and one more argument.
-use Rattle.std.proofs.Common.{◌≡◌, ℕ, zero, suc, ◌+◌, ◌<◌, ◌≤◌, true, false, ltb, List, [], ◌∷◌, ◌++◌, drop, length, ap, sym, ◌∙◌, refl, arith, subst, inl, inr, drop_of_length-le, take, take_all}
+use Rattle.std.proofs.Common.{◌≡◌, ℕ, zero, suc, ◌+◌, ◌<◌, ◌≤◌, ltb, List, [], ◌∷◌, ◌++◌, drop, length, ap, sym, ◌∙◌, refl, arith, subst, inl, inr, drop_of_length-le, take, take_all}
 use Rattle.std.specs.Prelude.{Some, None, IsSomeAnd, slice_get, slice_index_or}
 use Rattle.std.specs.List.{AllByRecursion}
 use Rattle.std.proofs.lemmas.List.{take_more}
 use Rattle.ffi3_type_spec.specs.Tree.{Tree, tree_at}
 use Rattle.ffi3_type_spec.specs.Layout.{size_of}
 use Rattle.ffi3_place_spec.specs.declared.Loc.{Loc}
-use Rattle.ffi3_place_spec.specs.declared.Loc.TheVariants.{G, F, S}
+use Rattle.ffi3_place_spec.specs.declared.Loc.TheVariants.{S}
 use Rattle.ffi3_place_spec.specs.declared.Piece.{Piece}
 use Rattle.ffi3_place_spec.specs.declared.Place.{Place}
 use Rattle.ffi3_place_spec.specs.declared.Place.TheVariants.{Direct, ByRef}
@@ -14,7 +14,7 @@ use Rattle.ffi3_place_spec.specs.Sound.{IsPieceOf, PlaceHasAll, PlacesHaveAll, R
 use Rattle.ffi3_place_spec.proofs.Elements.{drop_read}
 use Rattle.ffi3_place_spec.proofs.Tests.{each_at, each_weaker}
 use Rattle.ffi3_cif.specs.declared.runs.Run.{Run}
-use Rattle.ffi3_cif.specs.Runs.{pieces_of, run_at, run_then, stack_runs, OneCopies, Neighbours, Rises, AreRunsOf, EndsWithin, PlaceEndsWithin, PlacesHaveRuns, goes_on, longer, some_run, glued}
+use Rattle.ffi3_cif.specs.Runs.{pieces_of, run_at, run_then, stack_runs, OneCopies, Neighbours, Rises, AreRunsOf, EndsWithin, PlaceEndsWithin, PlacesHaveRuns, some_run, glued}
 use Rattle.ffi3_cif.proofs.Glue.{are_glued}
 
 -- ---- what comes next

@@ -1,4 +1,4 @@
-// Signatures with their plans: what can be placed, whether it can be called or not.
+//! Signatures with their plans: what can be placed, whether it can be called or not.
 ghost use Rattle.std.specs.Prelude.{◌≡◌, ◌<◌, length, IfOk, IsSomeAnd, Some, slice_get};
 ghost use Rattle.ffi3_type_spec.specs.Signature.{SignatureIsPlaced};
 ghost use Rattle.ffi3_place_spec.specs.Standard.{plan_of};

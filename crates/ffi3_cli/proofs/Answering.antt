@@ -1,5 +1,5 @@
 -- What the reading of words answers, from what clap answers.
-use Rattle.std.proofs.Common.{◌≡◌, ◌∙◌, List, [], map, Some, None, inl, inr, refl, sym, ap, subst, true}
+use Rattle.std.proofs.Common.{◌≡◌, ◌∙◌, List, [], Some, None, inl, inr, refl, sym, ap, subst, true}
 use Rattle.std.specs.Prelude.{IfErr, IfOk, Err, Ok, Result}
 use Rattle.clap.specs.Words.{App, HasKind, IsAmong, Text, fault_of, kind_of, is_simple, is_simple_and_free, subcommand_of, subcommand_rows_of}
 use Rattle.clap.specs.Simple.{HasMatchesOf}
@@ -10,7 +10,7 @@ use Rattle.ffi3_cli.specs.declared.words.WordsFault.{WordsFault}
 use Rattle.ffi3_cli.specs.declared.words.WordsFault.TheVariants.{Refused, NoMemory}
 use Rattle.ffi3_cli_spec.specs.WordCommands.{LacksNumbers, asked, program}
 use Rattle.ffi3_cli.specs.CommandParts.{IsProgram}
-use Rattle.ffi3_cli_spec.specs.Words.{IsRefusedForNumbers, IsStated, Takes}
+use Rattle.ffi3_cli_spec.specs.Words.{IsRefusedForNumbers, Takes}
 use Rattle.ffi3_cli.specs.WordAnswers.{IsAnswered, IsInRange, IsWordsRefusal, IsToldAs}
 use Rattle.ffi3_cli.proofs.Asked.{Decides, something_asked}
 use Rattle.ffi3_cli.proofs.Program.{is_free, is_plain}

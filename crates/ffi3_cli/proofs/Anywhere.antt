@@ -6,7 +6,7 @@ use Rattle.std.specs.Str.{bytes_eq, chars}
 use Rattle.clap.specs.Lexer.{long_of, short_of}
 use Rattle.clap.specs.Words.{Text, Rule, Row, Shape, App, fault_of, subcommand_of, built}
 use Rattle.clap.specs.Kinds.{Kinds, or_else}
-use Rattle.clap.specs.Walk.{Held, Outcome, answers_to, Step, Waiting, Walk, idle, option, positional, trailing, done, waits, plain, refused, walk, walked, walked_from, nothing_held, used, used_by_id, settled, settled_rows, reacted, long_met, arg_by_id, arg_by_index, arg_by_long, arg_by_short, attached_value, flag_met, option_met, takes_values, to_positional, bundle_met, bundle_step, short_met, next, subcommand, value, word_met, long_or_other, short_or_plain, after_flag, after_step, plain_word, option_word, with_default, rows_after}
+use Rattle.clap.specs.Walk.{Held, Outcome, answers_to, Step, Waiting, Walk, idle, option, positional, trailing, done, waits, plain, walk, walked, walked_from, nothing_held, used, used_by_id, settled, settled_rows, reacted, long_met, arg_by_id, arg_by_index, arg_by_long, arg_by_short, attached_value, flag_met, option_met, takes_values, to_positional, bundle_met, bundle_step, short_met, next, value, word_met, long_or_other, short_or_plain, after_flag, after_step, plain_word, option_word, with_default, rows_after}
 use Rattle.clap.specs.Simple.{argument_words, entered, label_of, names_of, rows_at}
 use Rattle.std.specs.Option.{option_map, option_map_or}
 use Rattle.clap.specs.Faults.{bundle_fault, bundle_step_fault, defaults_fault, check_fault, flag_word_fault, flags_fault, level_fault, long_fault, option_fault, react_fault, settle_fault, short_fault, step_fault, turn_fault, use_fault, walk_fault, entered_fault, word_fault}

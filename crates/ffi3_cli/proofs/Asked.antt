@@ -8,7 +8,7 @@ use Rattle.std.proofs.lemmas.Slice.Eq.{bytes_eq-Decides}
 use Rattle.clap.specs.Facts.{explicit_source}
 use Rattle.clap.specs.Lexer.{long_of, short_of}
 use Rattle.clap.specs.Words.{App, Row, Rule, Shape, Text, fault_of, first_of, subcommand_of, built}
-use Rattle.clap.specs.Walk.{Held, Names, answers_to, Outcome, Step, Waiting, Walk, after_flag, after_step, arg_by_index, done, finished, idle, long_or_other, next, nothing_held, option, plain, plain_word, positional, refused, rows_after, settled, short_or_plain, subcommand, subcommand_or_other, to_positional, trailing, value, waits, walk, walked, walked_from}
+use Rattle.clap.specs.Walk.{Held, Names, answers_to, Outcome, Step, Waiting, Walk, after_flag, after_step, arg_by_index, done, finished, idle, long_or_other, nothing_held, option, plain_word, positional, rows_after, settled, short_or_plain, subcommand, subcommand_or_other, to_positional, trailing, value, waits, walk, walked, walked_from}
 use Rattle.clap.specs.Simple.{argument_words, built_leaf, entered, inherited, names_of, rows_at}
 use Rattle.clap.specs.Faults.{check_fault, defaults_fault, entered_fault, other_fault, settle_fault, turn_fault, walk_fault}
 use Rattle.clap.specs.declared.error.kind.ErrorKind.TheVariants.{DisplayHelpOnMissingArgumentOrSubcommand, MissingSubcommand}

@@ -1,12 +1,12 @@
 -- The program that the code builds is the one that is described.
 use Rattle.std.proofs.Common.{◌≡◌, ◌∙◌, ℕ, zero, suc, true, List, [], ◌∷◌, map, codes, refl, ap, ap₂}
 use Rattle.std.specs.Borrow.{Bor}
-use Rattle.clap.specs.Words.{App, Rule, Shape, Text, app_of, shape_of, is_simple, is_simple_and_free, new_app, with_rule}
+use Rattle.clap.specs.Words.{App, Rule, Text, app_of, shape_of, is_simple, is_simple_and_free, new_app, with_rule}
 use Rattle.clap.specs.declared.builder.command.Command.{Command}
 use Rattle.clap.specs.declared.builder.value_parser.ValueParser.{ValueParser}
 use Rattle.clap.specs.declared.builder.value_parser.ValueParser.TheVariants as vp
 use Rattle.clap.proofs.OnLiterals.{clap_on_literals}
-use Rattle.ffi3_cli_spec.specs.WordCommands.{Addresses, lent, one_of_words, targets, target_rule, trace_rule, program}
+use Rattle.ffi3_cli_spec.specs.WordCommands.{Addresses, lent, one_of_words, target_rule, trace_rule, program}
 use Rattle.ffi3_cli.specs.CommandParts.{IsTargetRule, HasTarget, IsTraceable}
 
 -- where texts lie

@@ -5,9 +5,9 @@ use Rattle.std.specs.Str.{bytes_eq}
 use Rattle.clap.specs.Words.{Row, Text, first_of}
 use Rattle.ffi3_type_spec.specs.declared.Target.{Target}
 use Rattle.ffi3_cli_spec.specs.declared.words.Request.{Request}
-use Rattle.ffi3_cli_spec.specs.declared.words.InputCommand.TheVariants.{Layout, Place, Run, Cdecl, Cplace, Explain, Arguments}
+use Rattle.ffi3_cli_spec.specs.declared.words.InputCommand.TheVariants.{Place, Run}
 use Rattle.ffi3_cli_spec.specs.declared.words.Request.TheVariants.{OnInput, Bench}
-use Rattle.ffi3_cli_spec.specs.WordCommands.{asked, bench_of, is_set, number_of, on_input, target_of, with_calls, with_target_of}
+use Rattle.ffi3_cli_spec.specs.WordCommands.{asked, is_set, number_of, target_of, with_calls}
 use Rattle.ffi3_cli.specs.WordAnswers.{IsInRange}
 
 abbrev IfInRange : Option Request → Type 0

@@ -27,7 +27,7 @@ pub fn program<'a>(alloc: Global) -> Result<Command<'a>, AllocError>
         .subcommand(arguments(alloc))
 }
 
-// The program without its commands, of which one is required.
+/// The program without its commands, of which one is required.
 fn program_alone<'a>(alloc: Global) -> Command<'a>
     ensures { app_of result ≡ program_alone }
 {
@@ -125,7 +125,7 @@ fn arguments<'a>(alloc: Global) -> Command<'a>
         .after_help(help::ARGUMENTS_AFTER_HELP)
 }
 
-// The option `--target`, which has to be one of these words.
+/// The option `--target`, which has to be one of these words.
 fn target<'a>(alloc: Global, words: &'a [&'a str]) -> Arg<'a>
     ensures rule { IsTargetRule words.now (rule_of result) }
     ensures local { result.global ≡ false }
@@ -138,7 +138,7 @@ fn target<'a>(alloc: Global, words: &'a [&'a str]) -> Arg<'a>
         .help(help::TARGET_HELP)
 }
 
-// The flag `--trace`.
+/// The flag `--trace`.
 fn trace<'a>(alloc: Global) -> Arg<'a>
     ensures rule { rule_of result ≡ trace_rule }
     ensures local { result.global ≡ false }
@@ -149,7 +149,7 @@ fn trace<'a>(alloc: Global) -> Arg<'a>
         .help(help::TRACE_HELP)
 }
 
-// The option `--seed`, whose value is any text to `clap`.
+/// The option `--seed`, whose value is any text to `clap`.
 fn seed<'a>(alloc: Global) -> Arg<'a>
     ensures rule { rule_of result ≡ seed_rule }
     ensures local { result.global ≡ false }
@@ -161,7 +161,7 @@ fn seed<'a>(alloc: Global) -> Arg<'a>
         .help(help::SEED_HELP)
 }
 
-// The option `--calls`, whose value is any text to `clap`.
+/// The option `--calls`, whose value is any text to `clap`.
 fn calls<'a>(alloc: Global) -> Arg<'a>
     ensures rule { rule_of result ≡ calls_rule }
     ensures local { result.global ≡ false }

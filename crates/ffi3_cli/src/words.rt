@@ -38,7 +38,7 @@ pub fn read_words(alloc: Global, words: Vec<String>) -> Result<Request, WordsFau
     answer(alloc, &words)
 }
 
-// The same: what `clap` makes of the words, from which all else follows.
+/// The same: what `clap` makes of the words, from which all else follows.
 fn answer(alloc: Global, words: &Vec<String>) -> Result<Request, WordsFault>
     ensures { IsAnswered (map string_bytes words.now.items) result }
 {
@@ -54,7 +54,7 @@ fn answer(alloc: Global, words: &Vec<String>) -> Result<Request, WordsFault>
     }
 }
 
-// What the matches ask for.
+/// What the matches ask for.
 fn asked(matches: &ArgMatches<'_>) -> Option<Request>
     ensures { result ≡ asked (subcommand_rows_of matches.now) }
 {
@@ -68,7 +68,7 @@ fn asked(matches: &ArgMatches<'_>) -> Option<Request>
     )
 }
 
-// What a command asks for, with its target, its flag and its numbers.
+/// What a command asks for, with its target, its flag and its numbers.
 fn request_of(
     name: &str,
     target: Option<&str>,
@@ -109,7 +109,7 @@ fn request_of(
     None
 }
 
-// What `bench` asks for with these numbers.
+/// What `bench` asks for with these numbers.
 fn bench_of(seed: Option<&str>, calls: Option<&str>) -> Option<Request>
     ensures { result ≡ bench_of (option_map (λ t. t.now) seed.entry) (option_map (λ t. t.now) calls.entry) }
 {
@@ -121,7 +121,7 @@ fn bench_of(seed: Option<&str>, calls: Option<&str>) -> Option<Request>
     None
 }
 
-// The number of 32 bits that the digits write, with no sign and no leading zero.
+/// The number of 32 bits that the digits write, with no sign and no leading zero.
 fn number_of(word: &str) -> Option<u32>
     ensures { result ≡ number_of word.now }
 {
@@ -135,7 +135,7 @@ fn number_of(word: &str) -> Option<u32>
     None
 }
 
-// Whether a flag of this value is set.
+/// Whether a flag of this value is set.
 fn is_set(value: Option<&str>) -> bool
     ensures { result ≡ is_set (option_map (λ t. t.now) value.entry) }
 {
@@ -145,7 +145,7 @@ fn is_set(value: Option<&str>) -> bool
     }
 }
 
-// The target of this name.
+/// The target of this name.
 fn target_of(word: &str) -> Option<Target>
     ensures { result ≡ target_of word.now }
 {
@@ -180,7 +180,7 @@ pub fn target_word(target: Target) -> &'static str
     }
 }
 
-// An error of `clap` as a fault.
+/// An error of `clap` as a fault.
 fn refusal(alloc: Global, error: &Error) -> WordsFault
     ensures { IsToldAs error.now result }
 {
@@ -193,7 +193,7 @@ fn refusal(alloc: Global, error: &Error) -> WordsFault
     }
 }
 
-// The fault of words whose numbers are none, or out of their ranges.
+/// The fault of words whose numbers are none, or out of their ranges.
 fn no_numbers(alloc: Global) -> WordsFault {
     match String::from_str(alloc, help::NO_NUMBERS) {
         Ok(text) => WordsFault::Refused(text),

@@ -60,7 +60,7 @@ impl Table {
         }
     }
 
-    // The lowest slot that is free, or the number of slots.
+    /// The lowest slot that is free, or the number of slots.
     fn first_free(&self) -> usize
         ensures value { result ≡ first_free self.now }
         ensures high { result ≤ 256 }
@@ -73,7 +73,7 @@ impl Table {
         self.slots.len()
     }
 
-    // Writes the entry of a slot.
+    /// Writes the entry of a slot.
     fn put(&mut self, k: usize, entry: Option<Closure>)
         requires { k < 256 }
         ensures { self.new ≡ with_closure self.old k entry }
@@ -166,7 +166,7 @@ impl Table {
     }
 }
 
-// The number of the slot that starts at an address, as if there were no end of them.
+/// The number of the slot that starts at an address, as if there were no end of them.
 fn slot_number(addr: u64) -> Option<usize>
     ensures value { result ≡ slot_number addr }
     ensures address { IfSome result (λ k. addr ≡ slot_address k) }
@@ -182,7 +182,7 @@ fn slot_number(addr: u64) -> Option<usize>
     }
 }
 
-// The first 32 bytes of a live slot.
+/// The first 32 bytes of a live slot.
 #[tactic(auto, unfolding(ffi3_machine_spec::specs::Slots::slot_head, ffi3_machine_spec::specs::Slots::trampoline))]
 fn slot_head(isa: Isa) -> [u8; 32]
     ensures { result ≡ slot_head isa }
@@ -203,7 +203,7 @@ fn slot_head(isa: Isa) -> [u8; 32]
     }
 }
 
-// The bytes of a live slot.
+/// The bytes of a live slot.
 fn live_slot(isa: Isa, closure: Closure) -> [u8; 64]
     ensures { result ≡ live_slot isa closure }
 {
@@ -215,7 +215,7 @@ fn live_slot(isa: Isa, closure: Closure) -> [u8; 64]
     bytes
 }
 
-// Writes a word into a slot's bytes, from place `at` on.
+/// Writes a word into a slot's bytes, from place `at` on.
 fn put_word(bytes: &mut [u8; 64], at: usize, word: u64)
     requires { at + 8 ≤ 64 }
     ensures { bytes.new ≡ replace_range bytes.old at (at + 8) (to_le_bytes w64 word) }
@@ -223,7 +223,7 @@ fn put_word(bytes: &mut [u8; 64], at: usize, word: u64)
     bytes[at..at + 8].copy_from_slice(&word.to_le_bytes());
 }
 
-// The bytes of a free slot.
+/// The bytes of a free slot.
 #[tactic(auto, unfolding(ffi3_machine_spec::specs::State::free_slot))]
 fn free_slot(isa: Isa) -> [u8; 64]
     ensures { result ≡ free_slot isa }

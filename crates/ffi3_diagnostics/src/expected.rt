@@ -1,4 +1,4 @@
-// Kinds of token that could have stood at a place.
+//! Kinds of token that could have stood at a place.
 
 /// A kind of token, or the end of the text.
 #[derive(Clone, Copy, Debug, PartialEq, Eq)]

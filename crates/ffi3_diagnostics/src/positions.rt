@@ -1,4 +1,4 @@
-// What is told of a value of a signature, or of the signature's fault, behind the value's name.
+//! What is told of a value of a signature, or of the signature's fault, behind the value's name.
 ghost use Rattle.std.specs.Prelude.{◌≡◌, ◌++◌, IfOk, codes, decimal};
 ghost use Rattle.ffi3_types.specs.SignatureFaultOf.{position_of, signature_fault_of};
 ghost use Rattle.ffi3_diagnostics_spec.specs.Positions.{position_name, words_at, placed_words};

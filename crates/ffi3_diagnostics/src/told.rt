@@ -1,4 +1,4 @@
-// What is told of a place where a text is no declaration, in the wide reading.
+//! What is told of a place where a text is no declaration, in the wide reading.
 ghost use Rattle.std.specs.Prelude.{◌≡◌, IfOk, OnOk, ◌<◌, ◌≤◌, get_or, length, nat_le, cond, ◌++◌, ◌∷◌, []};
 ghost use Rattle.ffi3_cdecl_spec.specs.Tokens.{wide, complex_word};
 ghost use Rattle.ffi3_cdecl_spec.specs.Reading.{IsReadingIn, unexpected};

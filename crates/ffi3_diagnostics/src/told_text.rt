@@ -1,4 +1,4 @@
-// What is told of an unexpected place, in words, and the line of a text with a mark below a place.
+//! What is told of an unexpected place, in words, and the line of a text with a mark below a place.
 ghost use Rattle.std.specs.Prelude.{◌≡◌, ◌++◌, ◌≤◌, [], IfOk, OnOk, length, map, min, take, drop};
 ghost use Rattle.ffi3_cdecl_spec.specs.Tokens.{front};
 ghost use Rattle.ffi3_diagnostics_spec.specs.ToldText.{kind_words, between, one_of, expected_words, named_words, base_words, reason_words, why_words, shown, printable, stood_words, told_words, goes_on_line, last_line, without_end, marked_at, goes_on_character, blanks_below, marked_lines, lines_at};

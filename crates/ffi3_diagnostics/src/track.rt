@@ -1,4 +1,4 @@
-// The base that was read last, kept beside the state.
+//! The base that was read last, kept beside the state.
 ghost use Rattle.std.specs.Prelude.{◌≡◌, cond};
 ghost use Rattle.ffi3_cdecl_spec.specs.Telling.{wants_a_type, named_base, base_alone, tag_behind, name_behind_base, bracket_behind_base, tracked, sized, no_track};
 ghost use Rattle.ffi3_cdecl.specs.TokenOf.{token_of};

@@ -1,2 +1,2 @@
-//! In which words and lines a person is told of a text that is no declaration. The definitions are in `specs/`.
+//! The error messages for a text that is no C declaration. The definitions are in `specs/`.
 #![tactic(auto)]

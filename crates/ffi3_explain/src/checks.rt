@@ -1,4 +1,4 @@
-// The arguments, the hidden result's address and the number of vector registers.
+//! The arguments, the hidden result's address and the number of vector registers.
 ghost use Rattle.std.specs.Prelude.{◌≡◌, ◌+◌, ◌^◌, ◌<◌, ◌≤◌, length, IfErr, IfOk, None, Some};
 ghost use Rattle.std.specs.List.{AllByRecursion};
 ghost use Rattle.ffi3_values.specs.ValueOf.{value_of};
@@ -19,7 +19,7 @@ use ffi3_types::CheckedType;
 use ffi3_values::{Value, Values, value_from_bytes};
 use std::alloc::Global;
 
-// The value of argument `i` from its copy, where its place holds the copy's address.
+/// The value of argument `i` from its copy, where its place holds the copy's address.
 fn explain_copy(
     alloc: Global,
     image: &Image,
@@ -53,7 +53,7 @@ fn explain_copy(
     Ok(value)
 }
 
-// The value of argument `i`, or its first place that does not hold what is wanted.
+/// The value of argument `i`, or its first place that does not hold what is wanted.
 fn explain_argument(
     alloc: Global,
     image: &Image,

@@ -47,7 +47,7 @@ pub enum Unexplained {
     NoMemory,
 }
 
-// The same, told by the explanation alone.
+/// The same, told by the explanation alone.
 fn explained<A: Abi>(alloc: Global, image: &Image, cif: &Cif<A>) -> Result<Values, Unexplained>
     requires stack { A.standard.link + frame_of A.standard cif.now ≤ length image.now.stack }
     requires high { image.now.sp + A.standard.link + frame_of A.standard cif.now < 2 ^ 64 }
@@ -73,7 +73,7 @@ fn explained<A: Abi>(alloc: Global, image: &Image, cif: &Cif<A>) -> Result<Value
     }
 }
 
-// Does nothing. Registers have 64 bits, and bytes 8.
+/// Does nothing. Registers have 64 bits, and bytes 8.
 fn are_small(general: &[u64], floating: &[u64], stack: &[u8])
     ensures general { (r : ℕ) → get_or general.now r 0 < 2 ^ 64 }
     ensures floating { (r : ℕ) → get_or floating.now r 0 < 2 ^ 64 }

@@ -1,4 +1,4 @@
-// The value of an argument in pieces, and what is wanted of each piece's place.
+//! The value of an argument in pieces, and what is wanted of each piece's place.
 ghost use Rattle.std.specs.Prelude.{◌≡◌, ◌<◌, true, length, replicate, slice_index_or, IfOk, IfErr, None};
 ghost use Rattle.std.specs.Int.{w64, from_le_bytes};
 ghost use Rattle.std.specs.List.{AllByRecursion};
@@ -22,7 +22,7 @@ use ffi3_types::{CheckedType, FfiType, NoMemory};
 use ffi3_values::{Value, value_from_bytes, widen, widen_from_32, write_bytes};
 use std::alloc::Global;
 
-// Reads a piece of a value from its place.
+/// Reads a piece of a value from its place.
 fn read_piece(image: &Image, base: u64, piece: &Piece, out: &mut [u8])
     requires there { CanBeRead (image_of image.now) base piece.now }
     requires within { IsWithin (length out.old) piece.now }
@@ -34,7 +34,7 @@ fn read_piece(image: &Image, base: u64, piece: &Piece, out: &mut [u8])
     out[start..start + len].copy_from_slice(&bytes[..len]);
 }
 
-// The bytes of a value in pieces. Of two pieces that have a byte the first tells it, and a byte of none is 0.
+/// The bytes of a value in pieces. Of two pieces that have a byte the first tells it, and a byte of none is 0.
 fn read_pieces(image: &Image, base: u64, pieces: &Pieces, out: &mut [u8])
     requires there { AllByRecursion (CanBeRead (image_of image.now) base) pieces.now }
     requires within { AllByRecursion (IsWithin (length out.old)) pieces.now }
@@ -65,8 +65,8 @@ pub fn value_in_pieces(
     value_from_bytes(alloc, ty.as_type(), out)
 }
 
-// Byte `k` of a piece's place, as it is wanted: a byte of a leaf, the same in `low` and in `high`, is the value's, and
-// any other is as it is found.
+/// Byte `k` of a piece's place, as it is wanted: a byte of a leaf, the same in `low` and in `high`, is the value's, and
+/// any other is as it is found.
 fn wanted_byte(piece: &Piece, found: &[u8], low: &[u8], high: &[u8], k: u8) -> u8
     requires eight { length found.now ≡ 8 }
     requires low { IsWithin (length low.now) piece.now }
@@ -83,7 +83,7 @@ fn wanted_byte(piece: &Piece, found: &[u8], low: &[u8], high: &[u8], k: u8) -> u
     found[k as usize]
 }
 
-// The word of a piece's place, as it is wanted where nothing fills the rest of the place.
+/// The word of a piece's place, as it is wanted where nothing fills the rest of the place.
 fn wanted_word(piece: &Piece, found: &[u8], low: &[u8], high: &[u8]) -> u64
     requires eight { length found.now ≡ 8 }
     requires low { IsWithin (length low.now) piece.now }
@@ -102,7 +102,7 @@ fn wanted_word(piece: &Piece, found: &[u8], low: &[u8], high: &[u8]) -> u64
     ])
 }
 
-// The word with the rest of the place filled.
+/// The word with the rest of the place filled.
 fn extended(ty: &FfiType, value: &Value, piece: &Piece, word: u64) -> u64
     requires suits { IsPieceOf (tree_of ty.now) piece.now }
     requires fits { fits (tree_of ty.now) (value_of value.now) ≡ true }
@@ -116,7 +116,7 @@ fn extended(ty: &FfiType, value: &Value, piece: &Piece, word: u64) -> u64
     }
 }
 
-// What the place of piece `j` of argument `i` holds, and what it is wanted to hold.
+/// What the place of piece `j` of argument `i` holds, and what it is wanted to hold.
 fn check_piece(
     image: &Image,
     base: u64,
@@ -147,7 +147,7 @@ fn check_piece(
     }
 }
 
-// The first piece of argument `i` whose place does not hold what is wanted.
+/// The first piece of argument `i` whose place does not hold what is wanted.
 fn first_broken_piece(
     image: &Image,
     base: u64,
@@ -175,7 +175,7 @@ fn first_broken_piece(
     None
 }
 
-// Writes the value's bytes over this filling, which stays in padding.
+/// Writes the value's bytes over this filling, which stays in padding.
 fn write_over(ty: &CheckedType<'_>, value: &Value, filling: u8, out: &mut [u8])
     requires fits { fits ty.now (value_of value.now) ≡ true }
     requires sized { length out.old ≡ size_of ty.now }

@@ -1,4 +1,4 @@
-// Bytes and words of places.
+//! Bytes and words of places.
 ghost use Rattle.std.specs.Prelude.{◌≡◌};
 ghost use Rattle.ffi3_place_spec.specs.Image.{word_at};
 ghost use Rattle.ffi3_explain_spec.specs.Explain.{eight, place_byte};

@@ -1,4 +1,4 @@
-// How much of the stack the arguments need.
+//! How much of the stack the arguments need.
 ghost use Rattle.std.specs.Prelude.{◌≡◌, ◌+◌, ◌<◌, ◌^◌, [], ◌∷◌, max};
 ghost use Rattle.std.specs.List.{flat_map};
 ghost use Rattle.ffi3_place_spec.specs.Standard.{plan_of};
@@ -14,7 +14,7 @@ fn greater(a: u64, b: u64) -> u64
     if a < b { b } else { a }
 }
 
-// Where a place on the stack ends, and 0 for a register.
+/// Where a place on the stack ends, and 0 for a register.
 fn loc_end(at: Loc) -> u64
     ensures value { result ≡ stack_end (at ∷ []) }
     ensures small { result < 2 ^ 33 }
@@ -25,7 +25,7 @@ fn loc_end(at: Loc) -> u64
     }
 }
 
-// Where the highest of some pieces' places on the stack ends.
+/// Where the highest of some pieces' places on the stack ends.
 fn pieces_end(pieces: &Pieces) -> u64
     ensures value { result ≡ stack_end (piece_locs pieces.now) }
     ensures small { result < 2 ^ 33 }
@@ -37,7 +37,7 @@ fn pieces_end(pieces: &Pieces) -> u64
     end
 }
 
-// Where the highest of an argument's places on the stack ends.
+/// Where the highest of an argument's places on the stack ends.
 fn place_end(place: &Place) -> u64
     ensures value { result ≡ stack_end (place_locs place.now) }
     ensures small { result < 2 ^ 33 }
@@ -48,7 +48,7 @@ fn place_end(place: &Place) -> u64
     }
 }
 
-// Where the highest of all arguments' places on the stack ends.
+/// Where the highest of all arguments' places on the stack ends.
 fn arguments_end<A: Abi>(placed: &Placed<A>) -> u64
     ensures value { result ≡ stack_end (flat_map place_locs (plan_of A.standard placed.now).places) }
     ensures small { result < 2 ^ 33 }

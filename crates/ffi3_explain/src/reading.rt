@@ -1,4 +1,4 @@
-// The arguments by the standard alone.
+//! The arguments by the standard alone.
 ghost use Rattle.std.specs.Prelude.{◌≡◌, ◌<◌, ◌≤◌, List, length, true, IfErr, IfOk, None};
 ghost use Rattle.ffi3_type_spec.specs.Tree.{trees_of};
 ghost use Rattle.ffi3_type_spec.specs.Value.{ValueTree, all_fit, values_of};
@@ -30,7 +30,7 @@ pub enum Unread {
     NoMemory,
 }
 
-// Where in the stack's bytes so many bytes from an address on begin, where all of them are there.
+/// Where in the stack's bytes so many bytes from an address on begin, where all of them are there.
 fn offset_in(image: &Image, address: u64, size: u64) -> Option<usize>
     ensures { result ≡ offset_in (image_of image.now) address size }
 {
@@ -48,7 +48,7 @@ fn offset_in(image: &Image, address: u64, size: u64) -> Option<usize>
     Some(offset as usize)
 }
 
-// The value of argument `i` from wherever the address in its place points.
+/// The value of argument `i` from wherever the address in its place points.
 fn read_copy(
     alloc: Global,
     image: &Image,
@@ -79,7 +79,7 @@ fn read_copy(
     }
 }
 
-// The value of argument `i`, or its address, where that points outside the image.
+/// The value of argument `i`, or its address, where that points outside the image.
 fn read_argument(
     alloc: Global,
     image: &Image,
@@ -105,7 +105,7 @@ fn read_argument(
     }
 }
 
-// The same of all arguments.
+/// The same of all arguments.
 fn read_arguments<A: Abi>(
     alloc: Global,
     image: &Image,

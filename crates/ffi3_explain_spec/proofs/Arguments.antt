@@ -14,7 +14,7 @@ use Rattle.ffi3_type_spec.specs.Value.{ValueTree, value_in, values_of, fits, all
 use Rattle.ffi3_type_spec.proofs.Placed.{faultless_is_plain, faultless_is_placed}
 use Rattle.ffi3_type_spec.proofs.Right.{argument_is_laid_out}
 use Rattle.ffi3_place_spec.specs.declared.Loc.{Loc}
-use Rattle.ffi3_place_spec.specs.declared.Loc.TheVariants.{G, F, S}
+use Rattle.ffi3_place_spec.specs.declared.Loc.TheVariants.{S}
 use Rattle.ffi3_place_spec.specs.declared.Piece.{Piece}
 use Rattle.ffi3_place_spec.specs.declared.Place.{Place}
 use Rattle.ffi3_place_spec.specs.declared.Place.TheVariants.{Direct, ByRef}

@@ -10,7 +10,7 @@ use Rattle.ffi3_type_spec.proofs.Placed.{faultless_is_plain}
 use Rattle.ffi3_type_spec.proofs.Right.{argument_is_laid_out}
 use Rattle.ffi3_place_spec.specs.declared.Loc.{Loc}
 use Rattle.ffi3_place_spec.specs.declared.Res.{Res}
-use Rattle.ffi3_place_spec.specs.declared.Res.TheVariants.{Nothing, Direct as DirectRes, Hidden as HiddenRes}
+use Rattle.ffi3_place_spec.specs.declared.Res.TheVariants.{Hidden as HiddenRes}
 use Rattle.ffi3_place_spec.specs.Image.{Image}
 use Rattle.ffi3_place_spec.specs.Standard.{Standard, frame_of, plan_of}
 use Rattle.ffi3_place_spec.specs.Sound.{IsSound, LiesIn, argument_locs, copy_locs, buffer_locs}

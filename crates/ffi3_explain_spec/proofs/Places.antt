@@ -1,6 +1,5 @@
 -- The places of the arguments: where each is as it is wanted, the image owns the values that are read, and the other way round.
-use Rattle.std.specs.Prelude.{◌/◌, ◌*◌}
-use Rattle.std.proofs.Common.{◌≡◌, ℕ, zero, suc, ◌+◌, ◌<◌, ◌≤◌, ◌⊎◌, inl, inr, List, [], ◌∷◌, ◌++◌, length, take, drop, refl, arith, length-take, length-drop}
+use Rattle.std.proofs.Common.{◌≡◌, ℕ, suc, ◌+◌, ◌<◌, ◌≤◌, inl, inr, List, [], ◌∷◌, length, take, drop, refl, arith, length-take, length-drop}
 use Rattle.std.specs.List.{AllByRecursion}
 use Rattle.std.proofs.lemmas.Bool.{cases_lt}
 use Rattle.ffi3_type_spec.specs.Tree.{Tree, tree_at}
@@ -13,7 +12,7 @@ use Rattle.ffi3_place_spec.specs.declared.Place.{Place}
 use Rattle.ffi3_place_spec.specs.declared.Place.TheVariants.{Direct, ByRef}
 use Rattle.ffi3_place_spec.specs.Image.{Image}
 use Rattle.ffi3_place_spec.specs.Holds.{OwnsArgument, OwnsArguments, FillsArgument, FillArguments}
-use Rattle.ffi3_place_spec.specs.Sound.{PlaceHasAll, PlacesHaveAll, LiesIn, stack_words, stack_words_for, copy_locs}
+use Rattle.ffi3_place_spec.specs.Sound.{PlaceHasAll, PlacesHaveAll, LiesIn, stack_words_for, copy_locs}
 pub use Rattle.ffi3_place_spec.proofs.Further.{each_of_all as join, each_in_front as left_part, each_behind as right_part}
 use Rattle.ffi3_explain_spec.specs.Explain.{checks_of_pieces, checks_of_place, checks_of_arguments, value_at_place, values_at_places, first_bytes}
 use Rattle.ffi3_explain_spec.specs.Laws.{HasWords, IsHeld}

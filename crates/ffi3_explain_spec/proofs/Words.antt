@@ -1,20 +1,20 @@
 -- A place's word and its eight bytes, and what fills the rest of a place.
 use Rattle.std.specs.Prelude.{◌/◌, ◌%◌, ◌^◌, ◌-◌, ◌*◌, cond, nat_lt}
-use Rattle.std.proofs.Common.{◌≡◌, ℕ, zero, suc, ◌+◌, ◌<◌, ◌≤◌, true, false, List, [], ◌∷◌, map, get_or, refl, ap, sym, ◌∙◌, inl, inr, arith}
+use Rattle.std.proofs.Common.{◌≡◌, ℕ, ◌+◌, ◌<◌, ◌≤◌, true, false, List, [], ◌∷◌, map, get_or, refl, ap, sym, ◌∙◌, inl, inr, arith}
 use Rattle.std.specs.List.{range_with_len}
-use Rattle.std.specs.Int.{w64, to_le_bytes, byte_worth, from_le_bytes}
+use Rattle.std.specs.Int.{w64, to_le_bytes, from_le_bytes}
 use Rattle.std.proofs.lemmas.Bool.{cases_lt}
 use Rattle.std.proofs.lemmas.Bool.Decides.{nat_tests}
 use Rattle.std.proofs.lemmas.Nat.{le_bytes_8, from_le_bytes-to_le_bytes_8}
 use Rattle.std.proofs.lemmas.List.{get_or-take, get_or_past}
 use Rattle.std.proofs.lemmas.List.FromFn.{length-map-range_with_len, get_or-map-range_with_len}
-use Rattle.ffi3_type_spec.specs.Tree.{Tree, void, scalar, left_out, structure, array}
-use Rattle.ffi3_type_spec.specs.Value.{ValueTree, void_value, leaf_value, struct_value}
+use Rattle.ffi3_type_spec.specs.Tree.{Tree, scalar}
+use Rattle.ffi3_type_spec.specs.Value.{ValueTree, leaf_value}
 use Rattle.ffi3_type_spec.proofs.Widened.{low_bytes_32, to_le_bytes-below}
 use Rattle.ffi3_place_spec.specs.declared.Loc.{Loc}
 use Rattle.ffi3_place_spec.specs.declared.Loc.TheVariants.{G, F, S}
 use Rattle.ffi3_place_spec.specs.declared.Ext.{Ext}
-use Rattle.ffi3_place_spec.specs.declared.Ext.TheVariants.{Free, Widen, Riscv, Boxed}
+use Rattle.ffi3_place_spec.specs.declared.Ext.TheVariants.{Widen, Riscv, Boxed}
 use Rattle.ffi3_place_spec.specs.Image.{Image, byte_at, word_at}
 use Rattle.ffi3_place_spec.specs.Locs.{place_size}
 use Rattle.ffi3_place_spec.specs.Holds.{FillsAs}

@@ -37,14 +37,14 @@ pub fn image_of(alloc: Global, event: &Event, stack: &[u8]) -> Result<Image, NoM
     })
 }
 
-// Does nothing. Registers have 64 bits, and bytes 8.
+/// Does nothing. Registers have 64 bits, and bytes 8.
 fn are_small(general: &[u64], floating: &[u64], stack: &[u8])
     ensures general { (r : ℕ) → get_or general.now r 0 < 2 ^ 64 }
     ensures floating { (r : ℕ) → get_or floating.now r 0 < 2 ^ 64 }
     ensures stack { (i : ℕ) → get_or stack.now i 0 < 256 }
 {}
 
-// The same of what is recorded of event `i`.
+/// The same of what is recorded of event `i`.
 fn has_words(journal: &Journal, i: usize)
     requires { i < length journal.now.events }
     ensures { HasWords (event_at journal.now.events i).image }
@@ -53,7 +53,7 @@ fn has_words(journal: &Journal, i: usize)
     are_small(&event.general, &event.floating, journal.stack(i));
 }
 
-// And of every event.
+/// And of every event.
 fn have_words(journal: &Journal)
     ensures { AllByRecursion (λ e. HasWords e.image) journal.now.events }
 {
@@ -62,7 +62,7 @@ fn have_words(journal: &Journal)
     }
 }
 
-// No signature of the interfaces has a fault.
+/// No signature of the interfaces has a fault.
 fn are_right<A: Abi>(cifs: &Cifs<A>)
     ensures { (k : ℕ) → SignatureHasNoFault (signature_at cifs.now k) }
 {

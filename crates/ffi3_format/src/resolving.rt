@@ -1,4 +1,4 @@
-// Types in which long doubles have a format.
+//! Types in which long doubles have a format.
 ghost use Rattle.std.specs.Prelude.{◌≡◌, IfOk, map};
 ghost use Rattle.ffi3_format_spec.specs.Format.{long_double_by, complex_by, resolved};
 ghost use Rattle.ffi3_types.specs.TreeOf.{tree_of};

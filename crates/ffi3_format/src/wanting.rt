@@ -1,4 +1,4 @@
-// Whether a format is wanted: long doubles and complex ones in types.
+//! Whether a format is wanted: long doubles and complex ones in types.
 ghost use Rattle.std.specs.Prelude.{◌≡◌};
 ghost use Rattle.std.specs.List.{list_any};
 ghost use Rattle.ffi3_type_spec.specs.Tree.{trees_of};

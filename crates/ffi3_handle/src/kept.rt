@@ -12,7 +12,7 @@ pub struct Kept {
     pub prepared: Arc<Prepared>,
 }
 
-// Does nothing. What it is called with may go to another thread, and be read by several at once.
+/// Does nothing. What it is called with may go to another thread, and be read by several at once.
 fn crosses<T: Send + Sync>(_kept: &T) {}
 
 impl Kept {

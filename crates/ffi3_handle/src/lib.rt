@@ -88,7 +88,7 @@ impl Handle {
 // What is kept goes to another thread with its handle.
 unsafe impl Send for Handle {}
 
-// What it is called with, which may go to another thread.
+/// What it is called with, which may go to another thread.
 fn sendable<T: Send>(it: T) -> T
     ensures { result ≡ it }
 {

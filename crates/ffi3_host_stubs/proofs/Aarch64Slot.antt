@@ -1,5 +1,5 @@
 -- The slot of AArch64, wherever it stands and its data.
-use Rattle.std.proofs.Common.{⊎_elim, subst, ◌≡◌, ◌⊎◌, inl, inr, ℕ, suc, ◌+◌, ◌-◌, ◌*◌, ◌/◌, ◌%◌, ◌^◌, ◌<◌, ◌≤◌, Bool, true, false, if◌then◌else◌, List, [], ◌∷◌, ◌++◌, length, refl, sym, ap, ◌∙◌, arith, lit<, ℤ}
+use Rattle.std.proofs.Common.{⊎_elim, subst, ◌≡◌, ◌⊎◌, inl, inr, ℕ, suc, ◌+◌, ◌-◌, ◌*◌, ◌/◌, ◌%◌, ◌^◌, ◌<◌, ◌≤◌, Bool, true, false, if◌then◌else◌, List, [], ◌++◌, refl, sym, ap, ◌∙◌, arith, lit<, ℤ}
 use Rattle.std.proofs.lemmas.Bool.Decides.{nat_tests}
 use Rattle.std.specs.Prelude.{nat_le, nat_lt}
 use Rattle.ffi3_isa.specs.declared.Instr.TheVariants.{LdrLit, Adr, Br}
@@ -9,7 +9,6 @@ use Rattle.ffi3_type_spec.specs.declared.Isa.TheVariants.{Aarch64}
 use Rattle.ffi3_place_spec.specs.declared.Loc.TheVariants.{G}
 use Rattle.ffi3_machine.specs.MachineStep.{moved}
 use Rattle.ffi3_machine_spec.specs.Stubs.{word}
-use Rattle.ffi3_stubs.specs.Calls.{same_loc, is_in}
 use Rattle.ffi3_host_stubs.specs.Processor.{Processor, half, word_at, set_at, next, IsKept, HasCode}
 use Rattle.ffi3_host_stubs.specs.Slots.{less_by, slot_code, Reaches}
 use Rattle.ffi3_host_stubs.proofs.Standing.{plain, wraps, TakesBy, in_turn}

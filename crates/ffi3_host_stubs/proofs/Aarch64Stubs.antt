@@ -1,5 +1,5 @@
 -- The four stubs of AArch64, wherever they and the exchange region stand.
-use Rattle.std.proofs.Common.{◌≡◌, ◌⊎◌, inl, inr, ⊎_elim, ℕ, ◌+◌, ◌-◌, ◌*◌, ◌%◌, ◌<◌, ◌≤◌, Bool, true, false, List, [], ◌∷◌, ◌++◌, length, refl, sym, ap, ◌∙◌, subst, arith, lit<, lit≤, pos}
+use Rattle.std.proofs.Common.{◌≡◌, ◌⊎◌, inl, inr, ⊎_elim, ℕ, ◌+◌, ◌-◌, ◌*◌, ◌%◌, ◌<◌, ◌≤◌, false, List, [], ◌∷◌, ◌++◌, length, refl, sym, ap, ◌∙◌, subst, arith, lit<, lit≤, pos}
 use Rattle.std.specs.Prelude.{◌-ℤ◌}
 use Rattle.ffi3_machine_spec.specs.Memory.{number_of}
 use Rattle.ffi3_isa.specs.Aarch64.{stub, blr, ret}

@@ -1,5 +1,5 @@
 -- The four stubs of AMD64, wherever they and the exchange region stand.
-use Rattle.std.proofs.Common.{◌≡◌, ◌⊎◌, inl, inr, ⊎_elim, ℕ, ◌+◌, ◌-◌, ◌*◌, ◌%◌, ◌^◌, ◌<◌, ◌≤◌, Bool, true, false, List, [], ◌∷◌, ◌++◌, length, refl, sym, ap, ◌∙◌, subst, arith, lit<, lit≤, pos, negsuc}
+use Rattle.std.proofs.Common.{◌≡◌, ◌⊎◌, inl, inr, ⊎_elim, ℕ, ◌+◌, ◌-◌, ◌*◌, ◌%◌, ◌^◌, ◌<◌, ◌≤◌, false, List, [], ◌∷◌, ◌++◌, length, refl, sym, ap, ◌∙◌, subst, arith, lit<, lit≤, pos, negsuc}
 use Rattle.ffi3_machine_spec.specs.Memory.{number_of, low_bytes}
 use Rattle.ffi3_isa.specs.Amd64.{fixed, call, ret, disp32}
 use Rattle.ffi3_isa.specs.declared.Instr.TheVariants.{CallMem, Ret}

@@ -1,12 +1,12 @@
 -- Memory behind Entry: registers at v and above, and then the word for Exit, and registers in the exchange region at x.
-use Rattle.std.proofs.Common.{◌≡◌, ◌⊎◌, inl, inr, ⊎_elim, ℕ, ◌+◌, ◌*◌, ◌<◌, ◌≤◌, Bool, true, List, length, refl, ap, ◌∙◌, arith}
+use Rattle.std.proofs.Common.{◌≡◌, ◌⊎◌, inl, inr, ⊎_elim, ℕ, ◌+◌, ◌*◌, ◌<◌, ◌≤◌, true, List, length, refl, ap, ◌∙◌, arith}
 use Rattle.ffi3_machine_spec.specs.Memory.{low_bytes}
 use Rattle.ffi3_type_spec.specs.declared.Isa.{Isa}
 use Rattle.ffi3_place_spec.specs.declared.Loc.{Loc}
 use Rattle.ffi3_place_spec.specs.MachineRegisters.{stack_pointer}
 use Rattle.ffi3_machine_spec.specs.declared.stub.TheConstants.{AREA_AT, ENTRY_SP_AT, REGISTERS_END, RETURN_SP_AT}
-use Rattle.ffi3_host_stubs.specs.Processor.{Processor, bytes_at, word_at, put_word}
-use Rattle.ffi3_host_stubs.specs.Calls.{WentToWords, IsOutside, IsInNoPlace}
+use Rattle.ffi3_host_stubs.specs.Processor.{Processor, bytes_at, put_word}
+use Rattle.ffi3_host_stubs.specs.Calls.{WentToWords, IsOutside}
 use Rattle.ffi3_host_stubs.proofs.Effects.{Places, in_area, to_places}
 use Rattle.ffi3_host_stubs.proofs.Standing.{outside_region, region_outside}
 use Rattle.ffi3_host_stubs.proofs.Memory.{byte_other, word_put, bytes_alike, bytes_other, bytes_stay, word_stays, around, are_below, are_clear, are_spread, went, to_area, Misses}

@@ -1,5 +1,5 @@
 -- Bytes of memory that are stored, and those around them; registers that rows set, and those that they leave.
-use Rattle.std.proofs.Common.{◌≡◌, ◌≢◌, ℕ, zero, suc, ◌+◌, ◌-◌, ◌*◌, ◌<◌, ◌≤◌, ◌⊎◌, inl, inr, ⊎_elim, Bool, true, false, if◌then◌else◌, List, [], ◌∷◌, length, refl, sym, ap, ◌∙◌, arith}
+use Rattle.std.proofs.Common.{◌≡◌, ℕ, zero, suc, ◌+◌, ◌-◌, ◌*◌, ◌<◌, ◌≤◌, ◌⊎◌, inl, inr, ⊎_elim, Bool, true, false, if◌then◌else◌, List, [], ◌∷◌, length, refl, sym, ap, ◌∙◌, arith}
 use Rattle.std.proofs.lemmas.Bool.Decides.{nat_tests}
 use Rattle.std.specs.Prelude.{◌&&◌, ◌||◌, ◌==◌, not, nat_lt, nat_le}
 use Rattle.std.specs.Int.{byte_at}
@@ -10,7 +10,7 @@ use Rattle.ffi3_place_spec.specs.declared.Loc.{Loc}
 use Rattle.ffi3_place_spec.specs.declared.Loc.TheVariants.{G, F, S}
 use Rattle.ffi3_machine_spec.specs.Stubs.{load, size_of}
 use Rattle.ffi3_stubs.specs.Calls.{same_loc, is_in}
-use Rattle.ffi3_host_stubs.specs.Processor.{Processor, bytes_at, word_at, is_within, put_word, set_at}
+use Rattle.ffi3_host_stubs.specs.Processor.{Processor, bytes_at, word_at, is_within, put_word}
 use Rattle.ffi3_host_stubs.specs.Calls.{held, held_in, CameFromWords, WentToWords, IsOutside}
 use Rattle.ffi3_host_stubs.proofs.Effects.{received, stored, Places, in_area, registers, from_places, to_places}
 

@@ -1,5 +1,5 @@
 -- The slot of RISC-V, wherever it stands and its data.
-use Rattle.std.proofs.Common.{◌≡◌, ◌⊎◌, inl, inr, ⊎_elim, ℕ, suc, ◌+◌, ◌*◌, ◌/◌, ◌%◌, ◌^◌, ◌<◌, ◌≤◌, Bool, true, false, if◌then◌else◌, List, [], ◌∷◌, ◌++◌, length, refl, subst, sym, ap, ◌∙◌, arith, lit<, ℤ}
+use Rattle.std.proofs.Common.{◌≡◌, ◌⊎◌, inl, inr, ⊎_elim, ℕ, suc, ◌+◌, ◌*◌, ◌/◌, ◌%◌, ◌^◌, ◌<◌, ◌≤◌, Bool, true, if◌then◌else◌, List, [], ◌++◌, refl, subst, sym, ap, ◌∙◌, arith, lit<, ℤ}
 use Rattle.std.proofs.lemmas.Bool.Decides.{nat_tests}
 use Rattle.std.specs.Prelude.{nat_lt}
 use Rattle.ffi3_isa.specs.declared.Instr.TheVariants.{Auipc, Ld, Jalr}
@@ -9,7 +9,6 @@ use Rattle.ffi3_type_spec.specs.declared.Isa.TheVariants.{Riscv}
 use Rattle.ffi3_place_spec.specs.declared.Loc.TheVariants.{G}
 use Rattle.ffi3_machine.specs.MachineStep.{moved, even}
 use Rattle.ffi3_machine_spec.specs.Stubs.{word, load, riscv_row, riscv_i}
-use Rattle.ffi3_stubs.specs.Calls.{same_loc, is_in}
 use Rattle.ffi3_host_stubs.specs.Processor.{Processor, half, word_at, set_at, next, IsKept, HasCode}
 use Rattle.ffi3_host_stubs.specs.Slots.{slot_code, Reaches}
 use Rattle.ffi3_host_stubs.proofs.Standing.{plain, unmoved, TakesBy, in_turn}

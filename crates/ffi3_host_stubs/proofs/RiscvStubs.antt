@@ -1,5 +1,5 @@
 -- The four stubs of RISC-V, wherever they and the exchange region stand.
-use Rattle.std.proofs.Common.{◌≡◌, ◌⊎◌, inl, inr, ⊎_elim, ℕ, ◌+◌, ◌-◌, ◌*◌, ◌%◌, ◌<◌, ◌≤◌, Bool, true, false, List, [], ◌∷◌, ◌++◌, length, refl, sym, ap, ◌∙◌, subst, arith, lit<, lit≤, pos}
+use Rattle.std.proofs.Common.{◌≡◌, ◌⊎◌, inl, inr, ⊎_elim, ℕ, ◌+◌, ◌-◌, ◌*◌, ◌<◌, ◌≤◌, false, List, [], ◌∷◌, ◌++◌, length, refl, sym, ap, ◌∙◌, subst, arith, lit<, lit≤, pos}
 use Rattle.ffi3_machine_spec.specs.Memory.{number_of}
 use Rattle.ffi3_isa.specs.Fields.{sign_extend}
 use Rattle.ffi3_isa.specs.Riscv.{jalr}

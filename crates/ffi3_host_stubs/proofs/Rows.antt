@@ -13,7 +13,7 @@ use Rattle.ffi3_machine_spec.specs.Stubs.{load, store, size_of, row_bytes}
 use Rattle.ffi3_machine.specs.MachineStep.{moved, IsAligned}
 use Rattle.ffi3_stubs.specs.Calls.{same_loc}
 use Rattle.ffi3_stubs.proofs.Places.{unequal}
-use Rattle.ffi3_host_stubs.specs.Processor.{Processor, half, bytes_at, word_at, set_at, with_register, with_sum, register, base, next, done, IsCode, IsKept, LoadsKept, IsStackAligned, IsBased, Steps, HasCode}
+use Rattle.ffi3_host_stubs.specs.Processor.{Processor, half, word_at, set_at, with_register, with_sum, register, base, next, done, IsCode, IsKept, LoadsKept, IsStackAligned, IsBased, Steps, HasCode}
 use Rattle.ffi3_host_stubs.specs.Calls.{held, IsSource, IsRegionKept}
 use Rattle.ffi3_host_stubs.specs.Stubs.{HostRow, same, host_row_bytes, host_bytes_of}
 use Rattle.ffi3_host_stubs.proofs.Effects.{received, with_sp_by, stored, stored_at, Places, load_rows, store_rows, from_places, to_places}

@@ -1,4 +1,4 @@
--- Which answer an answer of the code is, and what is answered about an image of which it is not known whether it has room.
+-- The answer that each Rust answer stands for, and what is answered about an image of which it is not known whether it has room.
 use Rattle.std.specs.Prelude.{◌≡◌, ⊤}
 use Rattle.ffi3_type_spec.specs.Signature.{Signature}
 use Rattle.ffi3_place_spec.specs.Image.{Image}

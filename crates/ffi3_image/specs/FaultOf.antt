@@ -1,4 +1,4 @@
--- Which reason a reason of the code is, and which fault of the code one of a script is here.
+-- The reason that each Rust reason stands for, and the fault that stands for one of a script here.
 use Rattle.ffi3_json.specs.ReasonOf as script
 use Rattle.ffi3_json.specs.declared.fault.ScriptFault.{ScriptFault}
 use Rattle.ffi3_json.specs.declared.fault.ScriptFault.TheVariants as scripts

@@ -1,4 +1,4 @@
--- Which snapshot one of the code is, and which bytes describe it.
+-- The snapshot that each Rust one stands for, and the bytes that describe it.
 use Rattle.std.specs.Prelude.{◌≡◌, ℕ, List}
 use Rattle.serde_json.specs.Data.{Data}
 use Rattle.ffi3_script_spec.specs.Reading.{IsJson}

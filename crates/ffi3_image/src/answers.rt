@@ -1,4 +1,4 @@
-// What is answered to the bytes of an input.
+//! What is answered to the bytes of an input.
 ghost use Rattle.std.specs.Prelude.{◌≡◌, ◌+◌, ◌^◌, ◌<◌, ◌≤◌, length, true, IfOk};
 ghost use Rattle.ffi3_type_spec.specs.Tree.{trees_of};
 ghost use Rattle.ffi3_type_spec.specs.Value.{all_fit, values_of};
@@ -52,7 +52,7 @@ pub fn answer_question(alloc: Global, question: Question, bytes: &[u8]) -> Resul
     }
 }
 
-// A question about an image at the entry of a function of a signature.
+/// A question about an image at the entry of a function of a signature.
 #[derive(Drop)]
 struct Asked<'a> {
     alloc: Global,
@@ -72,7 +72,7 @@ impl<'a> ByStandard for Asked<'a> {
     }
 }
 
-// About an image of a target's machine, at the entry of a function of a signature.
+/// About an image of a target's machine, at the entry of a function of a signature.
 fn answer_about(
     alloc: Global,
     question: Question,
@@ -91,7 +91,7 @@ fn answer_about(
     on_target(target, task)
 }
 
-// By a calling standard.
+/// By a calling standard.
 fn answer_by<A: Abi>(
     alloc: Global,
     question: Question,
@@ -104,7 +104,7 @@ fn answer_by<A: Abi>(
     answer_of_call(alloc, question, image, &cif)
 }
 
-// About the image of a call that is prepared.
+/// About the image of a call that is prepared.
 fn answer_of_call<A: Abi>(
     alloc: Global,
     question: Question,
@@ -130,7 +130,7 @@ fn answer_explained<A: Abi>(alloc: Global, image: &Image, cif: &Cif<A>) -> Resul
     }
 }
 
-// Of an image that has room for it.
+/// Of an image that has room for it.
 fn explanation<A: Abi>(alloc: Global, image: &Image, cif: &Cif<A>) -> Result<Answer, NoMemory>
     requires stack { A.standard.link + frame_of A.standard cif.now ≤ length image.now.stack }
     requires high { image.now.sp + A.standard.link + frame_of A.standard cif.now < 2 ^ 64 }
@@ -146,7 +146,7 @@ fn explanation<A: Abi>(alloc: Global, image: &Image, cif: &Cif<A>) -> Result<Ans
     }
 }
 
-// The lines of the arguments, and of a hidden result's address.
+/// The lines of the arguments, and of a hidden result's address.
 fn explained_text<A: Abi>(
     alloc: Global,
     image: &Image,
@@ -178,7 +178,7 @@ fn answer_by_standard<A: Abi>(
     }
 }
 
-// Of an image that has room for them.
+/// Of an image that has room for them.
 fn held_arguments<A: Abi>(alloc: Global, image: &Image, cif: &Cif<A>) -> Result<Answer, NoMemory>
     requires { least_stack A.standard cif.now ≤ length image.now.stack }
     ensures { IfOk result (λ a. answer_of a ≡ answer_by Question.ByStandard A.standard cif.now (image_of image.now)) }
@@ -192,7 +192,7 @@ fn held_arguments<A: Abi>(alloc: Global, image: &Image, cif: &Cif<A>) -> Result<
 
 // ---- faults
 
-// The refusal that tells a fault of reading.
+/// The refusal that tells a fault of reading.
 fn refusal(alloc: Global, fault: &ImageFault) -> Result<Answer, NoMemory>
     ensures { IfOk result (λ a. IsToldAs fault.now (answer_of a)) }
 {

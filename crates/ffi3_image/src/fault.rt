@@ -1,4 +1,4 @@
-// Why bytes describe no image.
+//! Why bytes describe no image.
 ghost use Rattle.std.specs.Prelude.{◌≡◌};
 ghost use Rattle.ffi3_image.specs.FaultOf.{fault_of, reason_of};
 ghost use Rattle.ffi3_image.specs.Tells.{Tells};
@@ -36,7 +36,7 @@ pub enum ImageFault {
     NoMemory,
 }
 
-// The fault of the value at a place, or a want of memory.
+/// The fault of the value at a place, or a want of memory.
 pub(crate) fn bad(alloc: Global, at: &JsonPath, why: ImageReason) -> ImageFault
     ensures { Tells (λ p r. (p ≡ at.now) × (r ≡ reason_of why)) result }
 {
@@ -46,14 +46,14 @@ pub(crate) fn bad(alloc: Global, at: &JsonPath, why: ImageReason) -> ImageFault
     }
 }
 
-// The same for a reason that scripts have too.
+/// The same for a reason that scripts have too.
 pub(crate) fn bad_as_in_scripts(alloc: Global, at: &JsonPath, why: Reason) -> ImageFault
     ensures { Tells (λ p r. (p ≡ at.now) × (r ≡ reason_of (ImageReason.AsInScripts why))) result }
 {
     bad(alloc, at, ImageReason::AsInScripts(why))
 }
 
-// A fault that a script has too.
+/// A fault that a script has too.
 pub(crate) fn of_script(fault: ScriptFault) -> ImageFault
     ensures { result ≡ fault_of fault }
 {

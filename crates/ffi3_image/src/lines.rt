@@ -1,4 +1,4 @@
-// Lines that tell what an image holds, and why an input is refused.
+//! Lines that tell what an image holds, and why an input is refused.
 ghost use Rattle.std.specs.Prelude.{◌≡◌, ◌++◌, true, IfOk, OnOk};
 ghost use Rattle.ffi3_type_spec.specs.Tree.{trees_of};
 ghost use Rattle.ffi3_type_spec.specs.Value.{all_fit, fits, values_of};
@@ -43,7 +43,7 @@ pub fn arguments_text(alloc: Global, sig: &Sig, values: &Values) -> Result<Bytes
     Ok(text)
 }
 
-// The line of argument `i` at the end of a text.
+/// The line of argument `i` at the end of a text.
 fn write_argument(
     alloc: Global,
     i: u32,
@@ -132,7 +132,7 @@ pub fn fault_line(alloc: Global, path: &Where, why: &ImageReason) -> Result<Byte
     Ok(line)
 }
 
-// What a place is for.
+/// What a place is for.
 fn write_part(alloc: Global, part: Part, text: &mut Bytes) -> Result<(), NoMemory>
     ensures { OnOk result (text.new ≡ text.old ++ part_text part) }
 {
@@ -143,21 +143,21 @@ fn write_part(alloc: Global, part: Part, text: &mut Bytes) -> Result<(), NoMemor
     }
 }
 
-// An address in hexadecimal.
+/// An address in hexadecimal.
 fn write_address(alloc: Global, address: u64, text: &mut Bytes) -> Result<(), NoMemory>
     ensures { OnOk result (text.new ≡ text.old ++ address_text address) }
 {
     text.extend(format!(in alloc; "0x{address:x}")?.as_bytes())
 }
 
-// A word as 16 hexadecimal digits.
+/// A word as 16 hexadecimal digits.
 fn write_word(alloc: Global, word: u64, text: &mut Bytes) -> Result<(), NoMemory>
     ensures { OnOk result (text.new ≡ text.old ++ word_text word) }
 {
     text.extend(format!(in alloc; "{word:016x}")?.as_bytes())
 }
 
-// The words of a reason.
+/// The words of a reason.
 fn reason_words(alloc: Global, why: &ImageReason) -> Result<Bytes, NoMemory>
     ensures { IfOk result (λ text. text ≡ text_of_reason (reason_of why.now)) }
 {

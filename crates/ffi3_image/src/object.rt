@@ -1,4 +1,4 @@
-// The object that describes an image.
+//! The object that describes an image.
 ghost use Rattle.std.specs.Prelude.{◌≡◌, IfOk, IfErr, map, codes};
 ghost use Rattle.ffi3_type_spec.specs.Signature.{SignatureHasNoFault};
 ghost use Rattle.ffi3_script_spec.specs.Language as language;
@@ -29,7 +29,7 @@ pub struct Snapshot {
     pub image: Image,
 }
 
-// The keys of the object.
+/// The keys of the object.
 fn snapshot_keys() -> [Key<'static>; 6]
     ensures { map key_of result ≡ snapshot_keys }
 {
@@ -43,7 +43,7 @@ fn snapshot_keys() -> [Key<'static>; 6]
     ]
 }
 
-// Whether the value is an object with these keys and no others.
+/// Whether the value is an object with these keys and no others.
 fn check_keys(alloc: Global, value: &Node, at: &JsonPath) -> Result<(), ImageFault>
     ensures ok { IfOk result (λ u. object.of_script (language.check_object value.now snapshot_keys at.now) ≡ read tt) }
     ensures err { IfErr result (Tells (λ p r. object.of_script (language.check_object value.now snapshot_keys at.now) ≡ object.fault p r)) }
@@ -54,7 +54,7 @@ fn check_keys(alloc: Global, value: &Node, at: &JsonPath) -> Result<(), ImageFau
     }
 }
 
-// The signature that stands under a key. One that is not there is read as null.
+/// The signature that stands under a key. One that is not there is read as null.
 fn read_sig(alloc: Global, value: &Node, at: &JsonPath) -> Result<Sig, ImageFault>
     ensures ok { IfOk result (λ s. object.of_script (language.read_signature signature_version (value_under (codes "sig") value.now) (under at.now (codes "sig"))) ≡ read s) }
     ensures right { IfOk result SignatureHasNoFault }
@@ -70,7 +70,7 @@ fn read_sig(alloc: Global, value: &Node, at: &JsonPath) -> Result<Sig, ImageFaul
     }
 }
 
-// The stack pointer, the registers and the bytes of the stack.
+/// The stack pointer, the registers and the bytes of the stack.
 fn read_image(alloc: Global, value: &Node, at: &JsonPath) -> Result<Image, ImageFault>
     requires { at.now ≡ root }
     ensures ok { IfOk result (λ m. object.read_image value.now ≡ read (image_of m)) }
@@ -99,7 +99,7 @@ fn read_image(alloc: Global, value: &Node, at: &JsonPath) -> Result<Image, Image
     }
 }
 
-// The whole object, at the root.
+/// The whole object, at the root.
 fn read_object(alloc: Global, value: &Node, at: &JsonPath) -> Result<Snapshot, ImageFault>
     requires { at.now ≡ root }
     ensures ok { IfOk result (λ s. object.read_snapshot value.now ≡ read (snapshot_of s)) }

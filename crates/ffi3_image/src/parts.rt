@@ -1,4 +1,4 @@
-// The parts of the object: the target, numbers, registers and bytes.
+//! The parts of the object: the target, numbers, registers and bytes.
 ghost use Rattle.std.specs.Prelude.{◌≡◌, IfOk, IfErr, option_map};
 ghost use Rattle.ffi3_image_spec.specs.Object as object;
 ghost use Rattle.ffi3_image_spec.specs.Object.{read};
@@ -12,7 +12,7 @@ use ffi3_types::Bytes;
 use hex::{FromHex, FromHexError};
 use std::alloc::Global;
 
-// The text under a key, where one stands there.
+/// The text under a key, where one stands there.
 pub(crate) fn text_under<'t>(value: &Node<'t, '_>, name: &str) -> Option<&'t str>
     ensures { option_map (λ s. s.now) result ≡ object.text_under name.now value.now }
 {
@@ -22,7 +22,7 @@ pub(crate) fn text_under<'t>(value: &Node<'t, '_>, name: &str) -> Option<&'t str
     }
 }
 
-// The items of the array under a key, where one stands there.
+/// The items of the array under a key, where one stands there.
 pub(crate) fn items_under<'t, 'a>(value: &Node<'t, 'a>, name: &str) -> Option<Nodes<'t, 'a>>
     ensures { result ≡ object.items_under name.now value.now }
 {
@@ -32,7 +32,7 @@ pub(crate) fn items_under<'t, 'a>(value: &Node<'t, 'a>, name: &str) -> Option<No
     }
 }
 
-// The target of a word.
+/// The target of a word.
 fn target_named(name: &str) -> Option<Target>
     ensures { result ≡ object.target_named name.now }
 {
@@ -46,7 +46,7 @@ fn target_named(name: &str) -> Option<Target>
     }
 }
 
-// The target that a text is the word of.
+/// The target that a text is the word of.
 pub(crate) fn read_target(
     alloc: Global,
     text: Option<&str>,
@@ -64,7 +64,7 @@ pub(crate) fn read_target(
     }
 }
 
-// The number that a text of 16 hexadecimal digits is.
+/// The number that a text of 16 hexadecimal digits is.
 pub(crate) fn read_word(alloc: Global, text: Option<&str>, at: &JsonPath) -> Result<u64, ImageFault>
     ensures ok { IfOk result (λ w. object.read_word (option_map (λ s. s.now) text.entry) at.now ≡ read w) }
     ensures err { IfErr result (Tells (λ p r. object.read_word (option_map (λ s. s.now) text.entry) at.now ≡ object.fault p r)) }
@@ -78,7 +78,7 @@ pub(crate) fn read_word(alloc: Global, text: Option<&str>, at: &JsonPath) -> Res
     }
 }
 
-// The numbers that the items of an array are.
+/// The numbers that the items of an array are.
 fn read_words(alloc: Global, items: &Nodes, at: &JsonPath) -> Result<Vec<u64>, ImageFault>
     ensures ok { IfOk result (λ ws. object.read_words items.now at.now 0 ≡ read ws.items) }
     ensures err { IfErr result (Tells (λ p r. object.read_words items.now at.now 0 ≡ object.fault p r)) }
@@ -97,7 +97,7 @@ fn read_words(alloc: Global, items: &Nodes, at: &JsonPath) -> Result<Vec<u64>, I
     Ok(words)
 }
 
-// The 32 registers that the array under a key has.
+/// The 32 registers that the array under a key has.
 pub(crate) fn read_registers(
     alloc: Global,
     value: &Node,
@@ -123,7 +123,7 @@ pub(crate) fn read_registers(
     }
 }
 
-// The bytes that a text of two hexadecimal digits for each is.
+/// The bytes that a text of two hexadecimal digits for each is.
 pub(crate) fn read_bytes(
     alloc: Global,
     text: Option<&str>,

@@ -1,4 +1,4 @@
-// How much of the stack an image has to have, and where a hidden result stands.
+//! How much of the stack an image has to have, and where a hidden result stands.
 ghost use Rattle.std.specs.Prelude.{◌≡◌, ◌+◌, ◌^◌, ◌<◌, ◌≤◌, length, IfOk, IfErr};
 ghost use Rattle.ffi3_place_spec.specs.Standard.{frame_of, plan_of};
 ghost use Rattle.ffi3_explain_spec.specs.Arguments.{least_stack};
@@ -18,7 +18,7 @@ use ffi3_json::{JsonPath, Reason, Where};
 use ffi3_place::{Abi, Res};
 use std::alloc::Global;
 
-// Whether so many bytes from the stack pointer on end below 2^64, and at least so many are there.
+/// Whether so many bytes from the stack pointer on end below 2^64, and at least so many are there.
 fn check_room(alloc: Global, image: &Image, least: u64) -> Result<(), ImageFault>
     ensures ok { IfOk result (λ u. check_room least (image_of image.now) ≡ read tt) }
     ensures err { IfErr result (Tells (λ p r. check_room least (image_of image.now) ≡ object.fault p r)) }
@@ -41,7 +41,7 @@ fn check_room(alloc: Global, image: &Image, least: u64) -> Result<(), ImageFault
     Ok(())
 }
 
-// The bytes of the return address and the whole frame.
+/// The bytes of the return address and the whole frame.
 fn whole_call<A: Abi>(cif: &Cif<A>) -> u64
     ensures { result ≡ whole_call A.standard cif.now }
 {

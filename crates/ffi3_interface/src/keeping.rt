@@ -1,4 +1,4 @@
-// Interfaces that handles keep.
+//! Interfaces that handles keep.
 ghost use Rattle.std.specs.Prelude.{◌≡◌, IfOk, IfErr};
 ghost use Rattle.ffi3_type_spec.specs.Signature.{SignatureIsPlaced};
 ghost use Rattle.ffi3_capi.specs.DeclaredBy.{IsDeclaredOn, IsFaultOn};

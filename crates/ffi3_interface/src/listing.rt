@@ -1,4 +1,4 @@
-// The moves of an interface that a handle keeps.
+//! The moves of an interface that a handle keeps.
 ghost use Rattle.std.specs.Prelude.{◌≡◌, ◌<◌, ◌^◌, IfNone, IfSome, List, None, OnSome, length, slice_get};
 ghost use Rattle.ffi3_moves.specs.Told.{told_in};
 ghost use Rattle.ffi3_moves.specs.declared.told.ToldMove.{ToldMove};

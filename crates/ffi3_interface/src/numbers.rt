@@ -1,4 +1,4 @@
-// The sizes of an interface that a handle keeps.
+//! The sizes of an interface that a handle keeps.
 ghost use Rattle.std.specs.Prelude.{◌≡◌};
 ghost use Rattle.ffi3_moves.specs.Moves.{returned_at};
 ghost use Rattle.ffi3_prepared.specs.Prepared.{signature_in, standard_in};

@@ -1,4 +1,4 @@
-// Values by an interface that a handle keeps. No memory is taken.
+//! Values by an interface that a handle keeps. No memory is taken.
 ghost use Rattle.std.specs.Prelude.{◌≡◌};
 ghost use Rattle.ffi3_transfer.specs.Stored.{image_in};
 ghost use Rattle.ffi3_interface.specs.Transfers.{Collects, Gives, Loads, Stores, no_reason, uncollected_reason, uncollected_status, ungiven_reason, ungiven_status, unstored_status};

@@ -8,7 +8,7 @@ use Rattle.ffi3_type_spec.specs.Value.{ValueTree}
 use Rattle.ffi3_place_spec.specs.declared.Loc.{Loc}
 use Rattle.ffi3_place_spec.specs.declared.Loc.TheVariants.{G, F, S}
 use Rattle.ffi3_place_spec.specs.declared.Res.{Res}
-use Rattle.ffi3_place_spec.specs.declared.Res.TheVariants.{Nothing, Direct, Hidden}
+use Rattle.ffi3_place_spec.specs.declared.Res.TheVariants.{Hidden}
 use Rattle.ffi3_place_spec.specs.declared.SaveWord.{SaveWord}
 use Rattle.ffi3_place_spec.specs.declared.SaveWord.TheVariants.{Register, Hidden as HiddenWord, Spare}
 use Rattle.ffi3_place_spec.specs.MachineRegisters.{link_register}

@@ -1,5 +1,5 @@
 -- A call and a trampoline: the registers that they write, the return address, and what is written of the stack.
-use Rattle.std.specs.Prelude.{true, false, if◌then◌else◌, ◌==◌, ◌||◌, slice_set}
+use Rattle.std.specs.Prelude.{false, if◌then◌else◌, ◌||◌, slice_set}
 use Rattle.std.proofs.Common.{◌≡◌, ◌⊎◌, inl, inr, ℕ, ◌+◌, ◌-◌, ◌<◌, ◌≤◌, Bool, List, get_or, length, refl, ap, sym, ◌∙◌, subst, arith}
 use Rattle.std.specs.List.{AllByRecursion}
 use Rattle.std.specs.Int.{w64, to_le_bytes}

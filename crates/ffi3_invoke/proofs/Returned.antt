@@ -1,19 +1,14 @@
 -- The callee has given its result and all else back, and has returned.
 use Rattle.std.specs.Prelude.{None}
-use Rattle.std.proofs.Common.{◌≡◌, ◌⊎◌, inl, inr, ℕ, ◌+◌, ◌-◌, ◌≤◌, Bool, true, false, List, [], ◌∷◌, ◌++◌, take, drop, get_or, length, refl, ap, sym, ◌∙◌, subst, arith}
-use Rattle.std.specs.List.{AllByRecursion}
-use Rattle.ffi3_type_spec.specs.declared.Isa.{Isa}
-use Rattle.ffi3_type_spec.specs.declared.Isa.TheVariants.{Amd64, Aarch64, Riscv}
+use Rattle.std.proofs.Common.{◌≡◌, ◌⊎◌, inl, inr, ℕ, ◌+◌, ◌-◌, ◌≤◌, Bool, true, false, [], ◌∷◌, ◌++◌, take, drop, get_or, length, refl, ap, sym, ◌∙◌, subst, arith}
 use Rattle.ffi3_type_spec.specs.declared.limits.TheConstants.{RETURN, STACK, STACK_BYTES, STACK_TOP}
 use Rattle.ffi3_type_spec.specs.TargetIsa.{isa_of}
 use Rattle.ffi3_type_spec.specs.Layout.{size_of}
 use Rattle.ffi3_type_spec.specs.Signature.{Signature}
 use Rattle.ffi3_type_spec.specs.Value.{ValueTree}
 use Rattle.ffi3_type_spec.proofs.Parts.{length_part}
-use Rattle.ffi3_place_spec.specs.declared.Loc.{Loc}
-use Rattle.ffi3_place_spec.specs.declared.Loc.TheVariants.{G, F, S}
 use Rattle.ffi3_place_spec.specs.declared.Res.{Res}
-use Rattle.ffi3_place_spec.specs.declared.Res.TheVariants.{Nothing, Direct, Hidden}
+use Rattle.ffi3_place_spec.specs.declared.Res.TheVariants.{Hidden}
 use Rattle.ffi3_place_spec.specs.declared.SaveWord.TheVariants.{Register}
 use Rattle.ffi3_place_spec.specs.MachineRegisters.{link_register, pushed_bytes}
 use Rattle.ffi3_place_spec.specs.Image.{Image, register}
@@ -22,7 +17,7 @@ use Rattle.ffi3_place_spec.specs.Standard.{Standard, block_bytes, frame_of, plan
 use Rattle.ffi3_place_spec.specs.Agrees.{AgreesWithMachine}
 use Rattle.ffi3_place_spec.specs.Holds.{HoldsResult, Kept, SameIn}
 use Rattle.ffi3_semantics_spec.specs.Journal.{IsReturn}
-use Rattle.ffi3_machine_spec.specs.State.{State, HasReturnAddress, HasReturnAt, LieInStack, after_arrive, image_of}
+use Rattle.ffi3_machine_spec.specs.State.{State, HasReturnAt, after_arrive, image_of}
 use Rattle.ffi3_machine_spec.specs.Stubs.{Exit}
 use Rattle.ffi3_stubs.specs.Calls.{steps_of}
 use Rattle.ffi3_machine_transfer.specs.Passing.{by_exchange, passing, steps_if}

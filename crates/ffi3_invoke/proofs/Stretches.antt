@@ -1,5 +1,4 @@
 -- Stretches of the stack in steps that record events, and the open calls that stand above them.
-use Rattle.std.specs.Prelude.{Option, Some, None}
 use Rattle.std.proofs.Common.{◌≡◌, ◌⊎◌, inl, inr, ℕ, ◌+◌, ◌-◌, ◌*◌, ◌<◌, ◌≤◌, min, List, take, drop, get_or, length, refl, ap, sym, ◌∙◌, subst, arith}
 use Rattle.std.proofs.lemmas.List.{ext_get_or, get_or-take, get_or-drop, length-take, length-drop}
 use Rattle.ffi3_type_spec.specs.TargetIsa.{isa_of}
@@ -7,7 +6,7 @@ use Rattle.ffi3_type_spec.specs.declared.limits.TheConstants.{STACK}
 use Rattle.ffi3_place_spec.specs.declared.Loc.TheVariants.{S}
 use Rattle.ffi3_place_spec.specs.MachineRegisters.{link_register}
 use Rattle.ffi3_place_spec.specs.Standard.{Standard, frame_of}
-use Rattle.ffi3_machine_spec.specs.State.{State, HasReturnAt, stack_at}
+use Rattle.ffi3_machine_spec.specs.State.{State, stack_at}
 use Rattle.ffi3_machine_transfer.specs.Stored.{WroteWithin, with_journal_of}
 use Rattle.ffi3_machine_transfer.proofs.Stepping.{same_word_in}
 use Rattle.ffi3_callee.specs.Saved.{saved_word}

@@ -1,4 +1,4 @@
-// The end of a callee's activation, with its return.
+//! The end of a callee's activation, with its return.
 ghost use Rattle.std.specs.Prelude.{◌≡◌, ◌+◌, ◌≤◌, true};
 ghost use Rattle.ffi3_type_spec.specs.declared.limits.TheConstants.{STACK, STACK_TOP};
 ghost use Rattle.ffi3_type_spec.specs.Value.{fits};
@@ -16,7 +16,7 @@ use ffi3_machine_transfer::by_exchange;
 use ffi3_place::Abi;
 use ffi3_values::Value;
 
-// Records the return of a callee that has gone back, and makes the return where no stub has made it.
+/// Records the return of a callee that has gone back, and makes the return where no stub has made it.
 fn record_return(machine: &mut Machine, frame: u64)
     requires at_return { IsAtReturn (by_exchange machine.old.target) machine.old }
     requires low { STACK ≤ machine.old.sp }

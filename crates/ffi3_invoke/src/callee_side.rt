@@ -1,4 +1,4 @@
-// The callee's side of a call, from the closure's entry on.
+//! The callee's side of a call, from the closure's entry on.
 ghost use Rattle.std.specs.Prelude.{◌≡◌, ◌+◌, ◌≤◌, ◌++◌, List, [], ◌∷◌, length};
 ghost use Rattle.ffi3_type_spec.specs.TargetIsa.{isa_of};
 ghost use Rattle.ffi3_type_spec.specs.Value.{ValueTree};

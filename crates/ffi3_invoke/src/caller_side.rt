@@ -1,4 +1,4 @@
-// The caller's side of a call, up to the closure's entry.
+//! The caller's side of a call, up to the closure's entry.
 ghost use Rattle.std.specs.Prelude.{◌≡◌, ◌+◌, ◌≤◌, IsSome, true};
 ghost use Rattle.ffi3_type_spec.specs.declared.limits.TheConstants.{STACK, STACK_TOP};
 ghost use Rattle.ffi3_type_spec.specs.Tree.{trees_of};

@@ -1,4 +1,4 @@
-// Instructions of aarch64.
+//! Instructions of aarch64.
 ghost use Rattle.std.specs.Prelude.{◌≡◌, ℕ, ◌^◌, ◌<◌, IfSome, Some, None};
 ghost use Rattle.ffi3_isa.specs.declared.Instr.{Instr};
 ghost use Rattle.ffi3_isa.specs.Registers.{HasRegistersBelow};

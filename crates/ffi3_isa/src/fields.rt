@@ -1,4 +1,4 @@
-// Fields of instructions.
+//! Fields of instructions.
 ghost use Rattle.std.specs.Prelude.{◌≡◌, ◌+◌, ◌/◌, ◌%◌, ◌^◌, ◌<◌, ◌≤◌};
 ghost use Rattle.ffi3_isa.specs.Fields.{sign_extend, first_word};
 

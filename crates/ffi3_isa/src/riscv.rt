@@ -1,4 +1,4 @@
-// Instructions of RISC-V.
+//! Instructions of RISC-V.
 ghost use Rattle.std.specs.Prelude.{◌≡◌, ℕ, IfSome, Some, None};
 ghost use Rattle.ffi3_isa.specs.declared.Instr.{Instr};
 ghost use Rattle.ffi3_isa.specs.Registers.{HasRegistersBelow};

@@ -1,4 +1,4 @@
--- Which key a key of the code is.
+-- The key that each Rust key stands for.
 use Rattle.ffi3_script_spec.specs.Language as language
 use Rattle.ffi3_json.specs.declared.keys.Key.{Key}
 

@@ -1,4 +1,4 @@
--- Which reason a reason of the code is.
+-- The reason that each Rust reason stands for.
 use Rattle.std.specs.Prelude.{string_bytes}
 use Rattle.ffi3_script_spec.specs.Language as language
 use Rattle.ffi3_json.specs.declared.reason.Reason.{Reason}

@@ -1,4 +1,4 @@
--- Which data a reference leads to.
+-- The data that a reference leads to.
 use Rattle.json.specs.Value as in_text
 use Rattle.serde_json.specs.Data.{Data, Items}
 use Rattle.serde_json.specs.View.{view, items_view}

@@ -1,4 +1,4 @@
--- Which fault, place and reason an error of the code reports.
+-- The fault, place and reason that a Rust error reports.
 use Rattle.std.specs.Prelude.{ℕ, ◌<◌, List, length}
 use Rattle.ffi3_script_spec.specs.Language.{JsonPath, Reason}
 use Rattle.ffi3_script_spec.specs.Reading.{max_length, IsNotJson}

@@ -1,4 +1,4 @@
--- Which step of a place a step of the code is.
+-- The step of a place that each Rust step stands for.
 use Rattle.std.specs.Prelude.{string_bytes}
 use Rattle.ffi3_script_spec.specs.JsonPath.{PathStep, key, number}
 use Rattle.ffi3_json.specs.declared.place.Step.{Step}

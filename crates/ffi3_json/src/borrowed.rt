@@ -1,4 +1,4 @@
-// Parts of values that borrow their texts.
+//! Parts of values that borrow their texts.
 ghost use Rattle.std.specs.Prelude.{◌≡◌, IfSome, option_map};
 ghost use Rattle.json.specs.Find as find;
 ghost use Rattle.json.specs.Value.{value_view, items_view, members_view};

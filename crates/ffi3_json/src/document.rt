@@ -1,4 +1,4 @@
-// From bytes to a JSON value: one that owns its texts, or a document, whose texts are borrowed.
+//! From bytes to a JSON value: one that owns its texts, or a document, whose texts are borrowed.
 ghost use Rattle.std.specs.Prelude.{◌≡◌, ◌+◌, IfOk, IfErr, is_some};
 ghost use Rattle.json.specs.Value.{value_view, items_view, members_view};
 ghost use Rattle.serde_json.specs.Data.{no_members};
@@ -37,7 +37,7 @@ pub fn parse(alloc: Global, bytes: &[u8]) -> Result<Json, ScriptFault>
     }
 }
 
-// How deep arrays and objects of a text nest at most.
+/// How deep arrays and objects of a text nest at most.
 const MAX_DEPTH: usize = 127;
 
 /// The value of a JSON text. Its texts and numbers are borrowed: from the text, or where they have escapes from a
@@ -105,7 +105,7 @@ impl<'a> Document<'a> {
     }
 }
 
-// Whether no number of a value is too large for a float.
+/// Whether no number of a value is too large for a float.
 #[cycle(numbers)]
 fn has_numbers(value: &Value) -> bool
     ensures { result ≡ is_some (of_json (value_view value.now)) }
@@ -120,7 +120,7 @@ fn has_numbers(value: &Value) -> bool
     }
 }
 
-// The same of items.
+/// The same of items.
 #[cycle(numbers)]
 fn items_have_numbers(items: &Vec<Value>) -> bool
     ensures { result ≡ is_some (of_items (items_view items.now.items)) }
@@ -133,7 +133,7 @@ fn items_have_numbers(items: &Vec<Value>) -> bool
     true
 }
 
-// The same of members.
+/// The same of members.
 #[cycle(numbers)]
 fn members_have_numbers(members: &Vec<(&str, Value)>) -> bool
     ensures { result ≡ is_some (of_members (members_view members.now.items) no_members) }

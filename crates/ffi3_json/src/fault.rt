@@ -1,4 +1,4 @@
-// Why a script was refused.
+//! Why a script was refused.
 ghost use Rattle.std.specs.Prelude.{◌≡◌};
 ghost use Rattle.ffi3_json.specs.ReasonOf.{reason_of};
 ghost use Rattle.ffi3_json.specs.Reports.{Reports};

@@ -1,4 +1,4 @@
-// A place in a script, on the way to a value.
+//! A place in a script, on the way to a value.
 ghost use Rattle.std.specs.Prelude.{◌≡◌, IfOk};
 ghost use Rattle.ffi3_script_spec.specs.Language.{under, at_item};
 

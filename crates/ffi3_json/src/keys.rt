@@ -1,4 +1,4 @@
-// The keys of an object.
+//! The keys of an object.
 ghost use Rattle.std.specs.Prelude.{◌≡◌, ◌<◌, ◌++◌, ◌∷◌, [], OnOk, OnErr, length, map, slice_get, Some, option_map};
 ghost use Rattle.ffi3_script_spec.specs.Language as language;
 ghost use Rattle.ffi3_script_spec.specs.Language.{is_key_of, first_missing};

@@ -1,4 +1,4 @@
-// The members of objects of either kind.
+//! The members of objects of either kind.
 ghost use Rattle.std.specs.Prelude.{◌≡◌, map, option_map};
 ghost use Rattle.json.specs.Value.{members_view as text_members};
 ghost use Rattle.serde_json.specs.View.{view, members_view};

@@ -1,4 +1,4 @@
-// Values of a script, none of whose arrays is too long.
+//! Values of a script, none of whose arrays is too long.
 ghost use Rattle.std.specs.Prelude.{◌≡◌, ◌<◌, ◌≤◌, ◌^◌, IfSome, option_map, option_and_then, is_some};
 ghost use Rattle.serde_json.specs.Data.{depth, items_depth};
 ghost use Rattle.serde_json.specs.Events.{items_len};

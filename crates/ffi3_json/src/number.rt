@@ -1,4 +1,4 @@
-// Numbers of a JSON text.
+//! Numbers of a JSON text.
 ghost use Rattle.std.specs.Prelude.{◌≡◌, ◌<◌, ◌==◌, option_map, length, slice_index, IsTrue, true, false};
 ghost use Rattle.serde_json.specs.Read.{number_of, number_from, float_of};
 ghost use Rattle.serde_json.specs.View.{number_view};
@@ -19,7 +19,7 @@ pub(crate) fn number_of(text: &str) -> Option<Number>
     }
 }
 
-// Whether the first byte is a minus.
+/// Whether the first byte is a minus.
 fn has_minus(bytes: &[u8]) -> bool
     ensures value { result ≡ (slice_index bytes.now 0 == 45) }
     ensures some { IsTrue result → 0 < length bytes.now }
@@ -27,7 +27,7 @@ fn has_minus(bytes: &[u8]) -> bool
     !bytes.is_empty() && bytes[0] == b'-'
 }
 
-// The number of a numeral.
+/// The number of a numeral.
 fn unsigned(numeral: &Numeral) -> Option<Number>
     ensures { option_map number_view result ≡ number_from false numeral.now }
 {
@@ -37,7 +37,7 @@ fn unsigned(numeral: &Numeral) -> Option<Number>
     }
 }
 
-// The number of a numeral behind a minus.
+/// The number of a numeral behind a minus.
 fn negative(numeral: &Numeral) -> Option<Number>
     ensures { option_map number_view result ≡ number_from true numeral.now }
 {
@@ -49,7 +49,7 @@ fn negative(numeral: &Numeral) -> Option<Number>
     nearest(true, numeral)
 }
 
-// The nearest float.
+/// The nearest float.
 fn nearest(negative: bool, numeral: &Numeral) -> Option<Number>
     ensures { option_map number_view result ≡ float_of negative numeral.now }
 {

@@ -1,4 +1,4 @@
-// Whether a value is an object of these keys.
+//! Whether a value is an object of these keys.
 ghost use Rattle.std.specs.Prelude.{◌≡◌, map, IfErr, OnOk};
 ghost use Rattle.serde_json.specs.View.{view};
 ghost use Rattle.ffi3_script_spec.specs.Language as language;
@@ -41,7 +41,7 @@ pub fn check_object_at(
     check_reference(alloc, value.json(), keys, at)
 }
 
-// The same of a value by reference.
+/// The same of a value by reference.
 fn check_reference(
     alloc: Global,
     value: JsonRef,

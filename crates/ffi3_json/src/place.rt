@@ -1,4 +1,4 @@
-// A place in a script.
+//! A place in a script.
 ghost use Rattle.std.specs.Prelude.{◌≡◌, ◌<◌, ◌++◌, ◌∷◌, [], OnOk, OnErr, IfOk, length, slice_get, Some};
 ghost use Rattle.ffi3_script_spec.specs.Language.{under, at_item};
 ghost use Rattle.ffi3_json.specs.StepOf.{step_of};

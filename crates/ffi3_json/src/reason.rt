@@ -1,4 +1,4 @@
-// Why a value is no part of a script.
+//! Why a value is no part of a script.
 ghost use Rattle.std.specs.Prelude.{◌≡◌, ◌++◌, IfOk};
 ghost use Rattle.std.specs.Fmt.{decimal};
 ghost use Rattle.ffi3_script_spec.specs.ReasonText.{text_of_reason};
@@ -140,14 +140,14 @@ pub fn reason_text(alloc: Global, reason: &Reason) -> Result<Bytes, NoMemory>
     }
 }
 
-// The words alone.
+/// The words alone.
 fn words(alloc: Global, text: &str) -> Result<Bytes, NoMemory>
     ensures { IfOk result (λ b. b ≡ text.now) }
 {
     Bytes::from_slice(alloc, text.as_bytes())
 }
 
-// Words and a number behind them.
+/// Words and a number behind them.
 fn numbered(alloc: Global, text: &str, n: u64) -> Result<Bytes, NoMemory>
     ensures { IfOk result (λ b. b ≡ text.now ++ decimal n) }
 {

@@ -1,4 +1,4 @@
-// Signatures.
+//! Signatures.
 ghost use Rattle.std.specs.Prelude.{◌≡◌, IfOk, IfErr, codes, get_or, map, option_map};
 ghost use Rattle.serde_json.specs.Find.{get};
 ghost use Rattle.serde_json.specs.View.{view};
@@ -66,7 +66,7 @@ pub fn read_signature_at(
     }
 }
 
-// The text of a C declaration, where the value is one in a version of the language: the first has none.
+/// The text of a C declaration, where the value is one in a version of the language: the first has none.
 fn declaration_in<'t>(value: &Node<'t, '_>, version: u8) -> Option<&'t str>
     ensures { option_map (λ s. s.now) result ≡ declaration_in version value.now }
 {
@@ -76,7 +76,7 @@ fn declaration_in<'t>(value: &Node<'t, '_>, version: u8) -> Option<&'t str>
     value.as_str()
 }
 
-// The signature of the function that a text declares. Its name says nothing here.
+/// The signature of the function that a text declares. Its name says nothing here.
 #[tactic(auto, using(crate::proofs::Signatures::declared, crate::proofs::Signatures::tells_declaration))]
 fn read_declared(alloc: Global, text: &str, place: &JsonPath) -> Result<Sig, ScriptFault>
     ensures ok { IfOk result (λ s. declared_signature place.now (declaration.read text.now) ≡ read s) }
@@ -92,14 +92,14 @@ fn read_declared(alloc: Global, text: &str, place: &JsonPath) -> Result<Sig, Scr
     }
 }
 
-// The fault at an offset in the text at a place, which is no declaration.
+/// The fault at an offset in the text at a place, which is no declaration.
 fn bad_declaration(alloc: Global, place: &JsonPath, at: u64) -> ScriptFault
     ensures { Reports (λ p r. (p ≡ place.now) × (r ≡ language.bad_declaration at)) result }
 {
     bad(alloc, place, Reason::BadDeclaration { at })
 }
 
-// The signature that an object is: its shapes, and only then its own first fault.
+/// The signature that an object is: its shapes, and only then its own first fault.
 fn read_object(alloc: Global, value: &Node, at: &JsonPath, version: u8) -> Result<Sig, ScriptFault>
     ensures ok { IfOk result (λ s. object_signature version value.now at.now ≡ read s) }
     ensures err { IfErr result (Reports (λ p r. object_signature version value.now at.now ≡ language.fault p r)) }
@@ -111,7 +111,7 @@ fn read_object(alloc: Global, value: &Node, at: &JsonPath, version: u8) -> Resul
     }
 }
 
-// The shapes of a signature.
+/// The shapes of a signature.
 fn read_shapes(alloc: Global, value: &Node, at: &JsonPath, version: u8) -> Result<Sig, ScriptFault>
     ensures ok { IfOk result (λ s. read_shapes version value.now at.now ≡ read s) }
     ensures err { IfErr result (Reports (λ p r. read_shapes version value.now at.now ≡ language.fault p r)) }
@@ -123,14 +123,14 @@ fn read_shapes(alloc: Global, value: &Node, at: &JsonPath, version: u8) -> Resul
     Ok(Sig::new(ret, args, fixed))
 }
 
-// The keys of a signature.
+/// The keys of a signature.
 fn signature_keys() -> [Key<'static>; 3]
     ensures { map key_of result ≡ signature_keys }
 {
     [required("ret"), required("args"), optional("fixed")]
 }
 
-// The shape of the result. One that is not there is read as null.
+/// The shape of the result. One that is not there is read as null.
 fn read_ret(alloc: Global, value: &Node, at: &JsonPath, version: u8) -> Result<FfiType, ScriptFault>
     ensures ok { IfOk result (λ t. read_type version (value_under (codes "ret") value.now) (under at.now (codes "ret")) ≡ read (tree_of t)) }
     ensures err { IfErr result (Reports (λ p r. read_type version (value_under (codes "ret") value.now) (under at.now (codes "ret")) ≡ language.fault p r)) }
@@ -142,7 +142,7 @@ fn read_ret(alloc: Global, value: &Node, at: &JsonPath, version: u8) -> Result<F
     read_type_at(alloc, &ret, &place, version)
 }
 
-// The shapes of the arguments. An array that is not there is read as null.
+/// The shapes of the arguments. An array that is not there is read as null.
 fn read_args(alloc: Global, value: &Node, at: &JsonPath, version: u8) -> Result<Fields, ScriptFault>
     ensures ok { IfOk result (λ ts. read_types version (value_under (codes "args") value.now) (under at.now (codes "args")) ≡ read ts) }
     ensures err { IfErr result (Reports (λ p r. read_types version (value_under (codes "args") value.now) (under at.now (codes "args")) ≡ language.fault p r)) }
@@ -154,7 +154,7 @@ fn read_args(alloc: Global, value: &Node, at: &JsonPath, version: u8) -> Result<
     read_list(alloc, &args, &place, version)
 }
 
-// The number of fixed arguments, where there is one.
+/// The number of fixed arguments, where there is one.
 fn read_fixed(alloc: Global, value: &Node, at: &JsonPath) -> Result<Option<u32>, ScriptFault>
     ensures ok { IfOk result (λ n. read_fixed (get (codes "fixed") value.now) (under at.now (codes "fixed")) ≡ read n) }
     ensures err { IfErr result (Reports (λ p r. read_fixed (get (codes "fixed") value.now) (under at.now (codes "fixed")) ≡ language.fault p r)) }
@@ -166,7 +166,7 @@ fn read_fixed(alloc: Global, value: &Node, at: &JsonPath) -> Result<Option<u32>,
     Ok(Some(read_count(alloc, &count, &place)?))
 }
 
-// A fault of the signature at a place, as that of a script.
+/// A fault of the signature at a place, as that of a script.
 fn told(alloc: Global, at: &JsonPath, sig: &Sig, fault: &SigFault) -> ScriptFault
     requires { IsSignatureFault sig.now (signature_fault_of fault.now) }
     ensures { Reports (λ p r. (p ≡ place_of_fault at.now sig.now (signature_fault_of fault.now)) × (r ≡ reason_of_fault (signature_fault_of fault.now))) result }
@@ -215,7 +215,7 @@ pub fn bad_type(alloc: Global, at: &JsonPath, ty: &FfiType, fault: &TypeFault) -
     }
 }
 
-// Where the node in a type stands that the way leads to.
+/// Where the node in a type stands that the way leads to.
 fn place_inside(alloc: Global, at: &JsonPath, ty: &FfiType, way: &Path) -> Result<Where, NoMemory>
     ensures { IfOk result (λ w. w ≡ inside_type at.now (tree_of ty.now) way.now) }
 {
@@ -231,7 +231,7 @@ fn place_inside(alloc: Global, at: &JsonPath, ty: &FfiType, way: &Path) -> Resul
     Ok(place)
 }
 
-// The key under which the types stand that a type is made of.
+/// The key under which the types stand that a type is made of.
 fn key_of_parts(ty: &FfiType) -> &str
     ensures { result.now ≡ key_of_parts (tree_of ty.now) }
 {
@@ -241,7 +241,8 @@ fn key_of_parts(ty: &FfiType) -> &str
     }
 }
 
-// The type of a number among those that a type is made of. A fault leads to no number beyond these, for which `none` stands.
+/// The type of a number among those that a type is made of. A fault leads to no number beyond these, for which `none`
+/// stands.
 fn part_of<'a>(ty: &'a FfiType, number: u32, none: &'a FfiType) -> &'a FfiType
     ensures { tree_of result.now ≡ get_or (parts_of (tree_of ty.now)) number (tree_of none.now) }
 {
@@ -252,7 +253,7 @@ fn part_of<'a>(ty: &'a FfiType, number: u32, none: &'a FfiType) -> &'a FfiType
     }
 }
 
-// The type of a number in a list, or else `none`.
+/// The type of a number in a list, or else `none`.
 fn type_in<'a>(fields: &'a Fields, number: u32, none: &'a FfiType) -> &'a FfiType
     ensures { tree_of result.now ≡ get_or fields.now number (tree_of none.now) }
 {
@@ -263,7 +264,7 @@ fn type_in<'a>(fields: &'a Fields, number: u32, none: &'a FfiType) -> &'a FfiTyp
     }
 }
 
-// Why a type with this fault is no part of a script.
+/// Why a type with this fault is no part of a script.
 fn reason_of_type(fault: &TypeFault) -> Reason
     ensures { reason_of result ≡ reason_of_type_fault (fault_of fault.now) }
 {
@@ -275,7 +276,7 @@ fn reason_of_type(fault: &TypeFault) -> Reason
     }
 }
 
-// The reason for a kind that is left out.
+/// The reason for a kind that is left out.
 fn left_out(kind: &FfiType) -> Reason
     ensures { reason_of result ≡ left_out_reason (tree_of kind.now) }
 {

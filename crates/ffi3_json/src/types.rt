@@ -1,4 +1,4 @@
-// Types.
+//! Types.
 ghost use Rattle.std.specs.Prelude.{◌≡◌, IfOk, IfErr};
 ghost use Rattle.serde_json.specs.View.{view};
 ghost use Rattle.ffi3_script_spec.specs.Language as language;
@@ -62,14 +62,14 @@ pub fn read_type_at(
     }
 }
 
-// Whether a version of the language has arrays: the first has none.
+/// Whether a version of the language has arrays: the first has none.
 fn has_arrays(version: u8) -> bool
     ensures { result ≡ has_arrays version }
 {
     version != 1
 }
 
-// An array, by what stands under its key: its element type, which is read first, and how many elements it has.
+/// An array, by what stands under its key: its element type, which is read first, and how many elements it has.
 #[cycle(types)]
 fn read_array(
     alloc: Global,
@@ -109,7 +109,7 @@ pub(crate) fn read_count(alloc: Global, value: &Node, at: &JsonPath) -> Result<u
     }
 }
 
-// The types that an array of them has.
+/// The types that an array of them has.
 #[cycle(types)]
 pub(crate) fn read_list(
     alloc: Global,

@@ -1,4 +1,4 @@
-// The version of the language that a script is written in.
+//! The version of the language that a script is written in.
 ghost use Rattle.std.specs.Prelude.{◌≡◌, IfOk, IfErr, codes, option_and_then};
 ghost use Rattle.serde_json.specs.Find.{as_number, as_u64};
 ghost use Rattle.ffi3_script_spec.specs.Language as language;

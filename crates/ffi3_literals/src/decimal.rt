@@ -1,4 +1,4 @@
-// Integers of 128 bits, as texts in decimal.
+//! Integers of 128 bits, as texts in decimal.
 ghost use Rattle.std.specs.Prelude.{◌≡◌, ◌<◌, IfOk, IfErr, length, drop, true, Some, pos, neg_ℤ};
 ghost use Rattle.std.specs.Str.{all_ascii_digits};
 ghost use Rattle.ffi3_type_spec.specs.Integer.{scalar_of, is_signed};
@@ -15,7 +15,7 @@ use ffi3_types::FfiType;
 use ffi3_values::{Value, integer, of_bits};
 use std::alloc::Global;
 
-// Whether each byte is a decimal digit.
+/// Whether each byte is a decimal digit.
 fn are_digits(bytes: &[u8]) -> bool
     ensures { result ≡ all_ascii_digits bytes.now }
 {
@@ -27,7 +27,7 @@ fn are_digits(bytes: &[u8]) -> bool
     true
 }
 
-// Decimal digits, the first of them not 0.
+/// Decimal digits, the first of them not 0.
 fn is_counting(bytes: &[u8]) -> bool
     ensures { result ≡ is_counting bytes.now }
 {
@@ -37,14 +37,14 @@ fn is_counting(bytes: &[u8]) -> bool
     b'1' <= bytes[0] && bytes[0] <= b'9' && are_digits(&bytes[1..])
 }
 
-// 0, or digits that don't begin with 0.
+/// 0, or digits that don't begin with 0.
 fn is_plain_number(text: &str) -> bool
     ensures { result ≡ is_plain_number text.now }
 {
     text == "0" || is_counting(text.as_bytes())
 }
 
-// Digits that don't begin with 0, after `-`.
+/// Digits that don't begin with 0, after `-`.
 fn is_negative_number(text: &str) -> bool
     ensures { result ≡ is_negative_number text.now }
 {
@@ -55,7 +55,7 @@ fn is_negative_number(text: &str) -> bool
     is_counting(&bytes[1..])
 }
 
-// Whether an integer of 128 bits of this type can be a number below 0.
+/// Whether an integer of 128 bits of this type can be a number below 0.
 fn is_signed(ty: &FfiType) -> bool
     requires { is_wide_type (tree_of ty.now) ≡ true }
     ensures { result ≡ is_signed (scalar_of (tree_of ty.now)) }
@@ -66,7 +66,7 @@ fn is_signed(ty: &FfiType) -> bool
     }
 }
 
-// Whether an integer of 128 bits of this type can be the number.
+/// Whether an integer of 128 bits of this type can be the number.
 fn is_within(ty: &FfiType, n: u128) -> bool
     requires { is_wide_type (tree_of ty.now) ≡ true }
     ensures { result ≡ in_range (scalar_of (tree_of ty.now)) (pos n) }
@@ -77,7 +77,7 @@ fn is_within(ty: &FfiType, n: u128) -> bool
     }
 }
 
-// The number of an integer of 128 bits that digits write.
+/// The number of an integer of 128 bits that digits write.
 fn read_plain(alloc: Global, ty: &FfiType, text: &str, at: &JsonPath) -> Result<Expr, ScriptFault>
     requires wide { is_wide_type (tree_of ty.now) ≡ true }
     requires some { 0 < length text.now }
@@ -103,7 +103,7 @@ fn read_plain(alloc: Global, ty: &FfiType, text: &str, at: &JsonPath) -> Result<
     }
 }
 
-// The number below 0 of an integer of 128 bits that a text writes.
+/// The number below 0 of an integer of 128 bits that a text writes.
 fn read_negative(
     alloc: Global,
     ty: &FfiType,

@@ -21,7 +21,7 @@ use hex::FromHex;
 use serde_json::Number;
 use std::alloc::Global;
 
-// Whether an integer or pointer of the type can be the number.
+/// Whether an integer or pointer of the type can be the number.
 fn in_range(ty: &FfiType, n: i128) -> bool
     requires { is_number_type (tree_of ty.now) ≡ true }
     ensures { result ≡ in_range (scalar_of (tree_of ty.now)) n }

@@ -1,4 +1,4 @@
-// Calls and returns: where they lead, and what the journal keeps of an entry and of a return.
+//! Calls and returns: where they lead, and what the journal keeps of an entry and of a return.
 ghost use Rattle.std.specs.Prelude.{◌≡◌, ◌<◌, ◌≤◌, ◌+◌, ◌-◌, drop, length, OnOk, OnErr, take};
 ghost use Rattle.ffi3_type_spec.specs.TargetIsa.{isa_of};
 ghost use Rattle.ffi3_place_spec.specs.MachineRegisters.{closure_register, link_register, pushed_bytes};
@@ -59,8 +59,8 @@ impl Machine {
         self.journal.make_room(bytes)
     }
 
-    // Records an event of this kind and closure (0 where none is entered), with `bytes` bytes of stack from sp on, which
-    // lie in the stack.
+    /// Records an event of this kind and closure (0 where none is entered), with `bytes` bytes of stack from sp on,
+    /// which lie in the stack.
     fn add_event(&mut self, kind: EventKind, closure: u64, bytes: u64)
         requires stack { LieInStack self.old.sp bytes }
         requires events { 1 ≤ self.old.spare_events }
@@ -116,7 +116,7 @@ impl Machine {
     }
 }
 
-// The first address of a stub.
+/// The first address of a stub.
 fn stub_address(isa: Isa, stub: Stub) -> u64
     ensures { result ≡ goes_for isa stub }
 {
@@ -130,7 +130,7 @@ fn stub_address(isa: Isa, stub: Stub) -> u64
     }
 }
 
-// The `len` bytes of the stack from sp on. Of none it asks nothing of sp.
+/// The `len` bytes of the stack from sp on. Of none it asks nothing of sp.
 fn from_sp(stack: &Region, sp: u64, len: u64) -> &[u8]
     requires base { stack.now.base ≡ STACK }
     requires length { length stack.now.bytes ≡ STACK_BYTES }
@@ -156,7 +156,7 @@ pub fn closure_register(isa: Isa) -> u8
     }
 }
 
-// Where a call leaves the return address, or none where it pushes it.
+/// Where a call leaves the return address, or none where it pushes it.
 fn link_register(isa: Isa) -> Option<u8>
     ensures { result ≡ link_register isa }
 {
@@ -167,7 +167,7 @@ fn link_register(isa: Isa) -> Option<u8>
     }
 }
 
-// How many bytes a call pushes.
+/// How many bytes a call pushes.
 fn pushed_bytes(isa: Isa) -> u64
     ensures { result ≡ pushed_bytes isa }
 {

@@ -1,4 +1,4 @@
-// The journal: what the machine was at each entry and each return.
+//! The journal: what the machine was at each entry and each return.
 ghost use Rattle.std.specs.Prelude.{◌≡◌, ◌<◌, ◌≤◌, ◌+◌, ◌-◌, ◌*◌, ◌++◌, [], ◌∷◌, length, OnOk, OnErr};
 ghost use Rattle.ffi3_machine_spec.specs.Recorded.{Recorded, event_at};
 ghost use Rattle.ffi3_machine.specs.Entries.{event_of};
@@ -63,7 +63,7 @@ impl Model for Journal {
 }
 
 impl Journal {
-    // No events, and no room for any.
+    /// No events, and no room for any.
     pub(crate) fn new(alloc: Global) -> Journal
         ensures { result ≡ record { events = []; spare_events = 0; spare_bytes = 0 } }
     {
@@ -99,7 +99,7 @@ impl Journal {
         &self.bytes[entry.from..entry.to]
     }
 
-    // No events; the room stays.
+    /// No events; the room stays.
     pub(crate) fn clear(&mut self)
         ensures { self.new ≡ record self.old { events = [] } }
     {
@@ -107,7 +107,7 @@ impl Journal {
         self.bytes.clear();
     }
 
-    // Room for two more events, each with this many bytes of stack. Refused, it changes nothing.
+    /// Room for two more events, each with this many bytes of stack. Refused, it changes nothing.
     pub(crate) fn make_room(&mut self, bytes: u64) -> Result<(), NoMemory>
         ensures ok { OnOk result (self.new ≡ record self.old {
           spare_events = self.old.spare_events + 2;
@@ -131,7 +131,7 @@ impl Journal {
         Ok(())
     }
 
-    // One more event, with these bytes of stack. There is room for it.
+    /// One more event, with these bytes of stack. There is room for it.
     pub(crate) fn add(&mut self, event: Event, stack: &[u8])
         requires events { 1 ≤ self.old.spare_events }
         requires bytes { length stack.now ≤ self.old.spare_bytes }

@@ -161,12 +161,12 @@ impl Machine {
     }
 }
 
-// Registers hold 64 bits, by their type.
+/// Registers hold 64 bits, by their type.
 fn are_words(registers: &[u64])
     ensures { AreWords registers.now }
 {}
 
-// Memory holds bytes, by its type.
+/// Memory holds bytes, by its type.
 fn are_bytes(bytes: &[u8])
     ensures { AreBytes bytes.now }
 {}

@@ -1,4 +1,5 @@
-// The memory of a machine: the stack, with the mark of the lowest address written, the code region and the exchange region.
+//! The memory of a machine: the stack, with the mark of the lowest address written, the code region and the exchange
+//! region.
 ghost use Rattle.std.specs.Prelude.{◌≡◌, ◌≤◌, ◌+◌, length};
 ghost use Rattle.ffi3_machine_spec.specs.State.{code_at, filled, stack_at, stored, with_code, with_x, x_of};
 

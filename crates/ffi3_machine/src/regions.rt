@@ -1,4 +1,4 @@
-// The regions of a machine as it begins: the stack of A5 bytes, free slots, and an exchange region of zeros.
+//! The regions of a machine as it begins: the stack of A5 bytes, free slots, and an exchange region of zeros.
 ghost use Rattle.std.specs.Prelude.{◌≡◌, ◌<◌, ◌+◌, ◌^◌, length, IfOk, replicate};
 ghost use Rattle.std.specs.Int.{w32, to_le_bytes};
 ghost use Rattle.ffi3_machine_spec.specs.State.{begun_code, begun_exchange, begun_stack, free_word};
@@ -48,7 +48,7 @@ pub(crate) fn free_slots(isa: Isa, code: &mut Region)
     }
 }
 
-// Fills a region from its base to its end.
+/// Fills a region from its base to its end.
 fn fill_all(region: &mut Region, base: u64, len: u64, byte: u8)
     requires base { region.old.base ≡ base }
     requires length { length region.old.bytes ≡ len }

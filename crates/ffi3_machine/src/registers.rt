@@ -1,4 +1,4 @@
-// The registers of a machine, by their numbers in the target's instructions, with sp and pc.
+//! The registers of a machine, by their numbers in the target's instructions, with sp and pc.
 ghost use Rattle.std.specs.Prelude.{◌≡◌, ◌<◌, slice_index, true};
 ghost use Rattle.ffi3_type_spec.specs.TargetIsa.{isa_of};
 ghost use Rattle.ffi3_place_spec.specs.MachineRegisters.{is_zero_register};

@@ -1,4 +1,4 @@
-// Scribbles: every register but sp and the reserved ones gets a number of its own.
+//! Scribbles: every register but sp and the reserved ones gets a number of its own.
 ghost use Rattle.std.specs.Prelude.{◌≡◌, ◌+◌, ◌*◌, ◌%◌, ◌^◌};
 ghost use Rattle.ffi3_place_spec.specs.MachineRegisters.{is_reserved};
 ghost use Rattle.ffi3_machine_spec.specs.State.{
@@ -42,7 +42,7 @@ pub(crate) fn scribble_floating(registers: &mut [u64; 32], n: u64)
     }
 }
 
-// Whether a scribble leaves the register.
+/// Whether a scribble leaves the register.
 fn is_reserved(isa: Isa, k: usize) -> bool
     ensures { result ≡ is_reserved isa k }
 {
@@ -53,7 +53,7 @@ fn is_reserved(isa: Isa, k: usize) -> bool
     }
 }
 
-// The number that a scribble puts into a register.
+/// The number that a scribble puts into a register.
 fn number(from: u64, n: u64, k: u64) -> u64
     ensures { result ≡ (from + 64 * n + k) % 2 ^ 64 }
 {

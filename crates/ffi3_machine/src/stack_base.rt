@@ -1,4 +1,4 @@
-// An address in the stack, above which a frame or a block stands.
+//! An address in the stack, above which a frame or a block stands.
 ghost use Rattle.std.specs.Prelude.{◌≡◌, ◌≤◌};
 ghost use Rattle.ffi3_type_spec.specs.declared.limits.TheConstants.{STACK, STACK_TOP};
 

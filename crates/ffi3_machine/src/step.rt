@@ -1,4 +1,4 @@
-// One instruction of a machine.
+//! One instruction of a machine.
 ghost use Rattle.std.specs.Prelude.{◌≡◌, ℕ, ◌<◌, ◌+◌, ◌-◌, ◌%◌, ◌^◌, IfSome, IfErr, OnOk, OnErr, Ok, Some, None, ◌==◌, unwrap_or};
 ghost use Rattle.ffi3_isa.specs.declared.Instr.{Instr};
 ghost use Rattle.ffi3_isa.specs.Registers.{HasRegistersBelow};
@@ -78,7 +78,7 @@ impl Machine {
         Ok(())
     }
 
-    // The instruction that stands wholly in one region of code at pc, and how many bytes it has.
+    /// The instruction that stands wholly in one region of code at pc, and how many bytes it has.
     fn decoded(&self) -> Option<(Instr, u8)>
         ensures stands { IfSome result (λ p. IsInstructionAt (isa_of self.now.target) self.now p.0 p.1) }
         ensures only { (i : Instr) (n : ℕ) → IsInstructionAt (isa_of self.now.target) self.now i n → result ≡ Some (i, n) }
@@ -103,7 +103,7 @@ impl Machine {
         }
     }
 
-    // The bytes of code from an address on; nothing where it lies outside.
+    /// The bytes of code from an address on; nothing where it lies outside.
     fn code_from(&self, addr: u64) -> &[u8]
         ensures { result.now ≡ bytes_from (isa_of self.now.target) addr self.now.code }
     {
@@ -124,7 +124,7 @@ impl Machine {
         &[]
     }
 
-    // What an instruction of `size` bytes changes.
+    /// What an instruction of `size` bytes changes.
     fn change_of(&self, instr: Instr, size: u8) -> Option<Change>
         requires { HasRegistersBelow 32 instr }
         ensures value { result ≡ change_of (isa_of self.now.target) instr size self.now }
@@ -183,7 +183,7 @@ impl Machine {
         }
     }
 
-    // A general register, as an instruction reads it.
+    /// A general register, as an instruction reads it.
     fn register(&self, k: u8) -> u64
         requires { k < 32 }
         ensures { result ≡ register (isa_of self.now.target) k self.now }
@@ -198,7 +198,7 @@ impl Machine {
         }
     }
 
-    // A general register as the base of an address or of a sum.
+    /// A general register as the base of an address or of a sum.
     fn base(&self, k: u8) -> u64
         requires { k < 32 }
         ensures { result ≡ base (isa_of self.now.target) k self.now }
@@ -213,7 +213,7 @@ impl Machine {
         }
     }
 
-    // The eight bytes at an address, which lie in one region.
+    /// The eight bytes at an address, which lie in one region.
     fn load(&self, addr: u64) -> Option<u64>
         ensures { result ≡ loaded (isa_of self.now.target) addr self.now }
     {
@@ -232,7 +232,7 @@ impl Machine {
         None
     }
 
-    // Makes the change.
+    /// Makes the change.
     fn apply(&mut self, change: Change)
         requires { IsInRange change }
         ensures { self.new ≡ changed (isa_of self.old.target) change self.old }
@@ -244,7 +244,7 @@ impl Machine {
         self.go_on(change.pc);
     }
 
-    // Writes a general register, if there is one.
+    /// Writes a general register, if there is one.
     fn write_general(&mut self, write: Option<(u8, u64)>)
         requires { IfSome write (λ p. p.0 < 32) }
         ensures { self.new ≡ record self.old { general = written (isa_of self.old.target) write self.old.general } }
@@ -256,7 +256,7 @@ impl Machine {
         }
     }
 
-    // Writes a floating register, if there is one.
+    /// Writes a floating register, if there is one.
     fn write_floating(&mut self, write: Option<(u8, u64)>)
         requires { IfSome write (λ p. p.0 < 32) }
         ensures { self.new ≡ record self.old { floating = floated write self.old.floating } }
@@ -266,7 +266,7 @@ impl Machine {
         }
     }
 
-    // Writes sp, if it is to be.
+    /// Writes sp, if it is to be.
     fn write_sp(&mut self, write: Option<u64>)
         ensures { self.new ≡ record self.old { sp = unwrap_or write self.old.sp } }
     {
@@ -275,7 +275,7 @@ impl Machine {
         }
     }
 
-    // Writes eight bytes of memory, if there are any to be written.
+    /// Writes eight bytes of memory, if there are any to be written.
     fn write_store(&mut self, write: Option<(u64, u64)>)
         ensures { self.new ≡ with_store write self.old }
     {
@@ -284,7 +284,7 @@ impl Machine {
         }
     }
 
-    // Goes on at pc, one instruction further.
+    /// Goes on at pc, one instruction further.
     fn go_on(&mut self, pc: u64)
         ensures { self.new ≡ record self.old { pc = pc; steps = (self.old.steps + 1) % 2 ^ 64 } }
     {
@@ -292,7 +292,7 @@ impl Machine {
         self.steps = self.steps.wrapping_add(1);
     }
 
-    // Stores eight bytes in the stack or in the exchange region; elsewhere nothing.
+    /// Stores eight bytes in the stack or in the exchange region; elsewhere nothing.
     fn put(&mut self, addr: u64, value: u64)
         ensures { self.new ≡ with_store (Some (addr, value)) self.old }
     {
@@ -308,7 +308,7 @@ impl Machine {
     }
 }
 
-// A change of pc alone.
+/// A change of pc alone.
 fn goes_to(pc: u64) -> Change
     ensures { result ≡ goes_to pc }
 {
@@ -321,7 +321,7 @@ fn goes_to(pc: u64) -> Change
     }
 }
 
-// A change of register `k` and pc.
+/// A change of register `k` and pc.
 fn sets(isa: Isa, k: u8, pc: u64, value: u64) -> Change
     requires { k < 32 }
     ensures value { result ≡ sets isa k pc value }
@@ -337,7 +337,7 @@ fn sets(isa: Isa, k: u8, pc: u64, value: u64) -> Change
     }
 }
 
-// A change of register `k`, as of a sum, and pc.
+/// A change of register `k`, as of a sum, and pc.
 fn sums(isa: Isa, k: u8, pc: u64, value: u64) -> Change
     requires { k < 32 }
     ensures value { result ≡ sums isa k pc value }
@@ -353,7 +353,7 @@ fn sums(isa: Isa, k: u8, pc: u64, value: u64) -> Change
     }
 }
 
-// A change of floating register `k` and pc.
+/// A change of floating register `k` and pc.
 fn floats(k: u8, pc: u64, value: u64) -> Change
     requires { k < 32 }
     ensures value { result ≡ floats k pc value }
@@ -368,7 +368,7 @@ fn floats(k: u8, pc: u64, value: u64) -> Change
     }
 }
 
-// A change of eight bytes of the stack or of the exchange region, of pc, and of sp if it is there.
+/// A change of eight bytes of the stack or of the exchange region, of pc, and of sp if it is there.
 fn stores(sp: Option<u64>, pc: u64, addr: u64, value: u64) -> Option<Change>
     ensures value { result ≡ stores sp pc addr value }
     ensures in_range { IfSome result (λ c. IsInRange c) }
@@ -385,7 +385,7 @@ fn stores(sp: Option<u64>, pc: u64, addr: u64, value: u64) -> Option<Change>
     None
 }
 
-// A call that pushes the return address.
+/// A call that pushes the return address.
 fn pushes(sp: u64, value: u64, to: Option<u64>) -> Option<Change>
     ensures value { result ≡ pushes sp value to }
     ensures in_range { IfSome result (λ c. IsInRange c) }
@@ -394,7 +394,7 @@ fn pushes(sp: u64, value: u64, to: Option<u64>) -> Option<Change>
     stores(Some(sp), to, sp, value)
 }
 
-// A change of sp and pc.
+/// A change of sp and pc.
 fn pops(sp: u64, pc: u64) -> Change
     ensures { result ≡ pops sp pc }
 {
@@ -407,14 +407,14 @@ fn pops(sp: u64, pc: u64) -> Change
     }
 }
 
-// The address with its lowest bit cleared.
+/// The address with its lowest bit cleared.
 fn even(addr: u64) -> u64
     ensures { result ≡ even addr }
 {
     addr - addr % 2
 }
 
-// Whether the register reads as 0, and a write to it is dropped.
+/// Whether the register reads as 0, and a write to it is dropped.
 fn reads_zero(isa: Isa, k: u8) -> bool
     ensures { result ≡ reads_zero isa k }
 {
@@ -425,7 +425,7 @@ fn reads_zero(isa: Isa, k: u8) -> bool
     }
 }
 
-// Whether the register's number names the stack pointer in a base or a sum.
+/// Whether the register's number names the stack pointer in a base or a sum.
 fn is_sp(isa: Isa, k: u8) -> bool
     ensures { result ≡ (k == stack_pointer isa) }
 {
@@ -436,7 +436,7 @@ fn is_sp(isa: Isa, k: u8) -> bool
     }
 }
 
-// Whether the register's number names the stack pointer.
+/// Whether the register's number names the stack pointer.
 fn reads_sp(isa: Isa, k: u8) -> bool
     ensures { result ≡ reads_sp isa k }
 {
@@ -447,7 +447,7 @@ fn reads_sp(isa: Isa, k: u8) -> bool
     }
 }
 
-// Whether the eight bytes from `addr` on lie between two addresses.
+/// Whether the eight bytes from `addr` on lie between two addresses.
 fn has_eight(low: u64, high: u64, addr: u64) -> bool
     ensures { result ≡ has_eight low high addr }
 {

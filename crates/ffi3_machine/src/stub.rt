@@ -1,4 +1,4 @@
-// The regions of stubs and of exchange, and the stubs' bytes.
+//! The regions of stubs and of exchange, and the stubs' bytes.
 ghost use Rattle.std.specs.Prelude.{◌≡◌, length, IfOk};
 ghost use Rattle.std.specs.List.{repeat};
 ghost use Rattle.ffi3_machine_spec.specs.State.{free_word};
@@ -199,7 +199,7 @@ fn riscv_return() -> [u8; 28]
     ]
 }
 
-// Every word of a region as in a free slot.
+/// Every word of a region as in a free slot.
 fn fill_words(isa: Isa, region: &mut Region)
     requires base { region.old.base ≡ STUBS }
     requires length { length region.old.bytes ≡ STUBS_BYTES }
@@ -211,7 +211,7 @@ fn fill_words(isa: Isa, region: &mut Region)
     }
 }
 
-// Writes the four stubs of amd64.
+/// Writes the four stubs of amd64.
 fn write_amd64(region: &mut Region)
     requires base { region.old.base ≡ STUBS }
     requires length { length region.old.bytes ≡ STUBS_BYTES }
@@ -223,7 +223,7 @@ fn write_amd64(region: &mut Region)
     region.copy_in(0x2000, &amd64_return());
 }
 
-// Writes the four stubs of aarch64.
+/// Writes the four stubs of aarch64.
 fn write_aarch64(region: &mut Region)
     requires base { region.old.base ≡ STUBS }
     requires length { length region.old.bytes ≡ STUBS_BYTES }
@@ -235,7 +235,7 @@ fn write_aarch64(region: &mut Region)
     region.copy_in(0x2000, &aarch64_return());
 }
 
-// Writes the four stubs of riscv.
+/// Writes the four stubs of riscv.
 fn write_riscv(region: &mut Region)
     requires base { region.old.base ≡ STUBS }
     requires length { length region.old.bytes ≡ STUBS_BYTES }

@@ -1,4 +1,4 @@
-// A machine that is lent to the core of transfers, which reads and writes what a call passes.
+//! A machine that is lent to the core of transfers, which reads and writes what a call passes.
 ghost use Rattle.std.specs.Prelude.{◌≡◌, ℕ, ◌+◌, ◌-◌, ◌<◌, ◌≤◌, false, length, refl};
 ghost use Rattle.std.proofs.Common.{◌∙◌};
 ghost use Rattle.ffi3_type_spec.specs.Value.{part};
@@ -115,7 +115,7 @@ pub(crate) fn offset_of(machine: &Machine, base: StackBase) -> u64
     base.address() - STACK
 }
 
-// How many bytes the stack has.
+/// How many bytes the stack has.
 fn stack_len(machine: &Machine) -> u64
     ensures { result ≡ length (passing machine.now).stack }
 {
@@ -123,7 +123,7 @@ fn stack_len(machine: &Machine) -> u64
     STACK_TOP - STACK
 }
 
-// Reads as many bytes of the stack as there is room for, from an offset on.
+/// Reads as many bytes of the stack as there is room for, from an offset on.
 fn read_stack(machine: &Machine, from: u64, out: &mut [u8])
     requires { from + length out.old ≤ length (passing machine.now).stack }
     ensures { out.new ≡ part (passing machine.now).stack from (length out.old) }
@@ -133,7 +133,7 @@ fn read_stack(machine: &Machine, from: u64, out: &mut [u8])
     out.copy_from_slice(machine.lend_stack(STACK + from, len));
 }
 
-// Passes a number in general register `k`.
+/// Passes a number in general register `k`.
 fn set_general(machine: &mut Machine, k: u8, value: u64)
     requires below { k < 32 }
     requires takes { is_zero_register (isa_of machine.old.target) k ≡ false }
@@ -145,7 +145,7 @@ fn set_general(machine: &mut Machine, k: u8, value: u64)
     pass_general(machine, k, value);
 }
 
-// Passes a number in floating register `k`.
+/// Passes a number in floating register `k`.
 fn set_floating(machine: &mut Machine, k: u8, value: u64)
     requires { k < 32 }
     ensures set { image_passed (passing machine.new) ≡ with_floating k value (image_passed (passing machine.old)) }
@@ -156,7 +156,7 @@ fn set_floating(machine: &mut Machine, k: u8, value: u64)
     pass_floating(machine, k, value);
 }
 
-// Writes bytes to the stack, from an offset on.
+/// Writes bytes to the stack, from an offset on.
 fn write_stack(machine: &mut Machine, from: u64, bytes: &[u8])
     requires { from + length bytes.now ≤ length (image_passed (passing machine.old)).stack }
     ensures stored { image_passed (passing machine.new) ≡ stored from bytes.now (image_passed (passing machine.old)) }

@@ -75,8 +75,8 @@ pub fn set_piece(machine: &mut Machine, base: StackBase, piece: Piece, bytes: &[
     ffi3_marshal::set_piece(&mut lent, start, piece, bytes);
 }
 
-// Puts the bytes that a piece of a value carries into its place, and fills the rest of the place. `bytes` are the
-// value's bytes in memory.
+/// Puts the bytes that a piece of a value carries into its place, and fills the rest of the place. `bytes` are the
+/// value's bytes in memory.
 fn fill_piece(
     machine: &mut Machine,
     base: StackBase,
@@ -119,7 +119,7 @@ pub fn store_piece(
     fill_piece(machine, base, piece, ty, bytes);
 }
 
-// Whether a piece is whole once the runs are stored.
+/// Whether a piece is whole once the runs are stored.
 fn goes_by_run(piece: &Piece) -> bool
     ensures { result ≡ goes_by_run piece.now.loc piece.now.ext }
 {
@@ -135,7 +135,7 @@ fn goes_by_run(piece: &Piece) -> bool
     }
 }
 
-// Stores a piece of a value that does not go by a run.
+/// Stores a piece of a value that does not go by a run.
 fn store_other(
     machine: &mut Machine,
     base: StackBase,
@@ -158,7 +158,7 @@ fn store_other(
     }
 }
 
-// Stores all pieces of a value that do not go by runs, by way of `bytes`, which are as many as it has.
+/// Stores all pieces of a value that do not go by runs, by way of `bytes`, which are as many as it has.
 fn store_each(
     machine: &mut Machine,
     base: StackBase,
@@ -184,7 +184,7 @@ fn store_each(
     }
 }
 
-// Stores all pieces of a value that stands in registers, by way of `bytes`, which are as many as it has.
+/// Stores all pieces of a value that stands in registers, by way of `bytes`, which are as many as it has.
 fn store_pieces_by(
     machine: &mut Machine,
     base: StackBase,
@@ -236,8 +236,8 @@ pub fn store_pieces(
     }
 }
 
-// Stores a value in pieces, by way of `bytes`, which are as many as it has. What stands on the stack goes by runs, but
-// where something fills the rest of a place.
+/// Stores a value in pieces, by way of `bytes`, which are as many as it has. What stands on the stack goes by runs, but
+/// where something fills the rest of a place.
 fn store_direct(
     machine: &mut Machine,
     base: StackBase,
@@ -265,8 +265,8 @@ fn store_direct(
     store_each(machine, base, pieces, ty, value, bytes);
 }
 
-// Stores an argument by reference, by way of `bytes`, which are as many as it has: a copy of the value `copy` bytes
-// from `base` on, and the copy's address in a place. The copy's padding keeps what stood there.
+/// Stores an argument by reference, by way of `bytes`, which are as many as it has: a copy of the value `copy` bytes
+/// from `base` on, and the copy's address in a place. The copy's padding keeps what stood there.
 fn store_copy(
     machine: &mut Machine,
     base: StackBase,
@@ -294,7 +294,7 @@ fn store_copy(
     ffi3_marshal::store_copy(&mut lent, first - STACK, at, copy, ty, bytes);
 }
 
-// Stores an argument at its place, by way of `bytes`, which are as many as it has.
+/// Stores an argument at its place, by way of `bytes`, which are as many as it has.
 fn store_place_by(
     machine: &mut Machine,
     base: StackBase,

@@ -1,4 +1,4 @@
-// What stands at places, read from a machine.
+//! What stands at places, read from a machine.
 ghost use Rattle.std.specs.Prelude.{◌≡◌, ◌-◌, length};
 ghost use Rattle.ffi3_type_spec.specs.declared.limits.TheConstants.{STACK_TOP};
 ghost use Rattle.ffi3_machine_transfer.specs.Passing.{passing};

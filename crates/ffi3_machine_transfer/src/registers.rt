@@ -1,4 +1,4 @@
-// The registers through which a call passes its values: the machine's own, or the words of the exchange region.
+//! The registers through which a call passes its values: the machine's own, or the words of the exchange region.
 ghost use Rattle.std.specs.Prelude.{◌≡◌, ◌<◌, slice_index, false};
 ghost use Rattle.ffi3_type_spec.specs.TargetIsa.{isa_of};
 ghost use Rattle.ffi3_place_spec.specs.MachineRegisters.{is_zero_register};

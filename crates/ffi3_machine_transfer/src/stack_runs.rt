@@ -1,4 +1,4 @@
-// The bytes of a value that stand on the stack, stored run by run.
+//! The bytes of a value that stand on the stack, stored run by run.
 ghost use Rattle.std.specs.Prelude.{◌≡◌, ◌-◌, length, true};
 ghost use Rattle.std.specs.List.{AllByRecursion};
 ghost use Rattle.ffi3_type_spec.specs.declared.limits.TheConstants.{STACK_TOP};
@@ -14,8 +14,8 @@ use ffi3_machine::{Machine, StackBase};
 use ffi3_types::CheckedType;
 use ffi3_values::{Value, write_bytes};
 
-// Stores a run of a value's bytes. Padding keeps what stood there. `bytes` are as many as the value has, whatever they
-// hold.
+/// Stores a run of a value's bytes. Padding keeps what stood there. `bytes` are as many as the value has, whatever they
+/// hold.
 fn store_run(
     machine: &mut Machine,
     base: StackBase,

@@ -7,7 +7,7 @@ use Rattle.ffi3_type_spec.specs.declared.Target.{Target}
 use Rattle.ffi3_type_spec.specs.Tree.{Tree, tree_at}
 use Rattle.ffi3_type_spec.specs.Signature.{Signature, SignatureHasNoFault, SignatureIsPlaced}
 use Rattle.ffi3_place_spec.specs.declared.Loc.{Loc}
-use Rattle.ffi3_place_spec.specs.declared.Loc.TheVariants.{G, F, S}
+use Rattle.ffi3_place_spec.specs.declared.Loc.TheVariants.{S}
 use Rattle.ffi3_place_spec.specs.declared.Place.{Place}
 use Rattle.ffi3_place_spec.specs.declared.Place.TheVariants.{Direct, ByRef}
 use Rattle.ffi3_place_spec.specs.Image.{Image}

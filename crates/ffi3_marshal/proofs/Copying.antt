@@ -9,7 +9,7 @@ use Rattle.ffi3_type_spec.specs.Layout.{size_of}
 use Rattle.ffi3_type_spec.specs.Value.{part}
 use Rattle.ffi3_type_spec.proofs.Parts.{index_part, length_part, same_part}
 use Rattle.ffi3_place_spec.specs.declared.Loc.{Loc}
-use Rattle.ffi3_place_spec.specs.declared.Loc.TheVariants.{G, F, S}
+use Rattle.ffi3_place_spec.specs.declared.Loc.TheVariants.{S}
 use Rattle.ffi3_place_spec.specs.declared.Place.{Place}
 use Rattle.ffi3_place_spec.specs.declared.Place.TheVariants.{Direct, ByRef}
 use Rattle.ffi3_place_spec.specs.Image.{Image}

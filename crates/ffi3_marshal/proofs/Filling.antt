@@ -2,18 +2,17 @@
 use Rattle.std.specs.Prelude.{true, ◌/◌, ◌^◌, ◌-◌}
 use Rattle.std.proofs.Common.{◌≡◌, ℕ, ◌+◌, ◌<◌, ◌≤◌, List, get_or, length, refl, ap, sym, ◌∙◌, subst, arith}
 use Rattle.std.specs.Int.{w64, to_le_bytes}
-use Rattle.ffi3_type_spec.specs.Tree.{Tree, void, scalar, left_out, structure, Scalar, u8, s8, u16, s16, u32, s32, u64, s64, u128, s128, float, double, pointer, x87, binary128, array}
+use Rattle.ffi3_type_spec.specs.Tree.{Tree, scalar, Scalar, u8, s8, u16, s16, u32, s32}
 use Rattle.ffi3_type_spec.specs.Layout.{size_of, scalar_size, scalar_room}
 use Rattle.ffi3_type_spec.specs.Integer.{is_number_type, scalar_of, widened, widened_from_32}
-use Rattle.ffi3_type_spec.specs.Value.{leaf_value, value_in, significant}
+use Rattle.ffi3_type_spec.specs.Value.{value_in, significant}
 use Rattle.ffi3_type_spec.proofs.Widened.{byte-widened, byte-widened_from_32}
-use Rattle.ffi3_place_spec.specs.declared.Ext.{Ext}
 use Rattle.ffi3_place_spec.specs.declared.Ext.TheVariants.{Free, Widen, Riscv, Boxed}
 use Rattle.ffi3_place_spec.specs.declared.Piece.{Piece}
 use Rattle.ffi3_place_spec.specs.Image.{Image, word_at}
 use Rattle.ffi3_place_spec.specs.Holds.{FillsAs}
 use Rattle.ffi3_place_spec.specs.Sound.{is_narrow_integer, IsExtended}
-use Rattle.ffi3_marshal.specs.Stored.{IsSet, IsStored, IsWordPut, HasPiece}
+use Rattle.ffi3_marshal.specs.Stored.{IsSet, IsStored, IsWordPut}
 
 -- a narrow integer is a number of four bytes at most; it takes the bytes of its value and no more, and all of them are its value
 narrow : (s : Scalar) → is_narrow_integer (scalar s) ≡ true → (is_number_type (scalar s) ≡ true) × (scalar_size s ≤ 4) × (scalar_room s ≡ scalar_size s) × ((bytes : List ℕ) → bytes ≡ significant s bytes)

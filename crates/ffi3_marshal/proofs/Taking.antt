@@ -2,7 +2,7 @@
 use Rattle.std.proofs.Common.{ℕ, List, [], ◌∷◌}
 use Rattle.std.specs.List.{AllByRecursion}
 use Rattle.ffi3_place_spec.specs.declared.Loc.{Loc}
-use Rattle.ffi3_place_spec.specs.declared.Loc.TheVariants.{G, F, S}
+use Rattle.ffi3_place_spec.specs.declared.Loc.TheVariants.{G}
 use Rattle.ffi3_marshal.specs.Stored.{TakesAt}
 
 pub still_takes_at : (P Q : ℕ → Type 0) → ((k : ℕ) → P k → Q k) → (l : Loc) → TakesAt P l → TakesAt Q l

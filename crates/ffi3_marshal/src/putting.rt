@@ -1,4 +1,4 @@
-// Bytes and words at places of registers and stack.
+//! Bytes and words at places of registers and stack.
 ghost use Rattle.std.specs.Prelude.{◌≡◌, ℕ, ◌+◌, ◌-◌, ◌/◌, ◌^◌, ◌<◌, ◌≤◌, length, get_or};
 ghost use Rattle.std.specs.Int.{w64, to_le_bytes};
 ghost use Rattle.ffi3_type_spec.specs.Layout.{size_of};
@@ -10,14 +10,14 @@ use crate::widen::{widened, widened_from_32};
 use ffi3_place::{Ext, Loc, Piece};
 use ffi3_types::CheckedType;
 
-// The number of eight bytes, the lowest first.
+/// The number of eight bytes, the lowest first.
 fn word_of(bytes: [u8; 8]) -> u64
     ensures { to_le_bytes w64 result ≡ bytes }
 {
     u64::from_le_bytes(bytes)
 }
 
-// The word with its low bytes replaced.
+/// The word with its low bytes replaced.
 fn with_low(word: u64, bytes: &[u8]) -> u64
     requires { length bytes.now ≤ 8 }
     ensures { HasLow bytes.now word result }
@@ -78,7 +78,7 @@ pub fn set_piece<W: WriteImage>(state: &mut W, base: u64, piece: Piece, bytes: &
     );
 }
 
-// The number of four bytes from an offset on, with ones above it.
+/// The number of four bytes from an offset on, with ones above it.
 fn boxed(bytes: &[u8], from: usize) -> u64
     requires { from + 4 ≤ length bytes.now }
     ensures low { (k : ℕ) → k < 4 → get_or (to_le_bytes w64 result) k 0 ≡ get_or bytes.now (from + k) 0 }

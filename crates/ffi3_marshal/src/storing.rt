@@ -1,4 +1,4 @@
-// Values at their places: what a caller stores for its callee.
+//! Values at their places: what a caller stores for its callee.
 ghost use Rattle.std.specs.Prelude.{◌≡◌, ℕ, ◌+◌, ◌-◌, ◌^◌, ◌<◌, ◌≤◌, length};
 ghost use Rattle.std.specs.List.{AllByRecursion};
 ghost use Rattle.ffi3_type_spec.specs.Layout.{size_of};
@@ -36,7 +36,7 @@ pub fn store_pieces<W: WriteImage>(
     }
 }
 
-// The address that stands so many bytes above the first stack place.
+/// The address that stands so many bytes above the first stack place.
 fn address_of(sp: u64, base: u64, offset: u32) -> u64
     requires { sp + base + offset < 2 ^ 64 }
     ensures { result ≡ sp + base + offset }

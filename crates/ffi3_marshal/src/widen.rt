@@ -1,4 +1,4 @@
-// The numbers of narrow integers, from their bytes.
+//! The numbers of narrow integers, from their bytes.
 ghost use Rattle.std.specs.Prelude.{◌≡◌, ◌-◌, ◌^◌, ◌≤◌, ◌<◌, ◌≤ℤ◌, ◌<ℤ◌, length, pos, negsuc, true};
 ghost use Rattle.std.specs.Int.{w16, w32, w64, from_le_bytes};
 ghost use Rattle.ffi3_type_spec.specs.Integer.{is_number_type, number_of, scalar_of, widened, widened_from_32};
@@ -7,7 +7,7 @@ ghost use Rattle.ffi3_types.specs.TreeOf.{tree_of};
 
 use ffi3_types::FfiType;
 
-// The number of two bytes, the lowest first.
+/// The number of two bytes, the lowest first.
 fn from_two(bytes: &[u8]) -> u16
     requires { length bytes.now ≡ 2 }
     ensures { result ≡ from_le_bytes w16 bytes.now }
@@ -15,7 +15,7 @@ fn from_two(bytes: &[u8]) -> u16
     u16::from_le_bytes([bytes[0], bytes[1]])
 }
 
-// The number of four bytes.
+/// The number of four bytes.
 fn from_four(bytes: &[u8]) -> u32
     requires { length bytes.now ≡ 4 }
     ensures { result ≡ from_le_bytes w32 bytes.now }
@@ -23,7 +23,7 @@ fn from_four(bytes: &[u8]) -> u32
     u32::from_le_bytes([bytes[0], bytes[1], bytes[2], bytes[3]])
 }
 
-// The number of eight bytes.
+/// The number of eight bytes.
 fn from_eight(bytes: &[u8]) -> u64
     requires { length bytes.now ≡ 8 }
     ensures { result ≡ from_le_bytes w64 bytes.now }
@@ -33,7 +33,7 @@ fn from_eight(bytes: &[u8]) -> u64
     ])
 }
 
-// The number of an integer of at most 64 bits or of a pointer, by its sign.
+/// The number of an integer of at most 64 bits or of a pointer, by its sign.
 fn number(ty: &FfiType, bytes: &[u8]) -> i128
     requires kind { is_number_type (tree_of ty.now) ≡ true }
     requires small { size_of (tree_of ty.now) ≤ 8 }

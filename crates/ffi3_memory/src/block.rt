@@ -24,7 +24,7 @@ use std::alloc::Allocator;
 use std::marker::{Model, PhantomData};
 use std_alloc::vec::{Lodged, lodge};
 
-// The right to give the `size` bytes at `ptr` back to the allocator `alloc`. What lies in them is lodged apart.
+/// The right to give the `size` bytes at `ptr` back to the allocator `alloc`. What lies in them is lodged apart.
 pub(crate) struct Block<A: Allocator> {
     ptr: *mut u8,
     size: usize,
@@ -39,7 +39,7 @@ impl<A: Allocator> Model for Block<A> {
 }
 
 impl<A: Allocator> Block<A> {
-    // A new block, in which no byte is written yet.
+    /// A new block, in which no byte is written yet.
     pub(crate) fn take(alloc: &A, size: usize) -> Option<(Vec<u8, Lodged>, Block<A>)>
         requires { IsBlockSize size }
         ensures { IfSome result (λ m. (m.0.items ≡ []) × (m.0.len ≡ 0) × (m.0.cap ≡ size)
@@ -55,7 +55,7 @@ impl<A: Allocator> Block<A> {
         }
     }
 
-    // Frees the block. `bytes` are the ones lodged in it: bytes have nothing to drop, so they end with their memory.
+    /// Frees the block. `bytes` are the ones lodged in it: bytes have nothing to drop, so they end with their memory.
     pub(crate) fn give(self, bytes: Vec<u8, Lodged>, alloc: &A)
         requires { (self.alloc ≡ alloc.now) × (bytes.ptr ≡ self.ptr) × (bytes.cap ≡ self.size) }
     {

@@ -155,7 +155,7 @@ impl Region {
     }
 }
 
-// Copies as through a buffer: in the order in which no byte is written before it is read.
+/// Copies as through a buffer: in the order in which no byte is written before it is read.
 fn move_within(bytes: &mut [u8], from: usize, to: usize, len: usize)
     requires from_high { from + len ≤ length bytes.old }
     requires to_high { to + len ≤ length bytes.old }
@@ -168,7 +168,7 @@ fn move_within(bytes: &mut [u8], from: usize, to: usize, len: usize)
     }
 }
 
-// Copies to lower places, the first byte first: each is read before its place is written.
+/// Copies to lower places, the first byte first: each is read before its place is written.
 fn move_down(bytes: &mut [u8], from: usize, to: usize, len: usize)
     requires down { to ≤ from }
     requires high { from + len ≤ length bytes.old }
@@ -179,7 +179,7 @@ fn move_down(bytes: &mut [u8], from: usize, to: usize, len: usize)
     }
 }
 
-// Copies to higher places, the last byte first.
+/// Copies to higher places, the last byte first.
 fn move_up(bytes: &mut [u8], from: usize, to: usize, len: usize)
     requires up { from ≤ to }
     requires high { to + len ≤ length bytes.old }
@@ -192,7 +192,7 @@ fn move_up(bytes: &mut [u8], from: usize, to: usize, len: usize)
     }
 }
 
-// The first `len` bytes of an unwritten block, now zero.
+/// The first `len` bytes of an unwritten block, now zero.
 fn zeros(bytes: Vec<u8, Lodged>, len: usize) -> Vec<u8, Lodged>
     requires room { len ≤ bytes.cap }
     requires unwritten { bytes.items ≡ [] }
@@ -206,7 +206,7 @@ fn zeros(bytes: Vec<u8, Lodged>, len: usize) -> Vec<u8, Lodged>
     bytes
 }
 
-// The number that 1, 2, 4 or 8 bytes make.
+/// The number that 1, 2, 4 or 8 bytes make.
 fn number(bytes: &[u8]) -> u64
     requires { IsWidth (length bytes.now) }
     ensures { result ≡ number_of (length bytes.now) bytes.now }
@@ -221,7 +221,7 @@ fn number(bytes: &[u8]) -> u64
     }
 }
 
-// The first bytes of a number's eight.
+/// The first bytes of a number's eight.
 fn lowest(bytes: &[u8; 8], width: u8) -> &[u8]
     requires { width ≤ 8 }
     ensures { result.now ≡ take width bytes.now }

@@ -1,4 +1,4 @@
-// The moves of the arguments of a call: its caller's, and its callee's.
+//! The moves of the arguments of a call: its caller's, and its callee's.
 ghost use Rattle.std.specs.Prelude.{◌≡◌, ◌<◌, ◌^◌, ◌++◌, IfOk, OnOk};
 ghost use Rattle.ffi3_place_spec.specs.Standard.{plan_of};
 ghost use Rattle.ffi3_moves.specs.Moves.{argument_in, argument_moves, argument_out, arguments_moves, collect_moves, count_in, store_moves};
@@ -12,7 +12,7 @@ use ffi3_type_spec::round_up;
 use ffi3_types::{CheckedType, NoMemory};
 use std::alloc::Global;
 
-// Those of an argument whose value stands at `at`.
+/// Those of an argument whose value stands at `at`.
 fn push_argument_in(
     moves: &mut Moves,
     part: u32,
@@ -44,7 +44,7 @@ fn push_argument_in(
     }
 }
 
-// And back.
+/// And back.
 fn push_argument_out(
     moves: &mut Moves,
     part: u32,
@@ -67,7 +67,7 @@ fn push_argument_out(
     }
 }
 
-// Those of an argument, the one way or the other.
+/// Those of an argument, the one way or the other.
 #[inline(always)]
 fn push_argument(
     moves: &mut Moves,
@@ -86,7 +86,7 @@ fn push_argument(
     }
 }
 
-// Those of all arguments.
+/// Those of all arguments.
 #[inline(always)]
 fn push_arguments<A: Abi>(moves: &mut Moves, way: Way, cif: &Placed<A>) -> Result<(), NoMemory>
     ensures { OnOk result (moves.new ≡ moves.old ++ arguments_moves way 0 0 cif.now.arguments (plan_of A.standard cif.now).places) }
@@ -101,7 +101,7 @@ fn push_arguments<A: Abi>(moves: &mut Moves, way: Way, cif: &Placed<A>) -> Resul
     Ok(())
 }
 
-// That of the number of vector registers.
+/// That of the number of vector registers.
 fn push_count(moves: &mut Moves, at: Option<Loc>, vectors: u8) -> Result<(), NoMemory>
     ensures { OnOk result (moves.new ≡ moves.old ++ count_in at vectors) }
 {
@@ -117,7 +117,7 @@ fn push_count(moves: &mut Moves, at: Option<Loc>, vectors: u8) -> Result<(), NoM
     }
 }
 
-// How many moves there is room for at once: two of each argument, and one more. Few functions have more.
+/// How many moves there is room for at once: two of each argument, and one more. Few functions have more.
 fn likely_count<A: Abi>(cif: &Placed<A>) -> usize {
     2 * cif.placed_sig().count() as usize + 1
 }

@@ -1,4 +1,4 @@
-// What is in a move of one piece.
+//! What is in a move of one piece.
 ghost use Rattle.std.specs.Prelude.{◌≡◌, ◌<◌, ◌^◌, ◌||◌, ◌==◌};
 ghost use Rattle.ffi3_type_spec.specs.Integer.{is_signed, scalar_of};
 ghost use Rattle.ffi3_type_spec.specs.Layout.{scalar_size};
@@ -28,7 +28,7 @@ pub(crate) fn exchange_at(at: Loc) -> u64
     }
 }
 
-// How an integer is extended by its sign.
+/// How an integer is extended by its sign.
 #[inline(always)]
 fn widening(ty: &FfiType) -> Kind
     ensures { result ≡ by_sign (is_signed (scalar_of (tree_of ty.now))) }
@@ -58,7 +58,7 @@ fn widening(ty: &FfiType) -> Kind
     }
 }
 
-// The same on RISC-V, where 32 bits are extended by the upper one.
+/// The same on RISC-V, where 32 bits are extended by the upper one.
 fn widening_from_32(ty: &FfiType) -> Kind
     ensures { result ≡ by_sign (is_signed (scalar_of (tree_of ty.now)) || (scalar_size (scalar_of (tree_of ty.now)) == 4)) }
 {
@@ -87,7 +87,7 @@ fn widening_from_32(ty: &FfiType) -> Kind
     }
 }
 
-// How the rest of a piece's place is filled.
+/// How the rest of a piece's place is filled.
 #[inline(always)]
 fn filling(ext: Ext, ty: &FfiType) -> Kind
     ensures { result ≡ filling ext (scalar_of (tree_of ty.now)) }

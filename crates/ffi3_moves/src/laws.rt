@@ -1,4 +1,4 @@
-// What whoever plays the moves of a call has done.
+//! What whoever plays the moves of a call has done.
 ghost use Rattle.std.specs.Prelude.{◌≡◌, ◌+◌, ◌-◌, ◌^◌, ◌<◌, ◌≤◌, ◌++◌, [], List, length};
 ghost use Rattle.ffi3_type_spec.specs.Layout.{size_of};
 ghost use Rattle.ffi3_type_spec.specs.Value.{ValueTree, value_in};

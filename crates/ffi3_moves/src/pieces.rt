@@ -1,4 +1,4 @@
-// The moves of the pieces of one value.
+//! The moves of the pieces of one value.
 ghost use Rattle.std.specs.Prelude.{◌≡◌, ◌<◌, ◌^◌, ◌++◌, OnOk};
 ghost use Rattle.ffi3_moves.specs.Moves.{pieces_in, pieces_out};
 

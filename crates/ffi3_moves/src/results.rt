@@ -1,4 +1,4 @@
-// The moves of the result of a call: its caller's, and its callee's.
+//! The moves of the result of a call: its caller's, and its callee's.
 ghost use Rattle.std.specs.Prelude.{◌≡◌, ◌++◌, IfOk, OnOk};
 ghost use Rattle.ffi3_moves.specs.Moves.{give_moves, given_back_at, hidden_in, hidden_move, load_moves, result_in, result_out, returned_at};
 

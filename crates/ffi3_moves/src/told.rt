@@ -1,4 +1,4 @@
-// The moves of a call, as C has them, straight into an array of whoever asks for them: no memory is taken.
+//! The moves of a call, as C has them, straight into an array of whoever asks for them: no memory is taken.
 ghost use Rattle.std.specs.Prelude.{◌≡◌, ◌+◌, ◌<◌, ◌≤◌, ◌^◌, ℕ, SomeIff, OnSome, None, [], ◌∷◌, length, map};
 ghost use Rattle.std.proofs.lemmas.List.Edits.{sets};
 ghost use Rattle.ffi3_type_spec.specs.Tree.{Tree};
@@ -79,7 +79,7 @@ fn put_pieces_in(
     at + pieces.len()
 }
 
-// From the last to the first.
+/// From the last to the first.
 #[inline(always)]
 fn put_pieces_out(told: &mut [ToldMove], at: usize, part: u32, to: u64, pieces: &Pieces) -> usize
     requires low { to < 2 ^ 32 }
@@ -159,7 +159,7 @@ fn put_argument_out(
     }
 }
 
-// The one way or the other.
+/// The one way or the other.
 #[inline(always)]
 fn put_argument(
     told: &mut [ToldMove],
@@ -183,7 +183,7 @@ fn put_argument(
 
 // ---- how many they are
 
-// Of an argument by reference the value is moved and, on the way in, the address of its copy.
+/// Of an argument by reference the value is moved and, on the way in, the address of its copy.
 fn count_of_reference(way: Way) -> usize
     ensures { (i at : ℕ) (t : Tree) (l : Loc) (copy : ℕ) → result ≡ length (argument_moves way i at t (ByRef l copy)) }
 {
@@ -202,7 +202,7 @@ fn count_of_argument(way: Way, place: &Place) -> usize
     }
 }
 
-// Those of all arguments, unless they are 2^64 or more.
+/// Those of all arguments, unless they are 2^64 or more.
 fn count_of_arguments<A: Abi>(way: Way, cif: &Placed<A>) -> Option<usize>
     ensures { SomeIff result (length (arguments_moves way 0 0 cif.now.arguments (plan_of A.standard cif.now).places) < 2 ^ 64) (length (arguments_moves way 0 0 cif.now.arguments (plan_of A.standard cif.now).places)) }
 {
@@ -236,7 +236,7 @@ fn put_arguments<A: Abi>(told: &mut [ToldMove], way: Way, cif: &Placed<A>) -> us
     at
 }
 
-// That of the number of vector registers, if there is one.
+/// That of the number of vector registers, if there is one.
 fn count_of_count(at: Option<Loc>) -> usize
     ensures { (n : ℕ) → result ≡ length (count_in at n) }
 {
@@ -266,7 +266,7 @@ fn put_count(told: &mut [ToldMove], end: usize, at: Option<Loc>, vectors: u8)
 
 // ---- the lists: answered is how many moves one has, and nothing is written where these have no room
 
-// How many the caller's arguments have, unless they are 2^64 or more.
+/// How many the caller's arguments have, unless they are 2^64 or more.
 fn count_of_store<A: Abi>(cif: &Placed<A>) -> Option<usize>
     ensures { SomeIff result (length (store_moves A.standard cif.now) < 2 ^ 64) (length (store_moves A.standard cif.now)) }
 {

@@ -1,4 +1,4 @@
--- Which spots and names those of the code are.
+-- The spots and names that the Rust ones stand for.
 use Rattle.std.specs.Prelude.{ℕ, List, [], ◌∷◌, map, Option, Some, None}
 use Rattle.ffi3_names_spec.specs.Scan as scan
 use Rattle.ffi3_names.specs.declared.spot.Bracket.{Bracket}

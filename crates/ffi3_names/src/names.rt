@@ -1,4 +1,4 @@
-// The names of a prototype's parameters, found in one pass over its bytes.
+//! The names of a prototype's parameters, found in one pass over its bytes.
 ghost use Rattle.std.specs.Prelude.{◌≡◌, ◌++◌, IfOk, OnOk, [], get_or};
 ghost use Rattle.ffi3_cdecl_spec.specs.Tokens.{wide};
 ghost use Rattle.ffi3_cdecl_spec.specs.Grammar.{Declaration};

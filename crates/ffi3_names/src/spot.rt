@@ -1,4 +1,4 @@
-// Where a pass over a prototype is, and what one token tells there.
+//! Where a pass over a prototype is, and what one token tells there.
 ghost use Rattle.std.specs.Prelude.{◌≡◌, IfOk, suc};
 ghost use Rattle.ffi3_cdecl_spec.specs.Tokens.{type_word};
 ghost use Rattle.ffi3_names_spec.specs.Scan.{closes, neither, bracket, is_comma, is_word, behind_by, members_by, next_declarator, next_function, next_into, next_words, next_base, next_tag, next_tagged, next_called, next_sole_void, next_opened, next, told_by_declarator, told_into, told_by_words, told_tagged, told_sole_void, told};

@@ -1,4 +1,4 @@
-// A native that calls a closure once.
+//! A native that calls a closure once.
 ghost use Rattle.std.specs.Prelude.{◌≡◌, IfOk};
 ghost use Rattle.ffi3_natives.specs.Natives.{calling_signatures};
 

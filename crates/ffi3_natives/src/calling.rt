@@ -1,4 +1,4 @@
-// What the natives that call a closure share: their signatures, calls of the closure, and their end.
+//! What the natives that call a closure share: their signatures, calls of the closure, and their end.
 ghost use Rattle.std.specs.Prelude.{◌≡◌, ◌<◌, IfOk, length, slice_index_or, true};
 ghost use Rattle.ffi3_type_spec.specs.Tree.{scalar, s64};
 ghost use Rattle.ffi3_type_spec.specs.Value.{fits, void_value};
@@ -13,7 +13,7 @@ use ffi3_types::{FfiType, Fields, NoMemory, Sig, Sigs};
 use ffi3_values::{Value, Values, widen};
 use std::alloc::Global;
 
-// sint64(sint64)
+/// sint64(sint64)
 fn number_sig(alloc: Global) -> Result<Sig, NoMemory>
     ensures { IfOk result (λ s. s ≡ number_signature) }
 {
@@ -22,7 +22,7 @@ fn number_sig(alloc: Global) -> Result<Sig, NoMemory>
     Ok(Sig::new(FfiType::S64, args, None))
 }
 
-// sint64(pointer,sint64)
+/// sint64(pointer,sint64)
 fn closure_sig(alloc: Global) -> Result<Sig, NoMemory>
     ensures { IfOk result (λ s. s ≡ closure_signature) }
 {
@@ -32,7 +32,7 @@ fn closure_sig(alloc: Global) -> Result<Sig, NoMemory>
     Ok(Sig::new(FfiType::S64, args, None))
 }
 
-// The native's own signature, and the closure's.
+/// The native's own signature, and the closure's.
 pub(crate) fn calling_sigs(alloc: Global) -> Result<Sigs, NoMemory>
     ensures { IfOk result (λ a. a ≡ calling_signatures) }
 {
@@ -42,7 +42,7 @@ pub(crate) fn calling_sigs(alloc: Global) -> Result<Sigs, NoMemory>
     Ok(sigs)
 }
 
-// A call of the closure at argument 0 on a value.
+/// A call of the closure at argument 0 on a value.
 pub(crate) fn call_on(alloc: Global, seen: &Seen, value: Value) -> Result<Move, NoMemory>
     requires own { seen.now.signature ≡ closure_signature }
     requires number { fits (scalar s64) (value_of value) ≡ true }
@@ -59,7 +59,7 @@ pub(crate) fn call_on(alloc: Global, seen: &Seen, value: Value) -> Result<Move, 
     })
 }
 
-// The end with result `i`.
+/// The end with result `i`.
 pub(crate) fn return_result(alloc: Global, seen: &Seen, i: u32) -> Result<Move, NoMemory>
     requires there { i < length seen.now.results }
     requires number { fits (scalar s64) (slice_index_or seen.now.results i void_value) ≡ true }

@@ -1,4 +1,4 @@
-// A native that calls nothing.
+//! A native that calls nothing.
 ghost use Rattle.std.specs.Prelude.{◌≡◌, IfOk};
 ghost use Rattle.ffi3_natives.specs.Natives.{numbers_signature, sum3_signatures};
 
@@ -28,7 +28,7 @@ impl Model for Sum3 {
     ghost invariant = { λ a. a.sigs ≡ sum3_signatures };
 }
 
-// sint64(sint64,sint64,sint64)
+/// sint64(sint64,sint64,sint64)
 fn numbers_sig(alloc: Global) -> Result<Sig, NoMemory>
     ensures { IfOk result (λ s. s ≡ numbers_signature) }
 {

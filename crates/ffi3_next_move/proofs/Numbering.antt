@@ -7,7 +7,7 @@ use Rattle.ffi3_type_spec.specs.Tree.{Tree, trees_of}
 use Rattle.ffi3_type_spec.specs.Signature.{Signature, signature_at}
 use Rattle.ffi3_type_spec.specs.Value.{all_fit, values_of}
 use Rattle.ffi3_place_spec.specs.Standard.{Standard}
-use Rattle.ffi3_semantics_spec.specs.Move.{Move, call, make, free, print, return, MoveFits, result_type_of}
+use Rattle.ffi3_semantics_spec.specs.Move.{Move, call, make, MoveFits, result_type_of}
 use Rattle.ffi3_semantics_spec.specs.Meaning.{Program, Function, idle, function_at, Native, renumbered, function_of, functions_from, all_signatures}
 use Rattle.ffi3_script_spec.specs.Script.{Script}
 use Rattle.ffi3_script_spec.specs.Meaning as script

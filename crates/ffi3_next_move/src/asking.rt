@@ -1,4 +1,4 @@
-// What a function of a run asks for next.
+//! What a function of a run asks for next.
 ghost use Rattle.std.specs.Prelude.{◌≡◌, ◌<◌, ◌≤◌, ◌^◌, IfOk, List, length};
 ghost use Rattle.ffi3_place_spec.specs.Standard.{Standard};
 ghost use Rattle.ffi3_semantics_spec.specs.Meaning.{main, function};
@@ -48,7 +48,7 @@ pub fn ask(
     }
 }
 
-// The same of main.
+/// The same of main.
 fn ask_main(
     alloc: Global,
     script: &Script,
@@ -64,7 +64,7 @@ fn ask_main(
     ask_body(alloc, script.main(), cursor, seen)
 }
 
-// The same of a function of the script.
+/// The same of a function of the script.
 fn ask_function(
     alloc: Global,
     script: &Script,
@@ -81,7 +81,7 @@ fn ask_function(
     ask_body(alloc, script.body(number), cursor, seen)
 }
 
-// The next move of a body of the script, by its own numbers.
+/// The next move of a body of the script, by its own numbers.
 fn ask_body(
     alloc: Global,
     body: &ScriptBody,
@@ -97,7 +97,7 @@ fn ask_body(
     body.next_at(alloc, cursor, seen)
 }
 
-// The same of a native.
+/// The same of a native.
 fn ask_native(
     alloc: Global,
     script: &Script,

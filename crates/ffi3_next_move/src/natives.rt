@@ -1,5 +1,5 @@
-// Natives behind boxes. A box is called in a function of its own, so that the proofs of others
-// speak of the box itself.
+//! Natives behind boxes. A box is called in a function of its own, so that the proofs of others
+//! speak of the box itself.
 ghost use Rattle.std.specs.Prelude.{◌≡◌, ◌<◌, IfOk, Some, length, slice_get, All};
 ghost use Rattle.ffi3_type_spec.specs.Signature.{SignatureHasNoFault, signature_at};
 ghost use Rattle.ffi3_semantics_spec.specs.Move.{MoveFits};
@@ -51,7 +51,7 @@ pub(crate) fn next_of(
     next_in(alloc, native, seen)
 }
 
-// The same in the words of the trait.
+/// The same in the words of the trait.
 fn next_in(alloc: Global, native: &Box<dyn Native>, seen: &Seen) -> Result<Move, NoMemory>
     requires own { seen.now.signature ≡ signature native.now }
     requires follow { ResultsFollow (signatures native.now) (meaning native.now) (arguments_of seen.now) seen.now.user seen.now.results }

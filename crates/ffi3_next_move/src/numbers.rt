@@ -1,4 +1,4 @@
-// The numbers of a run's signatures and functions.
+//! The numbers of a run's signatures and functions.
 ghost use Rattle.std.specs.Prelude.{◌≡◌, ◌<◌, ◌≤◌, ◌+◌, ◌^◌, Some, length, slice_get};
 ghost use Rattle.ffi3_type_spec.specs.Signature.{signature_at, SignatureHasNoFault};
 ghost use Rattle.ffi3_place_spec.specs.Standard.{Standard};
@@ -12,7 +12,7 @@ use ffi3_body::Native;
 use ffi3_script::Script;
 use ffi3_types::Sig;
 
-// How many signatures native `j` has.
+/// How many signatures native `j` has.
 fn count_of(natives: &Vec<Box<dyn Native>>, j: u32) -> u32
     requires { j < length natives.now.items }
     ensures is { (n : NamedNative) → slice_get (handed title meaning signatures natives.now.items) j ≡ Some n →
@@ -62,7 +62,7 @@ pub fn sig_of(script: &Script, natives: &Vec<Box<dyn Native>>, number: u32) -> u
     }
 }
 
-// The same of native `j`, which is function `number` of the run.
+/// The same of native `j`, which is function `number` of the run.
 fn native_sig(script: &Script, natives: &Vec<Box<dyn Native>>, number: u32, j: u32) -> u32
     requires here { number ≡ length (script_of script.now).functions + j }
     requires below { j < length natives.now.items }
@@ -91,7 +91,7 @@ pub fn signature<'a>(script: &'a Script, natives: &'a Vec<Box<dyn Native>>, numb
     }
 }
 
-// Signature `number` of those of all natives.
+/// Signature `number` of those of all natives.
 fn native_signature(natives: &Vec<Box<dyn Native>>, number: u32) -> &Sig
     requires below { number < length (signatures_in (handed title meaning signatures natives.now.items)) }
     requires few { length natives.now.items < 2 ^ 31 }

@@ -1,4 +1,4 @@
-// Whose body an activation runs, and where it stands in it.
+//! Whose body an activation runs, and where it stands in it.
 ghost use Rattle.std.specs.Prelude.{◌≡◌, ◌<◌, ◌≤◌, ◌+◌, ◌^◌, [], List, length};
 ghost use Rattle.ffi3_semantics_spec.specs.Move.{no_signature};
 ghost use Rattle.ffi3_semantics_spec.specs.Meaning.{main};
@@ -27,7 +27,7 @@ pub enum Standing {
     InNative(u32, u32),
 }
 
-// A cursor before the first move of a body.
+/// A cursor before the first move of a body.
 fn before_moves(alloc: Global, body: &ScriptBody) -> Cursor
     ensures { (a : SeenActivation) → a.signature ≡ signature_of body.now → a.results ≡ [] → IsInBody body.now a result }
 {
@@ -64,7 +64,7 @@ impl Standing {
     }
 }
 
-// A function of the script before its first move.
+/// A function of the script before its first move.
 fn in_script(alloc: Global, script: &Script, number: u32) -> Standing
     requires { number < length (script_of script.now).functions }
     ensures { (natives : List NamedNative) → IsBeforeMoves script.now natives number result }
@@ -74,7 +74,7 @@ fn in_script(alloc: Global, script: &Script, number: u32) -> Standing
     Standing::InFunction(number, before_moves(alloc, script.body(number)))
 }
 
-// A native before its first move.
+/// A native before its first move.
 fn in_native(script: &Script, natives: &Vec<Box<dyn Native>>, number: u32) -> Standing
     requires above { length (script_of script.now).functions ≤ number }
     requires below { number < length (script_of script.now).functions + length natives.now.items }

@@ -6,7 +6,7 @@ use Rattle.std.proofs.lemmas.List.{take_more, take_all, length-drop}
 use Rattle.ffi3_type_spec.specs.declared.limits.TheConstants.{LARGEST_TYPE, MOST_ARGUMENTS}
 use Rattle.ffi3_type_spec.specs.declared.Role.{Role}
 use Rattle.ffi3_type_spec.specs.declared.Role.TheVariants.{AsResult, AsArgument, AsElement}
-use Rattle.ffi3_type_spec.specs.Tree.{Tree, void, scalar, left_out, structure, array, struct_of, trees_of, tree_at}
+use Rattle.ffi3_type_spec.specs.Tree.{Tree, void, scalar, struct_of, trees_of, tree_at}
 use Rattle.ffi3_type_spec.specs.Layout.{layouts, element, end_before, align_before, size_of, has_long_double, have_long_double}
 use Rattle.ffi3_type_spec.specs.Fault.{HasNoFault, IsArgumentType, IsResultType}
 use Rattle.ffi3_type_spec.specs.Signature.{Signature, SignatureFault, SignatureHasNoFault, IsSignatureFault, over_most, in_result, in_argument, fixed_outside, promoted}
@@ -18,7 +18,7 @@ use Rattle.ffi3_types.specs.TreeOf.{tree_of}
 use Rattle.ffi3_types.specs.declared.FfiType.{FfiType}
 use Rattle.ffi3_nodes.specs.declared.Node.{Node}
 use Rattle.ffi3_nodes.specs.declared.TheConstants.{VOID, STRUCT}
-use Rattle.ffi3_nodes.specs.Nodes.{node, IsWritten, IsSignatureOf, AreWritten, none, one_more, structure as struct_written, leaves}
+use Rattle.ffi3_nodes.specs.Nodes.{node, IsWritten, AreWritten, none, one_more, structure as struct_written, leaves}
 use Rattle.ffi3_nodes.specs.Read.{AreReadSoFar, IsReadAs}
 use Rattle.ffi3_nodes.proofs.Building.{first_leaf, same_node}
 

@@ -1,7 +1,7 @@
 -- The list of what is open, whose last item is the innermost.
 use Rattle.std.proofs.Common.{◌≡◌, ℕ, zero, suc, ◌-◌, ◌<◌, List, [], ◌∷◌, ◌++◌, length, reverse, ap, sym, ◌∙◌, refl, arith}
 use Rattle.std.proofs.lemmas.List.{reverse-append}
-use Rattle.ffi3_nodes.specs.Faults.{begun, closed}
+use Rattle.ffi3_nodes.specs.Faults.{closed}
 
 pub last_first : {A : Type 0} (xs all : List A) (x : A) → all ≡ xs ++ x ∷ [] → reverse all ≡ x ∷ reverse xs
 last_first xs all x e = ap reverse e ∙ reverse-append xs (x ∷ [])

@@ -1,5 +1,5 @@
-// The types that nodes without a fault are, from the last node on: a struct takes as many as it counts of those that
-// stand behind it.
+//! The types that nodes without a fault are, from the last node on: a struct takes as many as it counts of those that
+//! stand behind it.
 ghost use Rattle.std.specs.Prelude.{◌≡◌, ◌<◌, ◌≤◌, ◌^◌, IfOk, OnOk, IfSome, List, Some, None, [], ◌∷◌, drop, take, length, slice_get};
 ghost use Rattle.ffi3_type_spec.specs.Tree.{struct_of};
 ghost use Rattle.ffi3_types.specs.TreeOf.{tree_of};
@@ -90,7 +90,7 @@ impl Behind {
     }
 }
 
-// A struct of two.
+/// A struct of two.
 fn pair(alloc: Global, first: FfiType, second: FfiType) -> Result<FfiType, NoMemory>
     ensures { IfOk result (λ t. tree_of t ≡ struct_of (tree_of first ∷ tree_of second ∷ [])) }
 {
@@ -100,7 +100,7 @@ fn pair(alloc: Global, first: FfiType, second: FfiType) -> Result<FfiType, NoMem
     Ok(FfiType::Struct(parts))
 }
 
-// The type that is one node of this kind.
+/// The type that is one node of this kind.
 fn leaf(alloc: Global, kind: u32) -> Result<FfiType, NoMemory>
     requires { kind < STRUCT }
     ensures { IfOk result (λ t. slice_get leaves kind ≡ Some (tree_of t)) }
@@ -118,7 +118,7 @@ fn leaf(alloc: Global, kind: u32) -> Result<FfiType, NoMemory>
     })
 }
 
-// The type that begins with a node, where these stand behind it.
+/// The type that begins with a node, where these stand behind it.
 fn first_type(alloc: Global, node: Node, behind: &mut Behind) -> Result<FfiType, NoMemory>
     requires fits { Fits node behind.old }
     ensures { IfOk result (λ t. (ns : List Node) → AreWritten behind.old ns → AreWritten (tree_of t ∷ behind.new) (node ∷ ns)) }

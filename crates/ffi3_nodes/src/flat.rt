@@ -1,5 +1,5 @@
-// The signature of nodes that are scalars and structs of scalars, which most are: it is read in one pass, and has no
-// fault.
+//! The signature of nodes that are scalars and structs of scalars, which most are: it is read in one pass, and has no
+//! fault.
 ghost use Rattle.std.specs.Prelude.{◌≡◌, ◌<◌, ◌≤◌, ◌∷◌, [], IfOk, IfSome, take, length};
 ghost use Rattle.ffi3_type_spec.specs.declared.Role.{Role};
 ghost use Rattle.ffi3_type_spec.specs.Tree.{Tree};
@@ -15,10 +15,10 @@ use ffi3_type_spec::limits::MOST_ARGUMENTS;
 use ffi3_types::{FfiType, Fields, NoMemory, Sig};
 use std::alloc::Global;
 
-// A struct of so many scalars is not too large, whichever they are.
+/// A struct of so many scalars is not too large, whichever they are.
 const MOST_MEMBERS: usize = 64;
 
-// Where so many nodes end from there on, if each is of a scalar's kind.
+/// Where so many nodes end from there on, if each is of a scalar's kind.
 fn end_of_scalars(nodes: &[Node], at: usize, count: u32) -> Option<usize>
     ensures { IfSome result (λ end. at ≤ end) }
 {
@@ -34,7 +34,7 @@ fn end_of_scalars(nodes: &[Node], at: usize, count: u32) -> Option<usize>
     Some(end)
 }
 
-// How many types there are, where none is but a scalar, void or a struct of scalars, as far as kinds and counts tell.
+/// How many types there are, where none is but a scalar, void or a struct of scalars, as far as kinds and counts tell.
 fn count_types(nodes: &[Node]) -> Option<usize> {
     let mut count = 0usize;
     let mut at = 0usize;
@@ -52,7 +52,7 @@ fn count_types(nodes: &[Node]) -> Option<usize> {
     Some(count)
 }
 
-// The struct of so many scalars, if they stand first among these nodes.
+/// The struct of so many scalars, if they stand first among these nodes.
 fn struct_of_scalars(alloc: Global, nodes: &[Node], count: u32) -> Result<Option<FfiType>, NoMemory>
     ensures read { (role : Role) → IfOk result (λ o. IfSome o (λ t. IsReadAs role (tree_of t) (node STRUCT count ∷ take count nodes.now))) }
     ensures within { IfOk result (λ o. IfSome o (λ t. count ≤ length nodes.now)) }
@@ -71,14 +71,14 @@ fn struct_of_scalars(alloc: Global, nodes: &[Node], count: u32) -> Result<Option
     Ok(Some(FfiType::Struct(types)))
 }
 
-// The result's type, and where the arguments begin.
+/// The result's type, and where the arguments begin.
 #[derive(Drop)]
 struct Begun {
     ty: FfiType,
     end: usize,
 }
 
-// That of the result which these nodes begin with, if it is void, a scalar or a struct of scalars.
+/// That of the result which these nodes begin with, if it is void, a scalar or a struct of scalars.
 fn first(alloc: Global, nodes: &[Node]) -> Result<Option<Begun>, NoMemory>
     ensures { IfOk result (λ o. IfSome o (λ f. AreReadSoFar (tree_of f.ty) [] nodes.now f.end)) }
 {
@@ -101,8 +101,8 @@ fn first(alloc: Global, nodes: &[Node]) -> Result<Option<Begun>, NoMemory>
     Ok(Some(Begun { ty, end: 1 }))
 }
 
-// Takes the struct of scalars that begins there, if one does and there may be one more, to the arguments, and says where
-// it ends.
+/// Takes the struct of scalars that begins there, if one does and there may be one more, to the arguments, and says
+/// where it ends.
 fn push_struct(
     alloc: Global,
     nodes: &[Node],
@@ -124,8 +124,8 @@ fn push_struct(
     Ok(Some(at + 1 + head.count as usize))
 }
 
-// Takes the scalars that stand there, and those behind them, to the arguments, as far as there may be so many, and says
-// where they end.
+/// Takes the scalars that stand there, and those behind them, to the arguments, as far as there may be so many, and
+/// says where they end.
 fn push_scalars(nodes: &[Node], at: usize, args: &mut Fields) -> Result<usize, NoMemory>
     ensures read { (ret : Tree) → AreReadSoFar ret args.old nodes.now at → IfOk result (λ end. AreReadSoFar ret args.new nodes.now end) }
     ensures on { IfOk result (λ end. at ≤ end) }

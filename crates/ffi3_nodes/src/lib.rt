@@ -44,5 +44,5 @@ pub const ARRAY: u32 = 20;
 /// Structs and arrays stand at most so many deep in one another.
 pub const DEEPEST: u32 = 16;
 
-// as any type's
+/// as any type's
 const _: () = prove!(DEEPEST as u64 == DEEPEST_NESTING);

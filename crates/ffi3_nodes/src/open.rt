@@ -1,4 +1,4 @@
-// The structs and arrays that are open where a node stands.
+//! The structs and arrays that are open where a node stands.
 ghost use Rattle.std.specs.Prelude.{◌≡◌, ◌<◌, ◌≤◌, ◌∷◌, [], length};
 ghost use Rattle.ffi3_nodes.specs.Faults.{begun, closed};
 

@@ -1,4 +1,4 @@
-// Nodes that are scalars: no type of them has a fault.
+//! Nodes that are scalars: no type of them has a fault.
 ghost use Rattle.std.specs.Prelude.{◌≡◌, ◌<◌, ◌≤◌, ◌∷◌, [], IfSome, Some, None, false, slice_get};
 ghost use Rattle.ffi3_type_spec.specs.Fault.{IsResultType};
 ghost use Rattle.ffi3_type_spec.specs.Layout.{has_long_double};

@@ -1,4 +1,4 @@
-// The first fault of nodes.
+//! The first fault of nodes.
 ghost use Rattle.std.specs.Prelude.{◌≡◌, ◌<◌, IfOk, IfErr, OnOk, length, Some, None};
 ghost use Rattle.ffi3_nodes.specs.Faults.{fault_at, first_node_fault, open_after};
 ghost use Rattle.ffi3_nodes.specs.Read.{node_fault_of};
@@ -19,7 +19,7 @@ pub enum NodeFault {
     TooDeep(usize),
 }
 
-// Goes on behind a node, or says what is wrong with it; so many others stand before it.
+/// Goes on behind a node, or says what is wrong with it; so many others stand before it.
 fn step(inside: &mut Open, at: usize, node: Node) -> Result<(), NodeFault>
     ensures ok { OnOk result (fault_at (length inside.old) at node ≡ None) }
     ensures after { OnOk result (inside.new ≡ open_after inside.old node) }

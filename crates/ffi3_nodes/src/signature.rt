@@ -1,4 +1,4 @@
-// The signature that nodes are.
+//! The signature that nodes are.
 ghost use Rattle.std.specs.Prelude.{◌≡◌, ◌<◌, ◌^◌, IfOk, IfErr, length, None};
 ghost use Rattle.ffi3_type_spec.specs.Signature.{Signature, SignatureHasNoFault, SignatureIsPlaced, HasNoLongDouble};
 ghost use Rattle.ffi3_format_spec.specs.declared.Format.{Format};
@@ -28,7 +28,7 @@ pub enum Refused {
     NoMemory,
 }
 
-// The signature of nodes that are one.
+/// The signature of nodes that are one.
 fn signature(alloc: Global, nodes: &[Node], fixed: Option<u32>) -> Result<Sig, NoMemory>
     requires faultless { first_node_fault nodes.now ≡ None }
     requires few { length nodes.now < 2 ^ 32 }
@@ -42,7 +42,7 @@ fn signature(alloc: Global, nodes: &[Node], fixed: Option<u32>) -> Result<Sig, N
     Ok(Sig::new(ret, args, fixed))
 }
 
-// The signature of nodes that are one, whether it has a fault or not.
+/// The signature of nodes that are one, whether it has a fault or not.
 fn told(alloc: Global, nodes: &[Node], fixed: Option<u32>) -> Result<Sig, Refused>
     ensures ok { IfOk result (λ s. IsSignatureOf nodes.now fixed s) }
     ensures types { IfOk result (λ s. AreNodesOfTypes nodes.now) }
@@ -104,7 +104,7 @@ pub fn read_signature(alloc: Global, nodes: &[Node], fixed: Option<u32>) -> Resu
     }
 }
 
-// A signature whose long doubles have a format, if it can be placed.
+/// A signature whose long doubles have a format, if it can be placed.
 fn placed(sig: Sig) -> Result<Sig, Refused>
     ensures ok { IfOk result (λ s. (s ≡ sig) × SignatureIsPlaced s) }
     ensures err { IfErr result (λ r. IsFaultOf sig r) }
@@ -115,7 +115,7 @@ fn placed(sig: Sig) -> Result<Sig, Refused>
     }
 }
 
-// Reads one whose types are others than scalars and structs of them, or that may have a fault.
+/// Reads one whose types are others than scalars and structs of them, or that may have a fault.
 fn read_any_for(
     alloc: Global,
     format: Format,

@@ -1,4 +1,4 @@
-// The one type that nodes are.
+//! The one type that nodes are.
 ghost use Rattle.std.specs.Prelude.{◌≡◌, ◌<◌, ◌^◌, IfOk, IfErr, length, None};
 ghost use Rattle.ffi3_type_spec.specs.Tree.{Tree};
 ghost use Rattle.ffi3_type_spec.specs.Fault.{IsResultType};
@@ -28,7 +28,7 @@ pub enum RefusedType {
     NoMemory,
 }
 
-// The type of nodes that are one, or else how many they are.
+/// The type of nodes that are one, or else how many they are.
 fn single(alloc: Global, nodes: &[Node]) -> Result<FfiType, RefusedType>
     requires faultless { first_node_fault nodes.now ≡ None }
     requires few { length nodes.now < 2 ^ 32 }

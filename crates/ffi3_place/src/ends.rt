@@ -1,5 +1,5 @@
-// Where things begin and end in the frame of a call, and the plan that ends with them. Where copies and buffers begin is
-// `start` by four standards; Microsoft x64 has a rule of its own. The rest is alike by all.
+//! Where things begin and end in the frame of a call, and the plan that ends with them. Where copies and buffers begin
+//! is `start` by four standards; Microsoft x64 has a rule of its own. The rest is alike by all.
 ghost use Rattle.std.specs.Prelude.{◌<◌, ◌^◌, ◌≡◌, ◌≤◌, ◌+◌, ℕ, List, length, map};
 ghost use Rattle.ffi3_type_spec.specs.declared.limits.TheConstants.{ARGUMENT_BYTES, ARGUMENT_SPAN, LARGEST_GAP, LARGEST_TYPE, STACK_BYTES};
 ghost use Rattle.ffi3_type_spec.specs.Tree.{Tree};

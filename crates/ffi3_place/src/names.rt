@@ -1,4 +1,4 @@
-// Names of registers.
+//! Names of registers.
 ghost use Rattle.std.specs.Prelude.{◌≡◌, [], map, slice_index_or};
 ghost use Rattle.ffi3_place_spec.specs.RegisterNames.{general_names, floating_names};
 

@@ -1,4 +1,4 @@
-// The sizes of arguments, and the pieces of values, as every standard needs them.
+//! The sizes of arguments, and the pieces of values, as every standard needs them.
 ghost use Rattle.std.specs.Prelude.{◌≡◌, ◌<◌, ◌≤◌, ◌+◌, ◌*◌, [], ◌∷◌, length, IfOk};
 ghost use Rattle.std.specs.List.{sum_by};
 ghost use Rattle.ffi3_type_spec.specs.declared.limits.TheConstants.{ARGUMENT_BYTES, LARGEST_TYPE};

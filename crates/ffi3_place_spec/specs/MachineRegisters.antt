@@ -1,5 +1,5 @@
 -- What an instruction set's machine has: its registers by number, and what a call and a closure's trampoline do with them. (System V psABI AMD64, "Register Usage"; Arm AAPCS64 6.1.1 and 6.1.2; RISC-V ELF psABI, "Integer Register Convention" and "Floating-point Register Convention")
-use Rattle.std.specs.Prelude.{ℕ, ◌+◌, ◌*◌, Bool, true, false, ◌==◌, ◌≡◌, ⊤, List, [], ◌∷◌, map, Option}
+use Rattle.std.specs.Prelude.{ℕ, ◌+◌, ◌*◌, Bool, false, ◌==◌, ◌≡◌, ⊤, List, [], ◌∷◌, map, Option}
 use Rattle.std.specs.Prelude.{Some, None, option_map, ◌-◌, ◌&&◌, cond, nat_le, nat_lt}
 use Rattle.std.specs.List.{list_any}
 use Rattle.ffi3_type_spec.specs.declared.Isa.{Isa}

@@ -1,4 +1,4 @@
-// A list of which contracts see the items.
+//! A list of which contracts see the items.
 ghost use Rattle.std.specs.Prelude.{◌≡◌, ◌<◌, ◌++◌, [], ◌∷◌, length, slice_index_or, slice_set, IfOk, OnOk, OnErr};
 
 use crate::NoMemory;

@@ -20,7 +20,7 @@ use ffi3_machine_transfer::own_word;
 use ffi3_place::{Abi, Loc, Piece, Pieces, Place, Res};
 use ffi3_types::CheckedType;
 
-// Which byte of another place byte `k` of a place is, if it is one.
+/// Which byte of another place byte `k` of a place is, if it is one.
 fn byte_number(at: Loc, k: u64, other: Loc) -> Option<u64>
     requires { k < 8 }
     ensures { result ≡ byte_number at k other }
@@ -44,7 +44,7 @@ fn byte_number(at: Loc, k: u64, other: Loc) -> Option<u64>
     }
 }
 
-// Whether a leaf has the byte at an offset.
+/// Whether a leaf has the byte at an offset.
 fn is_leaf_byte(ty: &CheckedType<'_>, offset: u64) -> bool
     ensures { result ≡ is_leaf_byte ty.now offset }
 {
@@ -59,7 +59,7 @@ fn is_leaf_byte(ty: &CheckedType<'_>, offset: u64) -> bool
     false
 }
 
-// Whether byte `k` of a place is a leaf's, by way of the piece.
+/// Whether byte `k` of a place is a leaf's, by way of the piece.
 fn piece_has(at: Loc, k: u64, piece: &Piece, ty: &CheckedType<'_>) -> bool
     requires { k < 8 }
     ensures { result ≡ piece_has ty.now at k piece.now }
@@ -70,7 +70,7 @@ fn piece_has(at: Loc, k: u64, piece: &Piece, ty: &CheckedType<'_>) -> bool
     }
 }
 
-// Whether it is of an address.
+/// Whether it is of an address.
 fn address_has(at: Loc, k: u64, address: Loc) -> bool
     requires { k < 8 }
     ensures { result ≡ address_has at k address }
@@ -81,7 +81,7 @@ fn address_has(at: Loc, k: u64, address: Loc) -> bool
     }
 }
 
-// Whether it is a leaf's of a copy.
+/// Whether it is a leaf's of a copy.
 fn copy_has(at: Loc, k: u64, copy: u32, ty: &CheckedType<'_>) -> bool
     requires { k < 8 }
     ensures { result ≡ copy_has ty.now at k copy }
@@ -92,7 +92,7 @@ fn copy_has(at: Loc, k: u64, copy: u32, ty: &CheckedType<'_>) -> bool
     }
 }
 
-// Whether it is a leaf's, by way of one of the pieces.
+/// Whether it is a leaf's, by way of one of the pieces.
 fn pieces_have(at: Loc, k: u64, pieces: &Pieces, ty: &CheckedType<'_>) -> bool
     requires { k < 8 }
     ensures { result ≡ list_any (piece_has ty.now at k) pieces.now }
@@ -105,7 +105,7 @@ fn pieces_have(at: Loc, k: u64, pieces: &Pieces, ty: &CheckedType<'_>) -> bool
     false
 }
 
-// Whether it carries something of the argument.
+/// Whether it carries something of the argument.
 fn place_has(at: Loc, k: u64, place: &Place, ty: &CheckedType<'_>) -> bool
     requires { k < 8 }
     ensures { result ≡ place_has ty.now at k place.now }
@@ -117,7 +117,7 @@ fn place_has(at: Loc, k: u64, place: &Place, ty: &CheckedType<'_>) -> bool
     }
 }
 
-// Whether it is of a hidden result's address.
+/// Whether it is of a hidden result's address.
 fn hidden_has(at: Loc, k: u64, res: &Res) -> bool
     requires { k < 8 }
     ensures { result ≡ hidden_has at k res.now }
@@ -129,7 +129,7 @@ fn hidden_has(at: Loc, k: u64, res: &Res) -> bool
     }
 }
 
-// Whether byte `k` of a place carries something.
+/// Whether byte `k` of a place carries something.
 fn carries<A: Abi>(cif: &Cif<A>, at: Loc, k: u64) -> bool
     requires { k < 8 }
     ensures { result ≡ carries A.standard cif.now at k }
@@ -147,7 +147,7 @@ fn carries<A: Abi>(cif: &Cif<A>, at: Loc, k: u64) -> bool
     false
 }
 
-// The word of a register, each byte overwritten that carries nothing.
+/// The word of a register, each byte overwritten that carries nothing.
 fn poisoned<A: Abi>(cif: &Cif<A>, at: Loc, word: u64, byte: u8) -> u64
     ensures bytes { (k : ℕ) → k < 8 → get_or (to_le_bytes w64 result) k 0 ≡ (if carries A.standard cif.now at k then get_or (to_le_bytes w64 word) k 0 else byte) }
     ensures whole { ((k : ℕ) → k < 8 → carries A.standard cif.now at k ≡ true) → result ≡ word }
@@ -161,7 +161,7 @@ fn poisoned<A: Abi>(cif: &Cif<A>, at: Loc, word: u64, byte: u8) -> u64
     u64::from_le_bytes(bytes)
 }
 
-// Overwrites what carries nothing of an argument register.
+/// Overwrites what carries nothing of an argument register.
 fn poison_register<A: Abi>(machine: &mut Machine, cif: &Cif<A>, base: StackBase, at: Loc, byte: u8)
     requires register { IsPlace 0 at }
     requires writable { IsWritable machine.old.target at }
@@ -172,7 +172,7 @@ fn poison_register<A: Abi>(machine: &mut Machine, cif: &Cif<A>, base: StackBase,
     set_register(machine, at, word);
 }
 
-// Overwrites what carries nothing of each argument register.
+/// Overwrites what carries nothing of each argument register.
 fn poison_registers<A: Abi>(machine: &mut Machine, cif: &Cif<A>, base: StackBase, byte: u8)
     requires { machine.old.target ≡ A.TARGET }
     ensures { AreRegistersDone A.standard cif.now base byte (length A.standard.argument_registers) machine.old machine.new }
@@ -183,7 +183,7 @@ fn poison_registers<A: Abi>(machine: &mut Machine, cif: &Cif<A>, base: StackBase
     }
 }
 
-// Overwrites what carries nothing of the frame.
+/// Overwrites what carries nothing of the frame.
 fn poison_frame<A: Abi>(machine: &mut Machine, cif: &Cif<A>, base: StackBase, byte: u8)
     requires { base + frame_of A.standard cif.now ≤ STACK_TOP }
     ensures { IsFrameDone A.standard cif.now base byte (frame_of A.standard cif.now) machine.old machine.new }

@@ -1,4 +1,4 @@
-// Interfaces of each target.
+//! Interfaces of each target.
 ghost use Rattle.std.specs.Prelude.{◌≡◌, IfOk};
 ghost use Rattle.ffi3_type_spec.specs.declared.Target.TheVariants as to;
 ghost use Rattle.ffi3_type_spec.specs.Signature.{SignatureIsPlaced};

@@ -96,7 +96,7 @@ pub struct CallSizes {
     pub frame: usize,
 }
 
-// Those of one standard's.
+/// Those of one standard's.
 fn sizes_by<A: Abi>(placed: &Placed<A>) -> CallSizes
     ensures { result ≡ sizes_of A.standard placed.now }
 {

@@ -1,4 +1,4 @@
-// What the places of every call keep, for callers to cite.
+//! What the places of every call keep, for callers to cite.
 ghost use Rattle.ffi3_place_spec.specs.Alike.{GoesByLayout, PlacesArraysAsElements};
 ghost use Rattle.ffi3_riscv_spec.specs.Riscv.{riscv};
 ghost use Rattle.ffi3_riscv_spec.specs.Ends.{IsPlacedByEnds};

@@ -1,5 +1,5 @@
 -- A call that is served: it is accepted and its run begins; and the outermost activation returns, out of it or as main.
-use Rattle.std.proofs.Common.{◌≡◌, ℕ, ◌+◌, ◌-◌, ◌<◌, ◌≤◌, ◌⊎◌, inl, inr, List, [], ◌∷◌, ◌++◌, length, Some, refl, sym, ap, ◌∙◌, subst, arith, append-nil, suc, true, take, get_or, None, append_assoc}
+use Rattle.std.proofs.Common.{◌≡◌, ℕ, ◌+◌, ◌-◌, ◌<◌, ◌≤◌, ◌⊎◌, inl, inr, List, [], ◌∷◌, ◌++◌, length, Some, refl, sym, ap, ◌∙◌, subst, arith, append-nil, suc, true, get_or, None, append_assoc}
 use Rattle.std.specs.List.{AllByRecursion}
 use Rattle.std.specs.Prelude.{Bool, true, false, nat_lt}
 use Rattle.std.proofs.lemmas.Bool.{lt-ltb, le-ltb, cases_lt}
@@ -44,7 +44,7 @@ use Rattle.ffi3_run_state.specs.Accepted.{WasInterruptedAtEntry}
 use Rattle.ffi3_run_state.specs.TraceLines.{last_event, entry_lines, return_lines}
 use Rattle.ffi3_io_spec.specs.Written.{LineInterrupted, TookText}
 use Rattle.ffi3_run_state.proofs.Telling.{last_is, return_lines_are}
-use Rattle.ffi3_run_state.specs.Served.{ShowsCall, served_leaves, served_tracing, served_activation, served_base, served_beginning, served_left, KeepsFrame, KeepsCallers, HasServed, HasLeft}
+use Rattle.ffi3_run_state.specs.Served.{ShowsCall, served_leaves, served_tracing, served_activation, served_base, served_beginning, served_left, KeepsFrame, HasServed, HasLeft}
 use Rattle.ffi3_run_state.proofs.Opened.{same_then_held, in_callee}
 use Rattle.ffi3_type_spec.specs.Tree.{Tree, void}
 use Rattle.ffi3_type_spec.specs.Layout.{size_of}

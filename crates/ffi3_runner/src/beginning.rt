@@ -23,7 +23,7 @@ use ffi3_run_state::{Activation, Configuration, Who};
 use ffi3_values::Values;
 
 impl<'a, A: Abi> Prepared<'a, A> {
-    // Puts main's activation on the configuration, before its first move.
+    /// Puts main's activation on the configuration, before its first move.
     pub(crate) fn start(&self, configuration: &mut Configuration<Standing>)
         requires prepared { IsPrepared A.standard self.now.script.now (handed title meaning signatures self.now.natives.now.items) self.now.cifs }
         requires new { IsNew configuration.old }
@@ -43,7 +43,7 @@ impl<'a, A: Abi> Prepared<'a, A> {
         });
     }
 
-    // Runs main to its end, on a machine as it begins.
+    /// Runs main to its end, on a machine as it begins.
     pub(crate) fn run_main<O: Sink>(
         &self,
         configuration: &mut Configuration<Standing>,

@@ -37,7 +37,7 @@ use ffi3_types::NoMemory;
 use ffi3_values::Values;
 
 impl<'a, A: Abi> Prepared<'a, A> {
-    // The move that the innermost activation asks for.
+    /// The move that the innermost activation asks for.
     pub(crate) fn asked(
         &self,
         configuration: &Configuration<Standing>,
@@ -82,7 +82,7 @@ impl<'a, A: Abi> Prepared<'a, A> {
         }
     }
 
-    // Calls a closure, or stops the run there.
+    /// Calls a closure, or stops the run there.
     pub(crate) fn call<O: Sink>(
         &self,
         configuration: &mut Configuration<Standing>,

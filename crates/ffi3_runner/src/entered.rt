@@ -18,8 +18,8 @@ use ffi3_place::Abi;
 use ffi3_run_state::Configuration;
 
 impl<'a, A: Abi> Prepared<'a, A> {
-    // Accepts the call that the machine shows, and does moves until its activation has left. With
-    // `trace` its entry is told first.
+    /// Accepts the call that the machine shows, and does moves until its activation has left. With
+    /// `trace` its entry is told first.
     pub(crate) fn serve<O: Sink>(
         &self,
         configuration: &mut Configuration<Standing>,

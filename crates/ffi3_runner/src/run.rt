@@ -35,7 +35,7 @@ pub enum RunEnd {
 }
 
 impl RunEnd {
-    // What a run came to that was interrupted.
+    /// What a run came to that was interrupted.
     pub(crate) fn cut_off(why: IoError) -> RunEnd
         ensures { result ≡ end_of why }
     {
@@ -47,7 +47,7 @@ impl RunEnd {
 }
 
 impl<'a, A: Abi> Prepared<'a, A> {
-    // Does moves until the run ends.
+    /// Does moves until the run ends.
     pub(crate) fn run_on<O: Sink>(
         &self,
         configuration: &mut Configuration<Standing>,

@@ -46,8 +46,8 @@ impl<'a, A: Abi> Prepared<'a, A> {
         self.one_move(configuration, machine, output, trace)
     }
 
-    // The move, where the run stands for this output. It is counted, and none is asked for where
-    // none is left. Where the run is traced, an entry or a return is told.
+    /// The move, where the run stands for this output. It is counted, and none is asked for where
+    /// none is left. Where the run is traced, an entry or a return is told.
     fn one_move<O: Sink>(
         &self,
         configuration: &mut Configuration<Standing>,

@@ -35,7 +35,7 @@ impl Model for Again {
     ghost invariant = { λ a. a.sigs ≡ again_signature ∷ [] };
 }
 
-// sint64(pointer,sint64)
+/// sint64(pointer,sint64)
 fn again_sig(alloc: Global) -> Result<Sig, NoMemory>
     ensures { IfOk result (λ s. s ≡ again_signature) }
 {
@@ -56,7 +56,7 @@ impl Again {
     }
 }
 
-// One sint64 and a number.
+/// One sint64 and a number.
 fn plus(alloc: Global, value: &Value, n: i128) -> Result<Value, NoMemory>
     requires { fits (scalar s64) (value_of value.now) ≡ true }
     ensures is { IfOk result (λ v. value_of v ≡ plus (value_of value.now) n) }
@@ -66,7 +66,7 @@ fn plus(alloc: Global, value: &Value, n: i128) -> Result<Value, NoMemory>
     add(alloc, &FfiType::S64, value, &other)
 }
 
-// The call of argument 0 with itself and one less than argument 1.
+/// The call of argument 0 with itself and one less than argument 1.
 fn once_less(alloc: Global, seen: &Seen) -> Result<Move, NoMemory>
     requires { seen.now.signature ≡ again_signature }
     ensures is { IfOk result (λ m. move_of m ≡ once_less (arguments_of seen.now)) }

@@ -28,7 +28,7 @@ impl Model for DropSelf {
     ghost invariant = { λ a. a.sigs ≡ drop_signature ∷ [] };
 }
 
-// sint64(pointer)
+/// sint64(pointer)
 fn drop_sig(alloc: Global) -> Result<Sig, NoMemory>
     ensures { IfOk result (λ s. s ≡ drop_signature) }
 {

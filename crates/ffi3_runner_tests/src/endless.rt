@@ -8,7 +8,7 @@ use ffi3_values::integer;
 use std::alloc::Global;
 use std::marker::Model;
 
-// void(), alone
+/// void(), alone
 fn nothing_sigs(alloc: Global) -> Result<Sigs, NoMemory>
     ensures { IfOk result (λ a. a ≡ nothing_signature ∷ []) }
 {

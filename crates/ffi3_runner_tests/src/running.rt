@@ -24,12 +24,12 @@ pub struct Ran {
     pub machine: Machine,
 }
 
-// A box is called here, so that its callers' proofs speak of the box itself.
+/// A box is called here, so that its callers' proofs speak of the box itself.
 fn name_of(native: &Box<dyn Native>) -> &str {
     native.name()
 }
 
-// The names of the natives, in their order.
+/// The names of the natives, in their order.
 fn names_of(alloc: Global, natives: &Vec<Box<dyn Native>>) -> Result<Names, NoMemory> {
     let mut names = Names::new(alloc);
     for i in 0..natives.len() {
@@ -58,7 +58,7 @@ pub fn read_beside(
     script
 }
 
-// Runs a script from this machine, which begins. Tells the end, and how many moves are left.
+/// Runs a script from this machine, which begins. Tells the end, and how many moves are left.
 fn run<A: Abi>(
     alloc: Global,
     machine: &mut Machine,

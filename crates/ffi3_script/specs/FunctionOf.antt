@@ -1,4 +1,4 @@
--- Which functions and which script those of the code are.
+-- The functions and the script that the Rust ones stand for.
 use Rattle.std.specs.Prelude.{◌≡◌, ℕ, List, map, string_bytes}
 use Rattle.ffi3_type_spec.specs.Signature.{Signature}
 use Rattle.ffi3_script_spec.specs.Script as script

@@ -1,4 +1,4 @@
--- Which kind of moves one of the code is.
+-- The kind of moves that each Rust one stands for.
 use Rattle.ffi3_script_spec.specs.Bodies as bodies
 use Rattle.ffi3_script.specs.declared.acts.Kind.{Kind}
 use Rattle.ffi3_script.specs.declared.acts.Kind.TheVariants.{Call, Make, Free, Print, Return}

@@ -1,4 +1,4 @@
--- Which move it is that does a thing under a condition.
+-- The move that does a thing under a condition.
 use Rattle.std.specs.Prelude.{Option, option_map, string_bytes}
 use Rattle.ffi3_script_spec.specs.Script.{Typed, ScriptMove}
 use Rattle.ffi3_script_body.specs.ExprOf.{act_of}

@@ -1,4 +1,4 @@
--- Which type a value has of its own, and which typed value one of the code is.
+-- The type that a value has of its own, and the typed value that a Rust one stands for.
 use Rattle.std.specs.Prelude.{ℕ, Option, option_and_then, slice_get}
 use Rattle.ffi3_type_spec.specs.Tree.{Tree}
 use Rattle.ffi3_types.specs.TreeOf.{tree_of}

@@ -1,4 +1,4 @@
--- Which headings, functions and script those of the code are.
+-- The headings, functions and script that the Rust ones stand for.
 use Rattle.std.specs.Prelude.{◌≡◌, ℕ, List, map, string_bytes, codes}
 use Rattle.serde_json.specs.Data.{Data, Items}
 use Rattle.ffi3_semantics_spec.specs.Move.{no_signature}

@@ -1,4 +1,4 @@
--- Which scope and surroundings of a script those of the code are.
+-- The scope and surroundings of a script that the Rust ones stand for.
 use Rattle.std.specs.Prelude.{◌≡◌, ℕ, List, [], ◌∷◌, Option, length}
 use Rattle.ffi3_type_spec.specs.Tree.{Tree}
 use Rattle.ffi3_type_spec.specs.Signature.{Signature}

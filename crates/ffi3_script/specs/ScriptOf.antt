@@ -1,4 +1,4 @@
--- Which script one of the code is.
+-- The script that each Rust one stands for.
 use Rattle.std.specs.Prelude.{ℕ, [], slice_index_or, Option, option_map, slice_get}
 use Rattle.ffi3_script_spec.specs.Script.{ScriptFunction, Script as RulesScript}
 use Rattle.ffi3_script_body.specs.declared.body.ScriptBody.{ScriptBody}

@@ -1,4 +1,4 @@
-// Moves, by their kind.
+//! Moves, by their kind.
 ghost use Rattle.std.specs.Prelude.{◌≡◌, ◌<◌, ◌^◌, ◌∷◌, [], IfOk, IfErr, OnOk, None};
 ghost use Rattle.std.specs.Prelude.{true, false, length, map, codes, option_map};
 ghost use Rattle.serde_json.specs.Find.{get};
@@ -35,7 +35,7 @@ pub(crate) enum Kind {
     Return,
 }
 
-// The kind of the move that a value is: where it has the keys of several, the first of them.
+/// The kind of the move that a value is: where it has the keys of several, the first of them.
 fn kind_of(value: &Node) -> Option<Kind>
     ensures { option_map kind_from result ≡ kind_of value.now }
 {
@@ -57,7 +57,7 @@ fn kind_of(value: &Node) -> Option<Kind>
     None
 }
 
-// The keys of a call.
+/// The keys of a call.
 fn call_keys() -> [Key<'static>; 5]
     ensures { map key_of result ≡ keys_of (kind_from Kind.Call) }
 {
@@ -70,7 +70,7 @@ fn call_keys() -> [Key<'static>; 5]
     ]
 }
 
-// The keys of a move that makes a closure.
+/// The keys of a move that makes a closure.
 fn make_keys() -> [Key<'static>; 4]
     ensures { map key_of result ≡ keys_of (kind_from Kind.Make) }
 {
@@ -82,7 +82,7 @@ fn make_keys() -> [Key<'static>; 4]
     ]
 }
 
-// The keys of a move that has but one beside `when`.
+/// The keys of a move that has but one beside `when`.
 fn lone_keys<'a>(name: &'a str) -> [Key<'a>; 2]
     ensures { map key_of result
         ≡ record { name = codes "when"; optional = true } ∷ record { name = name.now; optional = false } ∷ [] }
@@ -90,7 +90,7 @@ fn lone_keys<'a>(name: &'a str) -> [Key<'a>; 2]
     [optional("when"), required(name)]
 }
 
-// Whether the value is an object with the keys of moves of a kind.
+/// Whether the value is an object with the keys of moves of a kind.
 fn check_keys(alloc: Global, kind: Kind, value: &Node, at: &JsonPath) -> Result<(), ScriptFault>
     ensures ok { OnOk result (language.check_object value.now (keys_of (kind_from kind)) at.now ≡ read tt) }
     ensures err { IfErr result
@@ -105,14 +105,14 @@ fn check_keys(alloc: Global, kind: Kind, value: &Node, at: &JsonPath) -> Result<
     }
 }
 
-// What a move does, and the name of its result.
+/// What a move does, and the name of its result.
 #[derive(Drop)]
 struct NamedAct {
     act: Act,
     name: Option<String>,
 }
 
-// A call: the pointer, the number of the signature, the arguments, the name.
+/// A call: the pointer, the number of the signature, the arguments, the name.
 fn read_call(
     alloc: Global,
     globals: &Globals,
@@ -140,7 +140,7 @@ fn read_call(
     })
 }
 
-// A move that makes a closure: the function, the user data, the name.
+/// A move that makes a closure: the function, the user data, the name.
 fn read_make(
     alloc: Global,
     globals: &Globals,
@@ -167,14 +167,14 @@ fn read_make(
     })
 }
 
-// What a move of a kind without a name does.
+/// What a move of a kind without a name does.
 fn unnamed(act: Act) -> NamedAct
     ensures { result ≡ record { act = act; name = None } }
 {
     NamedAct { act, name: None }
 }
 
-// The fields of a move of a kind, but its condition.
+/// The fields of a move of a kind, but its condition.
 fn read_act(
     alloc: Global,
     globals: &Globals,

@@ -1,4 +1,4 @@
-// Arrays: the items of one under a key, and those of an array of two.
+//! Arrays: the items of one under a key, and those of an array of two.
 ghost use Rattle.std.specs.Prelude.{◌≡◌, ℕ, ◌≤◌, IfOk, IfErr};
 ghost use Rattle.serde_json.specs.Events.{items_len};
 ghost use Rattle.ffi3_script_spec.specs.Language as language;

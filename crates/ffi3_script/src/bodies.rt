@@ -1,4 +1,4 @@
-// Bodies: arrays of moves.
+//! Bodies: arrays of moves.
 ghost use Rattle.std.specs.Prelude.{◌≡◌, ◌+◌, ◌<◌, ◌^◌, ◌++◌, ◌∷◌, [], IfOk};
 ghost use Rattle.std.specs.Prelude.{IfErr, OnOk, length, option_map, string_bytes};
 ghost use Rattle.ffi3_types.specs.TreeOf.{tree_of};
@@ -20,7 +20,7 @@ use ffi3_json::{JsonPath, Node, Nodes, Reason, ScriptFault, bad};
 use ffi3_types::{FfiType, Fields, Sig, Sigs};
 use std::alloc::Global;
 
-// The type of the result of what a move does; a return has none.
+/// The type of the result of what a move does; a return has none.
 fn result_type(alloc: Global, sigs: &Sigs, act: &Act) -> Result<FfiType, NoMemory>
     requires { CallsWithin (length sigs.now) act.now }
     ensures { IfOk result (λ t. tree_of t ≡ type_of_act sigs.now (act_of act.now)) }
@@ -35,7 +35,7 @@ fn result_type(alloc: Global, sigs: &Sigs, act: &Act) -> Result<FfiType, NoMemor
     }
 }
 
-// One more name, or a thing without one.
+/// One more name, or a thing without one.
 fn push_name(alloc: Global, names: &mut NameIndex, name: &Option<String>) -> Result<(), NoMemory>
     ensures { OnOk result (names.new ≡ names.old ++ option_map string_bytes name.now ∷ []) }
 {
@@ -45,7 +45,7 @@ fn push_name(alloc: Global, names: &mut NameIndex, name: &Option<String>) -> Res
     }
 }
 
-// One more move, with the name and type of its result.
+/// One more move, with the name and type of its result.
 fn push_move(
     alloc: Global,
     sigs: &Sigs,
@@ -68,8 +68,8 @@ fn push_move(
     Ok(())
 }
 
-// The move that the value at a place is, in a body of this signature, after moves whose results have these names and
-// types.
+/// The move that the value at a place is, in a body of this signature, after moves whose results have these names and
+/// types.
 fn read_next(
     alloc: Global,
     globals: &Globals,
@@ -98,7 +98,7 @@ fn read_next(
     read_move(alloc, globals, &scope, value, at)
 }
 
-// The moves that the items of an array are, in a body of this signature.
+/// The moves that the items of an array are, in a body of this signature.
 fn read_moves(
     alloc: Global,
     globals: &Globals,
@@ -131,7 +131,7 @@ fn read_moves(
     Ok(moves)
 }
 
-// Whether what a move does is to return.
+/// Whether what a move does is to return.
 fn is_return(act: &Act) -> bool
     ensures { result ≡ is_return (act_of act.now) }
 {
@@ -145,14 +145,14 @@ fn is_return(act: &Act) -> bool
     }
 }
 
-// Whether a move is a return without condition.
+/// Whether a move is a return without condition.
 fn always_returns(one: &ScriptMove) -> bool
     ensures { result ≡ always_returns (script_move_of one.now) }
 {
     one.condition.is_none() && is_return(&one.act)
 }
 
-// Whether the last of the moves is one.
+/// Whether the last of the moves is one.
 fn ends(moves: &[ScriptMove]) -> bool
     ensures { result ≡ ends (script_moves_of moves.now) }
 {

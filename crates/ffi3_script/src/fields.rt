@@ -1,4 +1,4 @@
-// The fields of moves.
+//! The fields of moves.
 ghost use Rattle.std.specs.Prelude.{◌≡◌, ℕ, IfOk, IfErr, codes, string_bytes, option_map};
 ghost use Rattle.serde_json.specs.Find.{get};
 ghost use Rattle.ffi3_types.specs.TreeOf.{tree_of};

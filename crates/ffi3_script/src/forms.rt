@@ -1,4 +1,4 @@
-// Forms of values, each named by its key.
+//! Forms of values, each named by its key.
 ghost use Rattle.std.specs.Prelude.{◌≡◌};
 ghost use Rattle.ffi3_script_spec.specs.Values.{form_named};
 ghost use Rattle.ffi3_script.specs.Shapes.{is_untyped, form_of};

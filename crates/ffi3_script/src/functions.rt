@@ -1,4 +1,4 @@
-// The functions of a script, read twice: first the names and signatures of all, and then their bodies.
+//! The functions of a script, read twice: first the names and signatures of all, and then their bodies.
 ghost use Rattle.std.specs.Prelude.{◌≡◌, ◌<◌, ◌^◌, ◌++◌, ◌∷◌, [], All, IfOk, IfErr, OnOk, length, map, codes};
 ghost use Rattle.std.specs.Prelude.{string_bytes};
 ghost use Rattle.serde_json.specs.Events.{items_len};
@@ -38,14 +38,14 @@ pub(crate) struct Headings {
     pub(crate) list: Vec<Heading>,
 }
 
-// The keys of a function.
+/// The keys of a function.
 fn function_keys() -> [Key<'static>; 3]
     ensures { map key_of result ≡ function_keys }
 {
     [required("name"), required("sig"), required("body")]
 }
 
-// The name of a function, which no earlier one has.
+/// The name of a function, which no earlier one has.
 fn read_function_name(
     alloc: Global,
     earlier: &FunctionNames,
@@ -66,7 +66,7 @@ fn read_function_name(
     new_name(alloc, earlier.index(), &named, &place)
 }
 
-// The heading of the function that the value at a place is, after functions of these names.
+/// The heading of the function that the value at a place is, after functions of these names.
 fn read_heading(
     alloc: Global,
     sigs: &Sigs,
@@ -85,7 +85,7 @@ fn read_heading(
     Ok(Heading { name, sig })
 }
 
-// One more heading, with its name.
+/// One more heading, with its name.
 fn push_heading(
     alloc: Global,
     heading: Heading,
@@ -132,7 +132,7 @@ pub(crate) struct FunctionPart {
     pub(crate) moves: Vec<ScriptMove>,
 }
 
-// The function of this heading that the value at a place is.
+/// The function of this heading that the value at a place is.
 fn read_part(
     alloc: Global,
     globals: &Globals,

@@ -1,4 +1,4 @@
-// The script that the bench runs.
+//! The script that the bench runs.
 ghost use Rattle.std.specs.Prelude.{◌≡◌, ◌<◌, ◌≤◌, ◌+◌, ◌++◌, ◌∷◌, [], All, IfOk, length, map, codes};
 ghost use Rattle.ffi3_type_spec.specs.declared.limits.TheConstants.{MOST_CALLS};
 ghost use Rattle.ffi3_script_spec.specs.Made.{made, made_function};
@@ -13,7 +13,7 @@ use crate::{NoMemory, Script};
 use ffi3_bench_script::{Draws, Shapes};
 use std::alloc::Global;
 
-// Function `s`, which has this name.
+/// Function `s`, which has this name.
 fn made_function(
     alloc: Global,
     shapes: &Shapes,
@@ -33,7 +33,7 @@ fn made_function(
     })
 }
 
-// The four functions.
+/// The four functions.
 fn made_functions(alloc: Global, shapes: &Shapes) -> Result<Vec<FunctionPart>, NoMemory>
     ensures are { IfOk result (λ fs. map part_of fs.items ≡ made_function (types_in shapes.now) 0
         ∷ made_function (types_in shapes.now) 1 ∷ made_function (types_in shapes.now) 2

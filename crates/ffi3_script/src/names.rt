@@ -1,4 +1,4 @@
-// Tables of names: names by number, and numbers by name.
+//! Tables of names: names by number, and numbers by name.
 ghost use Rattle.std.specs.Prelude.{◌≡◌, ℕ, ◌+◌, ◌<◌, ◌^◌, ◌++◌, ◌∷◌, [], List, OnOk, OnErr, length, map};
 ghost use Rattle.std.specs.Prelude.{slice_get, Some, None, position, bytes_eq, string_bytes};
 ghost use Rattle.std.specs.BTreeMap.{get_by_text};
@@ -125,7 +125,7 @@ impl NameIndex {
     }
 }
 
-// Gives a name this number, where it has none yet.
+/// Gives a name this number, where it has none yet.
 fn number_name(
     numbers: &mut BTreeMap<String, usize>,
     alloc: Global,

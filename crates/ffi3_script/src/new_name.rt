@@ -1,4 +1,4 @@
-// Reading a name: whether a text may be one, and whether it is new.
+//! Reading a name: whether a text may be one, and whether it is new.
 ghost use Rattle.std.specs.Prelude.{◌≡◌, IfOk, IfErr, string_bytes};
 ghost use Rattle.std.specs.List.{list_all};
 ghost use Rattle.serde_json.specs.Find.{as_str};
@@ -12,14 +12,14 @@ use crate::names::NameIndex;
 use ffi3_json::{JsonPath, Node, Reason, ScriptFault, bad};
 use std::alloc::Global;
 
-// Whether a byte is an ASCII letter, a digit or `_`.
+/// Whether a byte is an ASCII letter, a digit or `_`.
 fn is_name_byte(byte: u8) -> bool
     ensures { result ≡ is_name_byte byte }
 {
     byte.is_ascii_alphanumeric() || byte == b'_'
 }
 
-// Whether each byte is one of those.
+/// Whether each byte is one of those.
 fn has_name_bytes(bytes: &[u8]) -> bool
     ensures { result ≡ list_all is_name_byte bytes.now }
 {
@@ -31,7 +31,7 @@ fn has_name_bytes(bytes: &[u8]) -> bool
     true
 }
 
-// Whether a text is 1 to 32 such bytes.
+/// Whether a text is 1 to 32 such bytes.
 fn is_name(name: &str) -> bool
     ensures { result ≡ is_name name.now }
 {

@@ -1,4 +1,4 @@
-// The types of values that have a type of their own, while the values are read.
+//! The types of values that have a type of their own, while the values are read.
 ghost use Rattle.std.specs.Prelude.{◌≡◌, ◌<◌, ◌^◌, IfOk, IfSome, option_map};
 ghost use Rattle.ffi3_types.specs.TreeOf.{tree_of};
 ghost use Rattle.ffi3_script_body.specs.ExprOf.{typed_of};
@@ -24,7 +24,7 @@ pub(crate) struct TypedValue<'t> {
     pub(crate) value: Expr,
 }
 
-// The type of an element of a struct or an array, by its number.
+/// The type of an element of a struct or an array, by its number.
 fn element_at(ty: &FfiType, i: u64) -> Option<&FfiType>
     ensures value { option_map (λ t. tree_of t.now) result ≡ element_at (tree_of ty.now) i }
     ensures low { IfSome result (λ t. i < 2 ^ 32) }

@@ -1,4 +1,4 @@
-// What reading a value does besides reading the values inside it.
+//! What reading a value does besides reading the values inside it.
 ghost use Rattle.std.specs.Prelude.{◌≡◌, ◌++◌, ◌∷◌, [], IfOk, IfErr, OnOk, option_and_then, length};
 ghost use Rattle.serde_json.specs.Find.{as_number, as_u64, as_str};
 ghost use Rattle.ffi3_type_spec.specs.Integer.{scalar_of};
@@ -21,7 +21,7 @@ use ffi3_script_body::element_types;
 use ffi3_types::{FfiType, check_type, same_type};
 use std::alloc::Global;
 
-// A value on the heap.
+/// A value on the heap.
 fn boxed(alloc: Global, value: Expr) -> Result<Box<Expr>, NoMemory>
     ensures { IfOk result (λ b. b.value ≡ value) }
 {

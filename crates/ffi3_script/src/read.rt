@@ -1,4 +1,4 @@
-// Reading a script: from bytes to its parts, and from these to the script.
+//! Reading a script: from bytes to its parts, and from these to the script.
 ghost use Rattle.std.specs.Prelude.{◌≡◌, ◌+◌, ◌<◌, ◌^◌, ◌++◌, ◌∷◌, [], All, IfOk};
 ghost use Rattle.std.specs.Prelude.{IfErr, OnOk, true, length, map};
 ghost use Rattle.std.specs.List.{list_all};
@@ -57,7 +57,7 @@ pub(crate) fn script_of(alloc: Global, parts: Parts, natives: u32) -> Result<Scr
     Ok(Script::new(version, sigs, functions, main, natives))
 }
 
-// The functions of these parts, in a script with these signatures and so many functions, natives too.
+/// The functions of these parts, in a script with these signatures and so many functions, natives too.
 fn functions_of(
     alloc: Global,
     sigs: &Rc<Sigs>,
@@ -79,7 +79,7 @@ fn functions_of(
     Ok(functions)
 }
 
-// The function of this part.
+/// The function of this part.
 fn function_of(sigs: &Rc<Sigs>, count: u32, part: FunctionPart) -> Result<ScriptFunction, NoMemory>
     requires few { length part.moves.items < 2 ^ 31 }
     requires typed { function_is_typed sigs.now.value count (part_of part) ≡ true }
@@ -92,7 +92,7 @@ fn function_of(sigs: &Rc<Sigs>, count: u32, part: FunctionPart) -> Result<Script
     Ok(ScriptFunction { name, sig, body })
 }
 
-// One more function.
+/// One more function.
 fn push_function(
     functions: &mut Vec<ScriptFunction>,
     function: ScriptFunction,

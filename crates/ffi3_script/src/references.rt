@@ -1,4 +1,4 @@
-// References: to a signature by its number, and to a function by its name.
+//! References: to a signature by its number, and to a function by its name.
 ghost use Rattle.std.specs.Prelude.{◌≡◌, ◌<◌, ◌^◌, IfOk, IfErr, length, codes};
 ghost use Rattle.serde_json.specs.Find.{as_str};
 ghost use Rattle.ffi3_script_spec.specs.Language as language;

@@ -1,4 +1,4 @@
-// The object that a script is: its version, its signatures, its functions and main, in this order.
+//! The object that a script is: its version, its signatures, its functions and main, in this order.
 ghost use Rattle.std.specs.Prelude.{◌≡◌, ◌+◌, ◌<◌, ◌≤◌, ◌^◌, ◌++◌, [], All, IfOk, IfErr};
 ghost use Rattle.std.specs.Prelude.{OnOk, length, map};
 ghost use Rattle.serde_json.specs.Events.{items_len};
@@ -19,8 +19,8 @@ use crate::names::FunctionNames;
 use crate::scope::Globals;
 use crate::{Names, NoMemory, ScriptMove};
 use ffi3_json::{
-    JsonPath, Key, Node, Nodes, Reason, ScriptFault, Where, bad, check_object_at,
-    read_signature_at, read_version, required,
+    JsonPath, Key, Node, Nodes, ScriptFault, Where, check_object_at, read_signature_at,
+    read_version, required,
 };
 use ffi3_types::{FfiType, Fields, Sig, Sigs};
 use std::alloc::Global;
@@ -34,14 +34,14 @@ pub(crate) struct Parts {
     pub(crate) main: Vec<ScriptMove>,
 }
 
-// The functions, and the moves of main.
+/// The functions, and the moves of main.
 #[derive(Drop)]
 struct AllBodies {
     functions: Vec<FunctionPart>,
     main: Vec<ScriptMove>,
 }
 
-// The keys of a script.
+/// The keys of a script.
 fn script_keys() -> [Key<'static>; 4]
     ensures { map key_of result ≡ script_keys }
 {
@@ -53,7 +53,7 @@ fn script_keys() -> [Key<'static>; 4]
     ]
 }
 
-// Whether the value is an object with these keys.
+/// Whether the value is an object with these keys.
 fn check_keys(alloc: Global, value: &Node, at: &JsonPath) -> Result<(), ScriptFault>
     ensures ok { OnOk result (language.check_object value.now script_keys at.now ≡ read tt) }
     ensures err { IfErr result
@@ -62,7 +62,7 @@ fn check_keys(alloc: Global, value: &Node, at: &JsonPath) -> Result<(), ScriptFa
     check_object_at(alloc, value, &script_keys(), at)
 }
 
-// The signatures that the items of an array are.
+/// The signatures that the items of an array are.
 fn read_signatures(
     alloc: Global,
     items: &Nodes,
@@ -80,7 +80,7 @@ fn read_signatures(
     Ok(sigs)
 }
 
-// The names of the natives, after those of the functions.
+/// The names of the natives, after those of the functions.
 fn push_natives(alloc: Global, names: &mut FunctionNames, natives: &Names) -> Result<(), NoMemory>
     ensures { OnOk result (names.new ≡ names.old ++ natives.now) }
 {
@@ -90,7 +90,7 @@ fn push_natives(alloc: Global, names: &mut FunctionNames, natives: &Names) -> Re
     Ok(())
 }
 
-// The bodies of these functions, and then main.
+/// The bodies of these functions, and then main.
 fn read_all_bodies(
     alloc: Global,
     globals: &Globals,
@@ -115,7 +115,7 @@ fn read_all_bodies(
     Ok(AllBodies { functions, main })
 }
 
-// The bodies and main, beside these natives.
+/// The bodies and main, beside these natives.
 fn read_rest(
     alloc: Global,
     natives: &Names,

@@ -1,4 +1,4 @@
-// What a value of a body may speak of.
+//! What a value of a body may speak of.
 
 use crate::names::{FunctionNames, NameIndex};
 use ffi3_types::{Fields, Sig, Sigs};

@@ -1,4 +1,4 @@
-// A script once it is read.
+//! A script once it is read.
 ghost use Rattle.std.specs.Prelude.{◌≡◌, ◌<◌, ◌+◌, ◌^◌, length, true, All};
 ghost use Rattle.std.specs.List.{list_all};
 ghost use Rattle.ffi3_type_spec.specs.Signature.{signature_at};

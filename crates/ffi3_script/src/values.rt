@@ -1,4 +1,4 @@
-// Values of a script, as they are read.
+//! Values of a script, as they are read.
 ghost use Rattle.std.specs.Prelude.{◌≡◌, IfOk, IfErr, length};
 ghost use Rattle.serde_json.specs.Events.{items_len};
 ghost use Rattle.ffi3_types.specs.TreeOf.{tree_of};
@@ -92,7 +92,7 @@ pub(crate) fn read_values(
     Ok(values)
 }
 
-// An object against a type, by the form that its one key names.
+/// An object against a type, by the form that its one key names.
 #[cycle(values)]
 fn read_form(
     alloc: Global,
@@ -135,7 +135,7 @@ fn read_form(
     }
 }
 
-// The two values of a sum or difference of a type, which is looked at before them.
+/// The two values of a sum or difference of a type, which is looked at before them.
 #[cycle(values)]
 fn read_terms(
     alloc: Global,
@@ -189,7 +189,7 @@ pub(crate) fn read_typed<'t>(
     }
 }
 
-// The value of a form that has a type of its own.
+/// The value of a form that has a type of its own.
 #[cycle(values)]
 fn read_own<'t>(
     alloc: Global,
@@ -216,7 +216,7 @@ fn read_own<'t>(
     }
 }
 
-// An array of two: the value of a struct or an array, with a type of its own, and the number of an element.
+/// An array of two: the value of a struct or an array, with a type of its own, and the number of an element.
 #[cycle(values)]
 fn read_field<'t>(
     alloc: Global,
@@ -240,7 +240,7 @@ fn read_field<'t>(
     field_of(alloc, value, &number, &first, at)
 }
 
-// An array of a type, and a value against it.
+/// An array of a type, and a value against it.
 #[cycle(values)]
 fn read_of<'t>(
     alloc: Global,

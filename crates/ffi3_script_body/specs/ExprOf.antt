@@ -1,4 +1,4 @@
--- Which value and move of a script one of the code is.
+-- The value and move of a script that the Rust ones stand for.
 use Rattle.std.specs.Prelude.{List, map, option_map, string_bytes}
 use Rattle.ffi3_type_spec.specs.Integer.{scalar_of}
 use Rattle.ffi3_types.specs.TreeOf.{tree_of}

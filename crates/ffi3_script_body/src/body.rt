@@ -1,4 +1,4 @@
-// A body of a script: the moves of a function, or of main.
+//! A body of a script: the moves of a function, or of main.
 ghost use Rattle.std.specs.Prelude.{◌≡◌, ◌<◌, ◌≤◌, ◌^◌, length, take, true};
 ghost use Rattle.std.specs.List.{list_all};
 ghost use Rattle.ffi3_script_spec.specs.Typed.{body_is_typed, signature_is_right};
@@ -51,7 +51,7 @@ pub struct ScriptBody {
     ghost always_done: { list_all is_unconditional (take always moves.items) ≡ true },
 }
 
-// How many moves at the start have no condition.
+/// How many moves at the start have no condition.
 fn unconditional(moves: &[ScriptMove]) -> u32
     requires { length moves.now < 2 ^ 31 }
     ensures within { result ≤ length moves.now }
@@ -159,8 +159,8 @@ impl ScriptBody {
         }
     }
 
-    // Passes the moves that are always done and whose results are there, if none after those is
-    // passed.
+    /// Passes the moves that are always done and whose results are there, if none after those is
+    /// passed.
     fn skip(&self, cursor: &mut Cursor, seen: &Seen)
         requires own { seen.now.signature ≡ signature_of self.now }
         requires follow { ResultsFollow (signatures_of self.now) (meaning_of self.now) (arguments_of seen.now) seen.now.user seen.now.results }
@@ -177,7 +177,7 @@ impl ScriptBody {
         }
     }
 
-    // The move at which the cursor stands.
+    /// The move at which the cursor stands.
     fn move_at(&self, cursor: &Cursor) -> &ScriptMove
         requires { passed cursor.now < length self.now.moves.items }
         ensures { result.now ≡ get_or self.now.moves.items (passed cursor.now) result.now }
@@ -185,7 +185,7 @@ impl ScriptBody {
         &self.moves[cursor.first as usize + cursor.marks.len()]
     }
 
-    // What is known where the cursor stands.
+    /// What is known where the cursor stands.
     fn known_at<'a, 'b, 'c>(&'a self, cursor: &'b Cursor, seen: &'b Seen<'c>) -> Known<'a, 'b, 'c>
         requires { Agrees self.now seen.now cursor.now }
         ensures kinds { kinds_of result ≡ kinds_at self.now seen.now cursor.now }
@@ -197,7 +197,7 @@ impl ScriptBody {
         Known::new(&self.sigs, done, later, cursor.marks.as_slice(), seen)
     }
 
-    // One move: it is the next one, where it is done and has no result yet; or else it is passed.
+    /// One move: it is the next one, where it is done and has no result yet; or else it is passed.
     fn step(
         &self,
         alloc: Global,

@@ -1,4 +1,4 @@
-// Where a body stands.
+//! Where a body stands.
 
 /// Where a body stands in an activation: which of its moves it has passed, and which results these
 /// took. It holds no value.

@@ -1,4 +1,4 @@
-// Addresses and conditions of a body's moves.
+//! Addresses and conditions of a body's moves.
 ghost use Rattle.std.specs.Prelude.{◌≡◌, true, IfOk, option_map};
 ghost use Rattle.ffi3_type_spec.specs.Tree.{scalar, pointer};
 ghost use Rattle.ffi3_script_spec.specs.Meaning as meaning;

@@ -1,4 +1,4 @@
-// The values that a body computes.
+//! The values that a body computes.
 ghost use Rattle.std.specs.Prelude.{◌≡◌, true, IfOk};
 ghost use Rattle.ffi3_type_spec.specs.Tree.{scalar, trees_of};
 ghost use Rattle.ffi3_type_spec.specs.Integer.{scalar_of};

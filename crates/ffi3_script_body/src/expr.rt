@@ -1,4 +1,4 @@
-// Values of a script, as bodies compute them, and the types of the elements of one.
+//! Values of a script, as bodies compute them, and the types of the elements of one.
 ghost use Rattle.std.specs.Prelude.{◌≡◌};
 ghost use Rattle.ffi3_types.specs.TreeOf.{tree_of};
 ghost use Rattle.ffi3_script_body.specs.ListTypes.{element_types};

@@ -1,4 +1,4 @@
-// What a body knows at one of its moves.
+//! What a body knows at one of its moves.
 ghost use Rattle.std.specs.Prelude.{◌≡◌, length, true, map};
 ghost use Rattle.std.specs.List.{list_all};
 ghost use Rattle.ffi3_type_spec.specs.Tree.{trees_of};
@@ -92,7 +92,7 @@ impl<'a, 'b, 'c> Known<'a, 'b, 'c> {
         self.seen.user()
     }
 
-    // What became of move `i`.
+    /// What became of move `i`.
     fn past(&self, i: u32) -> Outcome<'a>
         requires { i < length (kinds_of self.now).outcomes }
         ensures there { is_there (length self.now.sigs.now) (length self.now.seen.now.results) (past_of result) ≡ true }

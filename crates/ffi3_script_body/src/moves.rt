@@ -1,4 +1,4 @@
-// The moves of a script's bodies.
+//! The moves of a script's bodies.
 
 use crate::Expr;
 use ffi3_types::FfiType;

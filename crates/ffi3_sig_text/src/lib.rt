@@ -31,7 +31,7 @@ pub fn text_laws()
     ensures { (s : Signature) → SignatureHasNoFault s → told_signature s ≡ signature_text s }
 {}
 
-// The arguments' texts at the end of a text.
+/// The arguments' texts at the end of a text.
 fn write_arguments(
     alloc: Global,
     args: &Fields,
@@ -51,7 +51,7 @@ fn write_arguments(
     }
 }
 
-// The type's text at the end of a text.
+/// The type's text at the end of a text.
 #[cycle(write_type)]
 fn write_type(alloc: Global, ty: &FfiType, text: &mut Bytes) -> Result<(), NoMemory>
     ensures { OnOk result (text.new ≡ text.old ++ told_text (tree_of ty.now)) }
@@ -86,7 +86,7 @@ fn write_type(alloc: Global, ty: &FfiType, text: &mut Bytes) -> Result<(), NoMem
     text.extend(name.as_bytes())
 }
 
-// The texts of all types at the end of a text.
+/// The texts of all types at the end of a text.
 #[cycle(write_type)]
 fn write_all(alloc: Global, types: &Fields, text: &mut Bytes) -> Result<(), NoMemory>
     ensures { OnOk result (text.new ≡ text.old ++ told_list types.now) }
@@ -94,7 +94,7 @@ fn write_all(alloc: Global, types: &Fields, text: &mut Bytes) -> Result<(), NoMe
     write_range(alloc, types, 0, types.len(), text)
 }
 
-// The text of an array of `count` elements of the first type at the end of a text.
+/// The text of an array of `count` elements of the first type at the end of a text.
 #[cycle(write_type)]
 fn write_array(alloc: Global, types: &Fields, count: u32, text: &mut Bytes) -> Result<(), NoMemory>
     ensures { OnOk result (text.new ≡ text.old ++ told_text (array (trees_of types.now) count)) }
@@ -103,7 +103,7 @@ fn write_array(alloc: Global, types: &Fields, count: u32, text: &mut Bytes) -> R
     text.extend(format!(in alloc; "[{count}]")?.as_bytes())
 }
 
-// The text of the first type, if there is one, at the end of a text.
+/// The text of the first type, if there is one, at the end of a text.
 #[cycle(write_type)]
 fn write_first(alloc: Global, types: &Fields, text: &mut Bytes) -> Result<(), NoMemory>
     ensures { OnOk result
@@ -115,7 +115,7 @@ fn write_first(alloc: Global, types: &Fields, text: &mut Bytes) -> Result<(), No
     write_type(alloc, types.get(0), text)
 }
 
-// The texts of the types from number `from` up to `to` at the end of a text.
+/// The texts of the types from number `from` up to `to` at the end of a text.
 #[cycle(write_type)]
 fn write_range(
     alloc: Global,

@@ -6,7 +6,7 @@ use Rattle.ffi3_type_spec.specs.Value.{ValueTree, void_value}
 use Rattle.ffi3_semantics_spec.specs.declared.Stop.{Stop}
 use Rattle.ffi3_semantics_spec.specs.declared.Stop.TheVariants.{MoveLimit}
 use Rattle.ffi3_semantics_spec.specs.Closures.{Closures, no_closures}
-use Rattle.ffi3_semantics_spec.specs.Meaning.{Program, Activation, Acts, Effect, ends, stops, prints, goes_on, enters, End, returned, stopped, Outcome, follows, resumed, stops_with, after, line, with_result, effect_of, next_move, act, act_within, main_call, most_moves, meaning_of, need_at}
+use Rattle.ffi3_semantics_spec.specs.Meaning.{Program, Activation, Acts, Effect, ends, stops, prints, goes_on, enters, End, returned, stopped, Outcome, follows, resumed, stops_with, with_result, effect_of, next_move, act, act_within, main_call, most_moves, meaning_of, need_at}
 use Rattle.ffi3_semantics_spec.specs.Peak.{peak_of}
 use Rattle.ffi3_semantics_spec.specs.Trace.{TraceItem, Enter, Line, Leave, written_out, trace_of}
 use Rattle.ffi3_small_step_spec.specs.Depth.{depth_after, deepest}

@@ -2,7 +2,7 @@
 use Rattle.std.proofs.Common.{◌≡◌, ◌≢◌, ℕ, ◌+◌, ◌-◌, ◌/◌, ◌%◌, ◌<◌, ◌≤◌, Bool, true, false, if◌then◌else◌, List, ◌++◌, length, refl, sym, ap, ◌∙◌, arith, Some, None, ℤ, pos, negsuc}
 use Rattle.std.proofs.lemmas.Bool.Decides.{nat_tests}
 use Rattle.std.proofs.lemmas.Nat.{from_le_bytes-to_le_bytes_4}
-use Rattle.std.specs.Prelude.{option_map, slice_index, nat_lt, ◌==◌, ◌||◌}
+use Rattle.std.specs.Prelude.{option_map, slice_index, nat_lt, ◌==◌}
 use Rattle.std.specs.Int.{w32, byte_at, from_le_bytes, to_le_bytes}
 use Rattle.ffi3_isa.specs.declared.Instr.TheVariants.{Lea, CallMem, Ret}
 use Rattle.ffi3_isa.specs.Fields.{sign_extend}

@@ -24,7 +24,7 @@ ghost use Rattle.ffi3_stubs.specs.Calls.{
 use ffi3_machine::{ENTRY, Machine, RETURN, STACK, STACK_TOP, Stub};
 use ffi3_type_spec::Isa;
 
-// How many instructions Call does.
+/// How many instructions Call does.
 fn call_steps(isa: Isa) -> u8
     ensures { result ≡ steps_of isa Call }
 {
@@ -35,7 +35,7 @@ fn call_steps(isa: Isa) -> u8
     }
 }
 
-// How many instructions Entry does.
+/// How many instructions Entry does.
 fn entry_steps(isa: Isa) -> u8
     ensures { result ≡ steps_of isa Entry }
 {
@@ -46,7 +46,7 @@ fn entry_steps(isa: Isa) -> u8
     }
 }
 
-// How many instructions Exit does.
+/// How many instructions Exit does.
 fn exit_steps(isa: Isa) -> u8
     ensures { result ≡ steps_of isa Exit }
 {
@@ -57,7 +57,7 @@ fn exit_steps(isa: Isa) -> u8
     }
 }
 
-// How many instructions Return does.
+/// How many instructions Return does.
 fn return_steps(isa: Isa) -> u8
     ensures { result ≡ steps_of isa Return }
 {
@@ -68,7 +68,7 @@ fn return_steps(isa: Isa) -> u8
     }
 }
 
-// Does so many steps, which are known to lead somewhere.
+/// Does so many steps, which are known to lead somewhere.
 fn run_steps(machine: &mut Machine, n: u8)
     requires way { (after : State) × TakesSteps n machine.old after }
     ensures only { (after : State) → TakesSteps n machine.old after → machine.new ≡ after }

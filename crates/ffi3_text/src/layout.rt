@@ -1,4 +1,4 @@
-// Lines of layout.
+//! Lines of layout.
 ghost use Rattle.std.specs.Prelude.{◌≡◌, ◌<◌, ◌++◌, IfOk, OnOk, length};
 ghost use Rattle.ffi3_type_spec.specs.Fault.{IsLaidOut};
 ghost use Rattle.ffi3_type_spec.specs.Signature.{SignatureHasNoFault, at_result, at_argument};

@@ -1,4 +1,4 @@
-// The text of a place: a register's name, or its offset on the stack.
+//! The text of a place: a register's name, or its offset on the stack.
 ghost use Rattle.std.specs.Prelude.{◌≡◌, ◌++◌, OnOk};
 ghost use Rattle.ffi3_type_spec.specs.declared.Isa.TheVariants.{Amd64};
 ghost use Rattle.ffi3_text_spec.specs.Registers.{general_text, floating_text, loc_name};

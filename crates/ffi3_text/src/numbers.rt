@@ -1,4 +1,4 @@
-// Numbers in a text.
+//! Numbers in a text.
 ghost use Rattle.std.specs.Prelude.{◌≡◌, ◌++◌, OnOk};
 ghost use Rattle.std.specs.Fmt.{decimal};
 

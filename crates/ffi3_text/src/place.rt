@@ -1,4 +1,4 @@
-// Lines of place.
+//! Lines of place.
 ghost use Rattle.std.specs.Prelude.{◌≡◌, ◌+◌, ◌<◌, ◌≤◌, ◌^◌, ◌++◌, IfOk, OnOk, length};
 ghost use Rattle.std.specs.Fmt.{decimal};
 ghost use Rattle.ffi3_type_spec.specs.Signature.{at_result, at_argument};
@@ -18,7 +18,7 @@ use ffi3_types::{At, Bytes, NoMemory};
 use itoa::Buffer;
 use std::alloc::Global;
 
-// Most lines fit, so that no text grows.
+/// Most lines fit, so that no text grows.
 const LINE_ROOM: usize = 64;
 
 /// The bytes of stack that a call takes, as `sig 0 need 80 frame 0 block 16` with a newline; where the standard has a

@@ -1,4 +1,4 @@
-// Lines of a trace.
+//! Lines of a trace.
 ghost use Rattle.std.specs.Prelude.{◌≡◌, ℕ, ◌%◌, ◌++◌, List, IfOk, OnOk, codes, map, true, false};
 ghost use Rattle.std.specs.Fmt.{digit_glyph};
 ghost use Rattle.std.specs.List.{concat, join_with_byte};
@@ -19,10 +19,10 @@ use ffi3_types::{Bytes, FfiType, Fields, NoMemory};
 use ffi3_values::{Value, Values, value_text};
 use std::alloc::Global;
 
-// Most lines of an entry or a return fit, so that none grows piece by piece.
+/// Most lines of an entry or a return fit, so that none grows piece by piece.
 const LINE_ROOM: usize = 96;
 
-// The line of the registers that a standard has preserved fits: it has at most 24 of them.
+/// The line of the registers that a standard has preserved fits: it has at most 24 of them.
 const KEEP_ROOM: usize = 448;
 
 /// The line of an entry, as `enter 0x10000 sp 0x7ffefff8 (20,-7)` with a newline: the closure's

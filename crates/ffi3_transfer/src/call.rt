@@ -1,4 +1,4 @@
-// Registers and stack of a call, as values are stored to them and read from them.
+//! Registers and stack of a call, as values are stored to them and read from them.
 ghost use Rattle.std.specs.Prelude.{◌≡◌, ℕ, ◌<◌, ◌++◌, ⊤, List, get_or, length, refl};
 ghost use Rattle.std.proofs.Common.{◌∙◌};
 ghost use Rattle.ffi3_marshal.specs.Stored.{with_floating, with_general};
@@ -21,7 +21,7 @@ pub(crate) struct Call<'a> {
     pub(crate) stack: &'a mut [u8],
 }
 
-// What general register `k` holds.
+/// What general register `k` holds.
 fn general_of(registers: &Registers, k: u8) -> u64
     requires { k < 32 }
     ensures { result ≡ get_or registers.now.general k 0 }
@@ -29,7 +29,7 @@ fn general_of(registers: &Registers, k: u8) -> u64
     registers.general[k as usize]
 }
 
-// What word `k` of the floating file holds: those of all registers, and behind them the upper halves.
+/// What word `k` of the floating file holds: those of all registers, and behind them the upper halves.
 fn floating_of(registers: &Registers, k: u8) -> u64
     requires { k < floating_words }
     ensures { result ≡ get_or (registers.now.floating ++ registers.now.upper) k 0 }
@@ -41,7 +41,7 @@ fn floating_of(registers: &Registers, k: u8) -> u64
     }
 }
 
-// Sets general register `k`.
+/// Sets general register `k`.
 fn put_general(registers: &mut Registers, k: u8, value: u64)
     requires { k < 32 }
     ensures set { (stack : List ℕ) → image_in registers.new stack ≡ with_general k value (image_in registers.old stack) }
@@ -50,7 +50,7 @@ fn put_general(registers: &mut Registers, k: u8, value: u64)
     registers.general[k as usize] = value;
 }
 
-// Sets word `k` of the floating file.
+/// Sets word `k` of the floating file.
 fn put_floating(registers: &mut Registers, k: u8, value: u64)
     requires { k < floating_words }
     ensures set { (stack : List ℕ) → image_in registers.new stack ≡ with_floating k value (image_in registers.old stack) }

@@ -1,4 +1,4 @@
-// The arguments of a call, as its callee finds them.
+//! The arguments of a call, as its callee finds them.
 ghost use Rattle.std.specs.Prelude.{◌≡◌, ◌≤◌, length, None, IfErr, OnErr, OnOk};
 ghost use Rattle.ffi3_type_spec.specs.Layout.{size_of};
 ghost use Rattle.ffi3_type_spec.specs.Value.{value_in};
@@ -99,7 +99,7 @@ pub fn read_argument(
     }
 }
 
-// The bytes of an argument, with padding of 0 in and behind it.
+/// The bytes of an argument, with padding of 0 in and behind it.
 fn collect_argument(
     registers: &Registers,
     stack: &[u8],
@@ -121,7 +121,7 @@ fn collect_argument(
     clear_padding(ty, out);
 }
 
-// The bytes of all arguments, where no address points outside.
+/// The bytes of all arguments, where no address points outside.
 fn collect_arguments<A: Abi>(
     placed: &Placed<A>,
     registers: &Registers,

@@ -1,4 +1,4 @@
-// The result that a callee gives.
+//! The result that a callee gives.
 ghost use Rattle.std.specs.Prelude.{◌≡◌, ℕ, ◌+◌, ◌<◌, ◌≤◌, ◌⊎◌, ◌^◌, length, get_or, IfErr, OnErr, OnOk};
 ghost use Rattle.std.specs.List.{AllByRecursion};
 ghost use Rattle.ffi3_type_spec.specs.Value.{part};
@@ -36,7 +36,7 @@ pub fn offset_in(registers: &Registers, stack: &[u8], address: u64, size: u64) -
     Some(offset as usize)
 }
 
-// Where the place of a hidden result's address ends on the stack, and 0 where it is a register.
+/// Where the place of a hidden result's address ends on the stack, and 0 where it is a register.
 fn hidden_end(res: &Res) -> u64
     ensures value { result ≡ stack_end (hidden_locs res.now) }
     ensures small { result < 2 ^ 33 }
@@ -50,7 +50,7 @@ fn hidden_end(res: &Res) -> u64
     }
 }
 
-// Writes bytes into the stack.
+/// Writes bytes into the stack.
 fn write_at(stack: &mut [u8], from: usize, bytes: &[u8])
     requires { from + length bytes.now ≤ length stack.old }
     ensures there { part stack.new from (length bytes.now) ≡ bytes.now }
@@ -60,7 +60,7 @@ fn write_at(stack: &mut [u8], from: usize, bytes: &[u8])
     stack[from..from + bytes.len()].copy_from_slice(bytes);
 }
 
-// Tells the buffer's address in the standard's register for it, if it has one.
+/// Tells the buffer's address in the standard's register for it, if it has one.
 fn tell_address(
     registers: &mut Registers,
     stack: &mut [u8],

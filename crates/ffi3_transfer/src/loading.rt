@@ -1,4 +1,4 @@
-// The result of a call, as its caller finds it.
+//! The result of a call, as its caller finds it.
 ghost use Rattle.std.specs.Prelude.{◌≡◌, IfErr, OnErr, OnOk};
 ghost use Rattle.ffi3_transfer.specs.Stored.{image_in};
 ghost use Rattle.ffi3_transfer.specs.Calls.{IsLoaded, IsNotLoaded};

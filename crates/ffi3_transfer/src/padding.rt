@@ -1,11 +1,11 @@
-// The bytes of a value that lie in none of its leaves.
+//! The bytes of a value that lie in none of its leaves.
 ghost use Rattle.std.specs.Prelude.{◌≡◌, ℕ, ◌<◌, ◌≤◌, ◌⊎◌, get_or, length};
 ghost use Rattle.ffi3_type_spec.specs.Layout.{size_of};
 ghost use Rattle.ffi3_transfer.specs.Packed.{IsCleared};
 
 use ffi3_types::CheckedType;
 
-// Zeros from an offset up to another.
+/// Zeros from an offset up to another.
 fn clear(out: &mut [u8], from: usize, to: usize)
     requires order { from ≤ to }
     requires within { to ≤ length out.old }

@@ -1,4 +1,4 @@
-// Bytes and words at places of registers and stack.
+//! Bytes and words at places of registers and stack.
 ghost use Rattle.std.specs.Prelude.{◌≡◌, ◌-◌, ◌≤◌, length};
 ghost use Rattle.ffi3_type_spec.specs.Layout.{size_of};
 ghost use Rattle.ffi3_place_spec.specs.Sound.{IsPieceOf, IsWhole, IsWithin, place_size};

@@ -1,4 +1,4 @@
-// Bytes that stand at places, read from registers and stack.
+//! Bytes that stand at places, read from registers and stack.
 ghost use Rattle.std.specs.Prelude.{◌≡◌, length};
 ghost use Rattle.std.specs.List.{AllByRecursion};
 ghost use Rattle.ffi3_place_spec.specs.Image.{word_at};

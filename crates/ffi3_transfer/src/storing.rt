@@ -1,4 +1,4 @@
-// Values at their places: what a caller stores for its callee.
+//! Values at their places: what a caller stores for its callee.
 ghost use Rattle.std.specs.Prelude.{◌≡◌, ◌+◌, ◌-◌, ◌^◌, ◌<◌, ◌≤◌, length, IfErr, OnErr, OnOk};
 ghost use Rattle.std.specs.List.{AllByRecursion};
 ghost use Rattle.ffi3_type_spec.specs.Layout.{size_of};
@@ -43,7 +43,7 @@ pub(crate) fn store_pieces(
     ffi3_marshal::store_pieces(&mut call, base, pieces, ty, bytes);
 }
 
-// Stores an argument at its place.
+/// Stores an argument at its place.
 fn store_place(
     registers: &mut Registers,
     stack: &mut [u8],
@@ -66,7 +66,7 @@ fn store_place(
     ffi3_marshal::store_place(&mut call, base, place, ty, bytes);
 }
 
-// Stores all arguments.
+/// Stores all arguments.
 fn store_arguments<A: Abi>(
     placed: &Placed<A>,
     values: &[u8],
@@ -100,7 +100,7 @@ fn store_arguments<A: Abi>(
     }
 }
 
-// Stores the address of a hidden result's buffer.
+/// Stores the address of a hidden result's buffer.
 fn store_hidden(registers: &mut Registers, stack: &mut [u8], base: u64, res: &Res)
     requires base { base ≤ length stack.old }
     requires there { HiddenIsThere (image_in registers.old stack.old) base res.now }
@@ -112,7 +112,7 @@ fn store_hidden(registers: &mut Registers, stack: &mut [u8], base: u64, res: &Re
     ffi3_marshal::store_hidden(&mut call, base, res);
 }
 
-// Tells how many vector registers the arguments use, where a register tells it.
+/// Tells how many vector registers the arguments use, where a register tells it.
 fn store_count(
     registers: &mut Registers,
     stack: &mut [u8],

@@ -1,4 +1,4 @@
-// The limits of the library and the addresses of its modelled machine, each in this one place.
+//! The limits of the library and the addresses of its modelled machine, each in this one place.
 
 /// The most arguments of a signature.
 pub const MOST_ARGUMENTS: u64 = 64;

@@ -1,4 +1,4 @@
--- Which fault, at which path, an error of the code tells.
+-- The fault, and its path, that a Rust error tells.
 use Rattle.std.specs.Prelude.{ℕ, List}
 use Rattle.ffi3_type_spec.specs.Fault.{Fault, bad_typedef, left_out_type, too_large, too_deep}
 use Rattle.ffi3_types.specs.TreeOf.{tree_of}

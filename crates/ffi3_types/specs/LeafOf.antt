@@ -1,4 +1,4 @@
--- Which leaf of the definitions a leaf of the code is.
+-- The leaf that each Rust leaf stands for.
 use Rattle.std.specs.Prelude.{◌≡◌, ℕ, List, slice_index_or, refl}
 use Rattle.std.specs.Coded.{Coded, code_by, coded×, coded_list, coded_ℕ}
 use Rattle.ffi3_type_spec.specs.Tree.{Tree, scalar, u8, tree_code}

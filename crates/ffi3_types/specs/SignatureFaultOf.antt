@@ -1,4 +1,4 @@
--- Which fault of a signature an error of the code tells.
+-- The fault of a signature that a Rust error tells.
 use Rattle.ffi3_type_spec.specs.Signature.{Position, at_result, at_argument, SignatureFault, too_many, bad_type}
 use Rattle.ffi3_type_spec.specs.Signature.{bad_fixed, bad_argument_type}
 use Rattle.ffi3_types.specs.FaultOf.{path_of, fault_of}

@@ -1,4 +1,4 @@
--- Which tree a type of the code is.
+-- The tree that each Rust type stands for.
 use Rattle.ffi3_type_spec.specs.Tree.{Tree, void, scalar, left_out, struct_of, u8, s8, u16, s16, u32, s32, u64, s64}
 use Rattle.ffi3_type_spec.specs.Tree.{u128, s128, float, double, pointer, long_double, complex, vector, array}
 use Rattle.ffi3_type_spec.specs.Tree.{trees_of, x87, binary128}

@@ -1,4 +1,4 @@
-// Bytes of a leaf or a text.
+//! Bytes of a leaf or a text.
 ghost use Rattle.std.specs.Prelude.{◌≡◌, ◌++◌, ◌∷◌, [], ◌<◌, IfOk, OnOk, OnErr, length, slice_index};
 
 use crate::NoMemory;

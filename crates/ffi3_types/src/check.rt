@@ -1,4 +1,4 @@
-// The first fault of a type.
+//! The first fault of a type.
 ghost use Rattle.std.specs.Prelude.{◌≡◌, ◌+◌, ◌<◌, ◌≤◌, length, true, false, OnOk, IfOk, IfErr};
 ghost use Rattle.ffi3_type_spec.specs.declared.limits.TheConstants.{DEEPEST_NESTING};
 ghost use Rattle.ffi3_type_spec.specs.Tree.{struct_of, array, trees_of};

@@ -1,4 +1,5 @@
-// Types and signatures that are known to have no fault: what is known of them is an invariant, and no caller repeats it.
+//! Types and signatures that are known to have no fault: what is known of them is an invariant, and no caller repeats
+//! it.
 ghost use Rattle.std.specs.Prelude.{◌≡◌, ◌<◌, ◌≤◌, length, IfOk, IfErr, OnOk};
 ghost use Rattle.ffi3_type_spec.specs.declared.limits.TheConstants.{LARGEST_TYPE, MOST_ARGUMENTS};
 ghost use Rattle.ffi3_type_spec.specs.Tree.{tree_at, scalar};

@@ -1,4 +1,4 @@
-// What kind of scalar a type is.
+//! What kind of scalar a type is.
 ghost use Rattle.std.specs.Prelude.{◌≡◌};
 ghost use Rattle.ffi3_type_spec.specs.Integer.{is_integer_type, is_number_type, is_floating_type};
 ghost use Rattle.ffi3_types.specs.TreeOf.{tree_of};

@@ -1,4 +1,4 @@
-// What every layout keeps, for callers to cite.
+//! What every layout keeps, for callers to cite.
 ghost use Rattle.ffi3_type_spec.specs.LayoutLaws.{IsWellLaidOut, ArrayIsStruct, ArrayIsItsElements};
 ghost use Rattle.ffi3_types.specs.TreeOf.{tree_of};
 

@@ -1,4 +1,4 @@
-// Size, alignment and the elements' offsets.
+//! Size, alignment and the elements' offsets.
 ghost use Rattle.std.specs.Prelude.{◌≡◌, ◌+◌, ◌<◌, ◌≤◌, All, length};
 ghost use Rattle.ffi3_type_spec.specs.Tree.{struct_of, array, tree_at, trees_of, elements_of};
 ghost use Rattle.ffi3_type_spec.specs.Layout.{size_of, align_of, offset_of, layouts, end_before, align_before};

@@ -1,4 +1,4 @@
-// The scalars of a type, one of them or all.
+//! The scalars of a type, one of them or all.
 ghost use Rattle.std.specs.Prelude.{◌≡◌, ◌<◌, ◌≤◌, ◌+◌, ◌++◌, ◌∷◌, [], IfOk, OnOk, length, map};
 ghost use Rattle.ffi3_type_spec.specs.declared.limits.TheConstants.{LARGEST_TYPE};
 ghost use Rattle.ffi3_type_spec.specs.Tree.{struct_of, array, trees_of, scalar};

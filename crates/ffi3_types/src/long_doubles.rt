@@ -1,4 +1,4 @@
-// Long doubles of 16 bytes, which can be placed and are no part of a call on the machine.
+//! Long doubles of 16 bytes, which can be placed and are no part of a call on the machine.
 ghost use Rattle.std.specs.Prelude.{◌≡◌};
 ghost use Rattle.ffi3_type_spec.specs.Tree.{trees_of, is_complex};
 ghost use Rattle.ffi3_type_spec.specs.Layout.{has_long_double, have_long_double};

@@ -1,4 +1,4 @@
-// The elements of a struct or an array, one after another.
+//! The elements of a struct or an array, one after another.
 ghost use Rattle.std.specs.Prelude.{◌≡◌, ◌<◌, ◌≤◌, ◌^◌, length, replicate};
 ghost use Rattle.ffi3_type_spec.specs.Tree.{tree_at, trees_of, nodes, all_nodes};
 ghost use Rattle.ffi3_types.specs.TreeOf.{tree_of};

@@ -1,4 +1,4 @@
-// The words for types.
+//! The words for types.
 ghost use Rattle.std.specs.Prelude.{◌≡◌, Some, option_map};
 ghost use Rattle.ffi3_type_spec.specs.Names.{type_named, type_beside, type_names};
 ghost use Rattle.ffi3_types.specs.TreeOf.{tree_of};

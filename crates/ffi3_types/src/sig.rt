@@ -1,4 +1,4 @@
-// Signatures and their first fault.
+//! Signatures and their first fault.
 ghost use Rattle.std.specs.Prelude.{◌≡◌, ◌<◌, ◌↔◌, length, IsTrue, IfOk, OnOk, IfErr, Some};
 ghost use Rattle.ffi3_type_spec.specs.Tree.{tree_at};
 ghost use Rattle.ffi3_type_spec.specs.Signature.{SignatureHasNoFault, IsFirstSignatureFault, is_promoted};

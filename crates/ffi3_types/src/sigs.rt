@@ -1,4 +1,4 @@
-// Lists of signatures.
+//! Lists of signatures.
 ghost use Rattle.std.specs.Prelude.{◌≡◌, ◌+◌, ◌<◌, ◌^◌, ◌++◌, ◌∷◌, [], length, OnErr, OnOk};
 ghost use Rattle.ffi3_type_spec.specs.Signature.{signature_at};
 

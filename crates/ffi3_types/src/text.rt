@@ -1,4 +1,4 @@
-// Types and signatures as text.
+//! Types and signatures as text.
 ghost use Rattle.std.specs.Prelude.{◌≡◌, ◌++◌, ◌≤◌, [], OnOk, IfOk, length, slice_index_or, slice_range};
 ghost use Rattle.ffi3_type_spec.specs.Tree.{array, trees_of};
 ghost use Rattle.ffi3_type_spec.specs.Text.{text_of, texts_of, list_text, arguments_text, signature_text};

@@ -1,4 +1,4 @@
--- Which value a value of the code is.
+-- The value that each Rust value stands for.
 use Rattle.ffi3_type_spec.specs.Value.{ValueTree, void_value, leaf_value, struct_value, values_of}
 use Rattle.ffi3_values.specs.declared.Value.{Value}
 use Rattle.ffi3_values.specs.declared.Value.TheVariants.{Void, Leaf, List as Elements}

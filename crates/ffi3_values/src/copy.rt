@@ -1,4 +1,4 @@
-// Copies of values.
+//! Copies of values.
 ghost use Rattle.std.specs.Prelude.{◌≡◌, IfOk};
 
 use crate::{Bytes, NoMemory, Value, Values};

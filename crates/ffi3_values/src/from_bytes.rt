@@ -1,4 +1,4 @@
-// Values of bytes, and what bytes of one value have in common.
+//! Values of bytes, and what bytes of one value have in common.
 ghost use Rattle.std.specs.Prelude.{◌≡◌, ℕ, List, IfOk, length, true};
 ghost use Rattle.ffi3_type_spec.specs.Tree.{Tree, trees_of, struct_of};
 ghost use Rattle.ffi3_type_spec.specs.Layout.{layouts, size_of};

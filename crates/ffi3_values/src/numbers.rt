@@ -1,4 +1,4 @@
-// The numbers of integers and pointers.
+//! The numbers of integers and pointers.
 ghost use Rattle.std.specs.Prelude.{◌≡◌, ◌%◌, ◌^◌, ◌<◌, ◌≤◌, ◌↔◌, IfOk, length, true, pos, negsuc, ◌-◌, ◌-ℤ◌, ◌≤ℤ◌, ◌<ℤ◌};
 ghost use Rattle.std.specs.Int.{w16, w32, w64, w128, to_le_bytes, from_le_bytes};
 ghost use Rattle.ffi3_type_spec.specs.Integer.{is_number_type, scalar_of, number_of, bytes_of_number, sum_of, widened, widened_from_32, width_of, bit_count, modulo};

@@ -1,4 +1,4 @@
-// Which values fit a type.
+//! Which values fit a type.
 ghost use Rattle.std.specs.Prelude.{◌≡◌};
 ghost use Rattle.ffi3_type_spec.specs.Tree.{trees_of};
 ghost use Rattle.ffi3_type_spec.specs.Value.{values_of, fits, all_fit, is_leaf_of};

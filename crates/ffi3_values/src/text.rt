@@ -1,4 +1,4 @@
-// Values as text.
+//! Values as text.
 ghost use Rattle.std.specs.Prelude.{◌≡◌, ◌++◌, ◌<◌, OnOk, IfOk, true};
 ghost use Rattle.std.specs.List.{join_with_byte};
 ghost use Rattle.ffi3_type_spec.specs.Tree.{trees_of};

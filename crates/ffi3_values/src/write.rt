@@ -1,4 +1,4 @@
-// The bytes of values.
+//! The bytes of values.
 ghost use Rattle.std.specs.Prelude.{◌≡◌, length, true};
 ghost use Rattle.ffi3_type_spec.specs.Tree.{trees_of, struct_of};
 ghost use Rattle.ffi3_type_spec.specs.Layout.{size_of};

@@ -1,4 +1,4 @@
-use Rattle.std.proofs.Common.{◌≡◌, ◌∙◌, ap, length}
+use Rattle.std.proofs.Common.{◌∙◌, ap, length}
 use Rattle.ffi3_cdecl_spec.specs.OnePass.{new_pass}
 use Rattle.ffi3_cdecl.specs.PassOf.{pass_of, outcome_of, outcome_behind, pass_over}
 use Rattle.ffi3_cdecl.specs.TokenOf.{dialect_of, sign_of}
