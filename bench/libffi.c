@@ -1,6 +1,6 @@
 /* Nanoseconds of libffi's functions in two libraries, in turns, in one run: libffi LIBFFI OURS
  * Each number is the least of 15 turns, of the thread's own time. The last line says the largest ratio, but for the
- * first preparation of a signature.
+ * first preparation of a signature and the first offsets of a struct.
  *
  * libffi LIBRARY LINE SIGNATURE TIMES does so many times what a line tells of, for whoever counts instructions; libffi
  * alone prints the lines, each behind its number and that of its signature. */
@@ -186,20 +186,40 @@ static double of_layout(const struct library *it, const struct signature *signat
     return (now() - start) / (times / 100);
 }
 
+/* Six types of eight, a quarter of them structs: others for each number below 8^6, as the factor is odd. */
+static void draw(unsigned number, ffi_type **types)
+{
+    static ffi_type *kinds[] = {INT, LONG, DOUBLE, &ffi_type_float, &ffi_type_pointer, &ffi_type_uint8, &mixed, &pair};
+    number = number * 162019 % (1 << 18);
+    for (unsigned i = 0; i < 6; i++, number /= 8)
+        types[i] = kinds[number % 8];
+}
+
 /* The first preparation of a signature, each of another one. */
 static double of_first_prep(const struct library *it, const struct signature *signature)
 {
-    static unsigned seed;
-    static ffi_type *kinds[] = {INT, LONG, DOUBLE, &ffi_type_float, &ffi_type_pointer, &ffi_type_uint8, &mixed, &pair};
     ffi_type *arguments[6];
     ffi_cif cif;
-    unsigned from = seed;
-    double start = now();
     (void)signature;
-    for (; seed < from + times / 100; seed++) {
-        for (unsigned i = 0, n = seed; i < 6; i++, n /= 8)
-            arguments[i] = kinds[n % 8];
+    double start = now();
+    for (int k = 0; k < times / 100; k++) {
+        draw(k, arguments);
         it->prep_cif(&cif, FFI_DEFAULT_ABI, 6, INT, arguments);
+    }
+    return (now() - start) / (times / 100);
+}
+
+/* The first offsets of a struct, each of another one. */
+static double of_first_layout(const struct library *it, const struct signature *signature)
+{
+    ffi_type *elements[7] = {0};
+    size_t offsets[6];
+    (void)signature;
+    double start = now();
+    for (int k = 0; k < times / 100; k++) {
+        ffi_type type = {0, 0, FFI_TYPE_STRUCT, elements};
+        draw(k, elements);
+        it->get_struct_offsets(FFI_DEFAULT_ABI, &type, offsets);
     }
     return (now() - start) / (times / 100);
 }
@@ -217,6 +237,7 @@ static const struct line {
     {"offsets", of_layout, 1, 100, ""},
     {"alloc, prep, free", of_alloc, 1, 10, ""},
     {"first prep", of_first_prep, 1, 100, "of 6 arguments"},
+    {"first offsets", of_first_layout, 1, 100, "of 6 elements"},
 };
 #define LINES_COUNT (sizeof LINES / sizeof *LINES)
 
@@ -225,11 +246,16 @@ static const char *name_of(const struct line *line, unsigned i)
     return line->remark ? line->remark : SIGNATURES[i].name;
 }
 
-/* Both times, and their ratio. A first preparation is one only once. */
+static int is_once(const struct line *line)
+{
+    return line->of == of_first_prep || line->of == of_first_layout;
+}
+
+/* Both times, and their ratio. What is first is so only once. */
 static double compare(const struct line *line, unsigned i, const struct library *libraries)
 {
     double least[2] = {1e18, 1e18};
-    for (int turn = 0; turn < (line->of == of_first_prep ? 1 : TURNS); turn++)
+    for (int turn = 0; turn < (is_once(line) ? 1 : TURNS); turn++)
         for (int k = 0; k < 2; k++) {
             double took = line->of(&libraries[k], &SIGNATURES[i]);
             least[k] = took < least[k] ? took : least[k];
@@ -245,7 +271,7 @@ static void compare_all(const struct library *libraries)
     for (const struct line *line = LINES; line < LINES + LINES_COUNT; line++)
         for (unsigned i = 0; i < line->count; i++) {
             double ratio = compare(line, i, libraries);
-            if (ratio > largest && line->of != of_first_prep)
+            if (ratio > largest && !is_once(line))
                 largest = ratio;
         }
     printf("largest ratio %.2f\n", largest);
