@@ -82,16 +82,18 @@ static inline uint64_t member_of(const ffi_type *type)
     return size <= UINT32_MAX ? size << 16 | alignment : 0;
 }
 
-/* The nodes of a member: an array of integers of its size and alignment. */
-static bool has_put(struct ffi3_node *nodes, uint64_t member)
+/* Writes the nodes of a member, an integer of its size and alignment or an array of these; answers how many: 1 or 2, and
+ * 0 where it can't be one. */
+static size_t put(struct ffi3_node *nodes, uint64_t member)
 {
-    size_t size = member >> 16, alignment = member & 0xFFFF;
+    size_t size = member >> 16, alignment = member & 0xFFFF, written = 0;
     uint32_t unit = integer_of(alignment);
     if (unit == FFI3_STRUCT || size == 0 || size % alignment)
-        return false;
-    nodes[0] = (struct ffi3_node){FFI3_ARRAY, (uint32_t)(size / alignment)};
-    nodes[1] = (struct ffi3_node){unit, 0};
-    return true;
+        return 0;
+    if (size != alignment)
+        nodes[written++] = (struct ffi3_node){FFI3_ARRAY, (uint32_t)(size / alignment)};
+    nodes[written++] = (struct ffi3_node){unit, 0};
+    return written;
 }
 
 /* Asks for a layout that nobody has asked for, and keeps it. */
@@ -103,13 +105,17 @@ static bool has_asked(uint32_t bucket, const uint64_t *members, size_t count, st
     if (!nodes)
         return false;
     nodes[0] = (struct ffi3_node){FFI3_STRUCT, (uint32_t)count};
+    size_t length = 1;
     bool is_right = true;
-    for (size_t k = 0; k < count && is_right; k++)
-        is_right = has_put(nodes + 1 + 2 * k, members[k]);
+    for (size_t k = 0; k < count && is_right; k++) {
+        size_t written = put(nodes + length, members[k]);
+        is_right = written > 0;
+        length += written;
+    }
     if (is_right) {
         library_enter();
         (void)library_goes_on(0);
-        is_right = ffi3_offsets_nodes(nodes, 2 * count + 1, told, offsets, count) == FFI3_OK;
+        is_right = ffi3_offsets_nodes(nodes, length, told, offsets, count) == FFI3_OK;
         if (is_right)
             keep(bucket, members, count, told, offsets);
         library_leave();
