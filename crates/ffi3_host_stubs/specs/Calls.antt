@@ -9,7 +9,7 @@ use Rattle.ffi3_place_spec.specs.declared.Loc.TheVariants.{G, F, S}
 use Rattle.ffi3_place_spec.specs.MachineRegisters.{general_registers, stack_pointer, is_zero_register, pushed_bytes}
 use Rattle.ffi3_place_spec.specs.StubRegisters.{area_bytes}
 use Rattle.ffi3_place_spec.specs.StubRegisters.{call_loads, entry_stores, callee_saved_words, stub_area, result_loads, call_scratch, entry_scratch, exit_scratch}
-use Rattle.ffi3_machine_spec.specs.declared.stub.TheConstants.{AREA_AT, CALLEE_AT, CALL_SP_AT, ENTRY_SP_AT, RETURN_SP_AT}
+use Rattle.ffi3_machine_spec.specs.declared.stub.TheConstants.{AREA_AT, CALLEE_AT, CALL_SP_AT, ENTRY_SP_AT, EXCHANGE_BYTES, RETURN_SP_AT}
 use Rattle.ffi3_machine.specs.MachineStep.{IsAligned}
 use Rattle.ffi3_machine_spec.specs.Stubs.{StubName, Entry, Exit, Call, Return, exchanged_at}
 use Rattle.ffi3_stubs.specs.Calls.{is_in, steps_of, target_of}
@@ -74,14 +74,14 @@ pub record IsSource (isa : Isa) (from : ℕ) : Type 0 where
 
 -- the exchange region at x is outside the stack, or not below this sp
 abbrev pub IsRegionKept : ℕ → ℕ → Processor → Type 0
-IsRegionKept x sp s = (x + 552 ≤ s.limit) ⊎ (sp ≤ x)
+IsRegionKept x sp s = (x + EXCHANGE_BYTES ≤ s.limit) ⊎ (sp ≤ x)
 
 -- The bytes stand at pc, and the exchange region at x, outside the stack or not below sp, and in the lower half
 pub record IsAtStub (isa : Isa) (x : ℕ) (bytes : List ℕ) (s : Processor) : Type 0 where
   pub aligned : IsAligned isa s.pc
   pub code : HasCode s s.pc bytes
   pub region : IsRegionKept x s.sp s
-  pub high : x + 552 ≤ half
+  pub high : x + EXCHANGE_BYTES ≤ half
 
 -- what Entry writes besides, on AArch64 also x9, through which sp goes
 abbrev pub host_entry_scratch : Isa → List Loc

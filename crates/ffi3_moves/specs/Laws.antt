@@ -19,7 +19,7 @@ use Rattle.ffi3_transfer.specs.Calls.{IsCallStored, ResultKeeps, stored_locs}
 use Rattle.ffi3_marshal.specs.Standing.{PlacesKeep}
 use Rattle.ffi3_marshal.specs.Stored.{Stays}
 use Rattle.ffi3_transfer.specs.Packed.{values_packed}
-use Rattle.ffi3_moves.specs.Play.{frame_at, written_over}
+use Rattle.ffi3_moves.specs.Play.{addresses_at, frame_at, written_over}
 use Rattle.ffi3_moves.specs.Moves.{exchange_at}
 use Rattle.ffi3_moves.specs.Exchange.{AreBytes, image_at}
 
@@ -27,10 +27,10 @@ use Rattle.ffi3_moves.specs.Exchange.{AreBytes, image_at}
 pub record KeepsStubs (s : Signature) (locs : List Loc) (old new : List ℕ) : Type 0 where
   pub size : length new ≡ length old
   pub are : AreBytes new
-  pub stubs : HasNoLongDouble s → (k : ℕ) → 512 ≤ k → k < frame_at → get_or new k 0 ≡ get_or old k 0
+  pub stubs : HasNoLongDouble s → (k : ℕ) → addresses_at ≤ k → k < frame_at → get_or new k 0 ≡ get_or old k 0
   -- whatever the signature
   pub others :
-      (k : ℕ) → 512 ≤ k → k < frame_at → IsNoneOf locs (F ((k - 256) / 8)) → get_or new k 0 ≡ get_or old k 0
+      (k : ℕ) → addresses_at ≤ k → k < frame_at → IsNoneOf locs (F ((k - 256) / 8)) → get_or new k 0 ≡ get_or old k 0
 
 -- THE CALLER'S ARGUMENTS ARE PLAYED: the image of the exchange, which is that of the callee's entry, holds the values, and all else stays
 pub record ArePassed (std : Standard) (s : Signature) (values : List ℕ) (sp : ℕ) (link old new : List ℕ) : Type 0 where

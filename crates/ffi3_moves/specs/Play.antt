@@ -10,6 +10,10 @@ use Rattle.ffi3_moves.specs.declared.Move.{Move}
 abbrev pub frame_at : ℕ
 frame_at = 576
 
+-- where the words begin in which stubs keep addresses, or the upper halves of AArch64's v0 to v7 stand
+abbrev pub addresses_at : ℕ
+addresses_at = 512
+
 -- the number that eight bytes make, from an offset on
 abbrev pub word_from : List ℕ → ℕ → ℕ
 word_from bytes at = from_le_bytes w64 (part bytes at 8)
